@@ -6,7 +6,8 @@ DISPATCHER is a built program. Each page runs in a copy of the repository of its
 working directory, with the script at the top as `dispatcher` and the program as crates/dispatcher/out/dispatcher. Each block that is no `sh` block must
 stand, its lines in their order, in what the page's commands printed or wrote so far, or in a file that the page names; or it is
 written, where the paragraph above it names a file that is not there. A text that depends on
-how two feeds come out is tried again, up to five times. Blocks that prove or build, or that name a place to fill in, are left out.
+how two feeds come out is tried again, up to five times. Blocks that prove or build,
+that serve until somebody ends them, or that name a place to fill in, are left out.
 """
 
 import os
@@ -24,7 +25,7 @@ from here import command_line
 REPOSITORY = Path(__file__).resolve().parent.parent
 PAGES = ["README.md", "docs/OPERATING.md", "docs/TUTORIAL.md", "docs/GTFS.md", "docs/GTFS_RULES.md", "docs/REALTIME.md"]
 STARTS = {"docs/TUTORIAL.md": "crates/dispatcher"}
-LEFT_OUT = re.compile(r"\brt \w|\.ci/run|\b(FOLDER|FILE|DIR|DM_SPEED|URL)\b")
+LEFT_OUT = re.compile(r"\brt \w|\.ci/run|examples/day/play|\b(FOLDER|FILE|DIR|DM_SPEED|URL)\b")
 TRIES = 5
 SECONDS = 300
 

@@ -8,7 +8,7 @@ What is held before and after is held all the while.
 from __future__ import annotations
 
 from fractions import Fraction
-from typing import Sequence
+from typing import Iterable, Sequence
 
 from network import Network
 from railway import Decision, Rows, active_activities, with_decisions
@@ -66,6 +66,6 @@ def in_turn(network: Network, rows: Rows, decisions: Sequence[Decision]) -> list
     return drops + [decision for decision, _, _ in turns] + keeps
 
 
-def spoken(decisions: Sequence[Decision]) -> list[str]:
+def spoken(decisions: Iterable[Decision]) -> list[str]:
     """Decisions as lines of a feed."""
     return [' '.join(map(str, decision)) for decision in decisions]

@@ -18,7 +18,9 @@ from typing import Callable, Container, Iterable, Iterator, NamedTuple, Optional
 
 from files import BadFile, speak_utf8
 from markup import escaped
-from scene import CLASSES, Scene, clock_time, counted, distances, lateness_class, lines_of, links_of, read_scene, span_of_times, turned_pairs
+from scene import (
+    CLASSES, Scene, changes_of, clock_time, counted, distances, lateness_class, lines_of, links_of, read_scene, span_of_times, turned_pairs,
+)
 from words import add_run, command_line, stops_of
 
 # Colours that differ in lightness as well as in hue: on time, and the classes of lateness.
@@ -202,9 +204,22 @@ def cross(x: float, y: float) -> str:
     return f'<path class="cross" d="M{x - 4} {y - 4}l8 8m0-8l-8 8"/>'
 
 
-def link_marks(frame: Frame, scene: Scene) -> Iterator[str]:
+class Marked(NamedTuple):
+    """Where marks may lie on a line: the places of its events, and of the changes that begin or end there."""
+    places: Sequence[int]
+    changes: Sequence[int]
+
+
+def marked_on(frame: Frame, scene: Scene) -> Marked:
+    """The events of a line, and its changes."""
+    places = [place for place, event in enumerate(scene.network.events) if event.stop in frame.rows]
+    ends, network = set(places), scene.network
+    return Marked(places, [change for change in changes_of(network) if network.tails[change] in ends or network.heads[change] in ends])
+
+
+def link_marks(frame: Frame, scene: Scene, changes: Iterable[int]) -> Iterator[str]:
     """The changes that begin or end on the line: links between its trains, and stubs to others."""
-    for link in links_of(scene):
+    for link in links_of(scene, changes):
         ends = [place for place in (link.tail, link.head) if scene.stop(place) in frame.rows]
         if not ends or not all(frame.shows(scene.times[place]) for place in ends):
             continue
@@ -231,9 +246,10 @@ def pair_marks(frame: Frame, scene: Scene) -> Iterator[str]:
         yield f'<path class="turned" d="M{x} {y - 6}l6 6l-6 6l-6-6z"><title>order of {ids} turned</title></path>'
 
 
-def passed_marks(frame: Frame, scene: Scene) -> Iterator[str]:
-    for place, time in enumerate(scene.rows.passed):
-        if time is not None and scene.stop(place) in frame.rows and frame.shows(time):
+def passed_marks(frame: Frame, scene: Scene, places: Iterable[int]) -> Iterator[str]:
+    for place in places:
+        time = scene.rows.passed[place]
+        if time is not None and frame.shows(time):
             event = scene.network.events[place].id
             yield (f'<circle class="passed" cx="{frame.x(time)}" cy="{frame.y(scene.stop(place))}" r="3">'
                    f'<title>event {event} passed at {clock_time(time, True)}</title></circle>')
@@ -309,14 +325,19 @@ def title_of(scene: Scene, line: Sequence[int]) -> str:
 def drawing(scene: Scene, line: Sequence[int], begin: Optional[int] = None, end: Optional[int] = None) -> Iterator[str]:
     """The SVG of a line, as pieces of text."""
     frame, trains = frame_of(scene, line, begin, end)
+    yield from drawn(scene, frame, trains, marked_on(frame, scene), title_of(scene, line))
+
+
+def drawn(scene: Scene, frame: Frame, trains: Trains, marked: Marked, name: str) -> Iterator[str]:
+    """The SVG of trains in a frame, with the marks on their line, under a title."""
     width = max(LEFT + frame.width + RIGHT, 820)
     height = TOP + frame.height + BOTTOM
-    title = escaped(title_of(scene, line))
+    title = escaped(name)
     yield (f'<svg xmlns="http://www.w3.org/2000/svg" viewBox="0 0 {width} {height}" width="{width}" height="{height}" role="img" '
            f'aria-label="{title}"><style>{style()}</style><rect class="page" width="{width}" height="{height}"/>')
     yield f'<text class="title" x="{LEFT}" y="26">{title}</text>'
-    for part in (grid(frame, scene), train_marks(frame, scene, trains), link_marks(frame, scene), pair_marks(frame, scene),
-                 passed_marks(frame, scene), clock_mark(frame, scene), train_names(frame, scene, trains), legend(frame)):
+    for part in (grid(frame, scene), train_marks(frame, scene, trains), link_marks(frame, scene, marked.changes), pair_marks(frame, scene),
+                 passed_marks(frame, scene, marked.places), clock_mark(frame, scene), train_names(frame, scene, trains), legend(frame)):
         yield '\n'.join(part)
     yield '</svg>'
 

@@ -188,13 +188,17 @@ class Link(NamedTuple):
     state: str
 
 
-def links_of(scene: Scene) -> list[Link]:
-    """The changes of a scene."""
+def changes_of(network: Network) -> list[int]:
+    """The places of a network's changes."""
+    return [place for place, activity in enumerate(network.activities) if activity.kind == 'change']
+
+
+def links_of(scene: Scene, changes: Optional[Iterable[int]] = None) -> list[Link]:
+    """The changes of a scene, or some of them by place."""
     network, rows = scene.network, scene.rows
     links = []
-    for place, activity in enumerate(network.activities):
-        if activity.kind != 'change':
-            continue
+    for place in changes_of(network) if changes is None else changes:
+        activity = network.activities[place]
         state = 'kept' if rows.kept[place] else 'dropped'
         if rows.passed[network.heads[place]] is not None:
             state = 'kept' if is_met(network, rows, scene.times, place) else 'missed'

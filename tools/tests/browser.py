@@ -1,6 +1,7 @@
 """A browser without a window, driven over two pipes in its own protocol: Debian's package `chromium`."""
 from __future__ import annotations
 
+import base64
 import fcntl
 import json
 import os
@@ -74,7 +75,27 @@ class Browser:
 
     def open(self, name: str) -> None:
         """Opens a file."""
-        self.ask('Page.navigate', until='Page.loadEventFired', url=f'file://{os.path.abspath(name)}')
+        self.visit(f'file://{os.path.abspath(name)}')
+
+    def visit(self, address: str) -> None:
+        """Opens an address."""
+        self.ask('Page.navigate', until='Page.loadEventFired', url=address)
+
+    def beside(self, address: str) -> None:
+        """Opens another page in the same browser, which is not driven; the driven one stays in front, as pages behind are slowed down."""
+        driven, self.session = self.session, None
+        self.ask('Target.createTarget', url=address, background=True)
+        self.session = driven
+        self.ask('Page.bringToFront')
+
+    def look(self, width: int, height: int, scheme: str = 'light') -> None:
+        """Gives the window a size, and the page the colours of day or of night."""
+        self.ask('Emulation.setDeviceMetricsOverride', width=width, height=height, deviceScaleFactor=1, mobile=False)
+        self.ask('Emulation.setEmulatedMedia', features=[{'name': 'prefers-color-scheme', 'value': scheme}])
+
+    def picture(self) -> bytes:
+        """What the window shows, as a PNG."""
+        return base64.b64decode(self.ask('Page.captureScreenshot', format='png')['data'])
 
     def value(self, expression: str) -> Any:
         """The value of an expression in the page, where it is one of JSON."""

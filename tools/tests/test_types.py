@@ -11,10 +11,14 @@ from samples import TOP
 
 FOLDERS = ['tools', 'bench']
 
+# What is no command of its own: the desk's parts, and the days that are played.
+PARTS = [os.path.join('tools', 'desk_page'), os.path.join('examples', 'day'), os.path.join('examples', 'live')]
+PLAYS = [os.path.join('examples', name, 'play.py') for name in ('day', 'live')]
 
-def scripts() -> list[str]:
-    """The files of both folders, from the top of the repository."""
-    return [os.path.join(folder, name) for folder in FOLDERS for name in sorted(os.listdir(os.path.join(TOP, folder))) if name.endswith('.py')]
+
+def scripts(folders: list[str] = FOLDERS) -> list[str]:
+    """The files of folders, from the top of the repository."""
+    return [os.path.join(folder, name) for folder in folders for name in sorted(os.listdir(os.path.join(TOP, folder))) if name.endswith('.py')]
 
 
 def said_by(*words: str) -> str:
@@ -27,11 +31,14 @@ class Checked(unittest.TestCase):
     @unittest.skipUnless(shutil.which('mypy'), 'mypy is not installed')
     def test_types_are_whole(self) -> None:
         self.assertEqual(said_by('mypy', '--config-file', 'pyproject.toml', '--no-error-summary'), '')
+        # Plays of one name each, which one run cannot take together.
+        for play in PLAYS:
+            self.assertEqual(said_by('mypy', '--config-file', 'pyproject.toml', '--no-error-summary', play), '')
 
     @unittest.skipUnless(shutil.which('ruff') or shutil.which('pyflakes3'), 'neither ruff nor pyflakes3 is installed')
     def test_linter_finds_nothing(self) -> None:
         words = ['ruff', 'check', '--no-cache'] if shutil.which('ruff') else ['pyflakes3']
-        self.assertEqual(said_by(*words, *scripts()), '')
+        self.assertEqual(said_by(*words, *scripts(FOLDERS + PARTS)), '')
 
 
 class Package(unittest.TestCase):

@@ -1,0 +1,110 @@
+#!/usr/bin/env python3
+"""Serves the dispatcher's desk, a page that is live: desk.py NET STORE FEED [--port=8080] [--token=FILE] [--program=DISPATCHER]
+
+NET is the folder of a network, STORE the folder in which a server (`dispatcher serve NET STORE FEED ..`) keeps its journal, FEED the
+desk's own feed among those of the server, the K-th where --feed=K says so. Open http://127.0.0.1:8080/ in a browser.
+
+The page shows the day as the journal tells it: late trains, the diagram of a line, the board of a stop, alerts, the last entries.
+Whoever types the token of FILE may tell: each thing that is told is a line put behind FEED, and the server's answer comes beside it.
+Without --token the page only shows.
+
+Times are worked out here at once, by a second reading of the rules, and compared with those of DISPATCHER (`follow`), which is right
+where they differ; the page says up to which entry they agree. What a plan would change, windows and waiting rules are DISPATCHER's.
+
+The page listens on the loopback address. For another, --listen=ADDRESS: then TLS belongs before it, and --host=NAME says by which name
+it is called there.
+"""
+from __future__ import annotations
+
+import argparse
+import os
+import signal
+import sys
+import tempfile
+
+from files import BadFile, speak_utf8
+from giv import read_delays, read_network
+from desk_page.alerts import Marks
+from desk_page.asking import found_program
+from desk_page.day import Day, Names
+from desk_page.feed import Feed
+from desk_page.rights import Rights, hosts_of, is_loopback, others_read, read_token
+from desk_page.room import Room, Settings
+from desk_page.server import PageServer
+from names import read_labels, read_stops, read_trips
+from railway import Rows
+from words import add_delays, add_network, command_line, whole_between
+
+TOP = os.path.dirname(os.path.dirname(os.path.abspath(__file__)))
+
+
+def arguments() -> argparse.ArgumentParser:
+    words = command_line(__doc__, allow_abbrev=False)
+    add_network(words)
+    words.add_argument('store', metavar='STORE', help='folder of the journal')
+    words.add_argument('own', metavar='FEED', help="the desk's own feed; it is made where it is not there")
+    words.add_argument('--feed', type=whole_between(1, 64), default=1, metavar='K', help='its number among the feeds of the server (1)')
+    words.add_argument('--feeds', default='', metavar='NAME,NAME,..', help='names of the feeds of the server, in their order')
+    words.add_argument('--port', type=whole_between(0, 65_535), default=8080, metavar='N', help='(8080)')
+    words.add_argument('--token', metavar='FILE', help='file of the token that lets tell; without it the page only shows')
+    words.add_argument('--program', metavar='DISPATCHER', help='the built program (DISPATCHER of the environment, or where it was built)')
+    words.add_argument('--listen', default='127.0.0.1', metavar='ADDRESS', help='(127.0.0.1)')
+    words.add_argument('--host', action='append', default=[], metavar='NAME', help='a name by which the page is called, as behind TLS')
+    for name, minutes, what in (('late', 5, 'a train is late'), ('waits', 3, 'a kept change is waited for'), ('silent', 5, 'a feed is silent')):
+        words.add_argument(f'--{name}', type=whole_between(1, 1_440), default=minutes, metavar='MINUTES',
+                           help=f'from when on {what} ({minutes})')
+    add_delays(words)
+    return words
+
+
+def room_of(given: argparse.Namespace, folder: str) -> Room:
+    """The room that the words ask for; BadFile where a file is not good."""
+    network = read_network(given.net)
+    start = Rows(network, read_delays(given.net, given.event_delays), read_delays(given.net, given.activity_delays))
+    names = Names(read_stops(given.net), read_labels(given.net), read_trips(given.net), [name for name in given.feeds.split(',') if name])
+    options = [f'--{name}={value}' for name, value in
+               (('event-delays', given.event_delays), ('activity-delays', given.activity_delays)) if value]
+    marks = Marks(60 * given.late, 60 * given.waits, 60 * given.silent)
+    settings = Settings(given.store, marks, found_program(given.program, TOP), given.net, folder, options, given.token is not None)
+    try:
+        feed = Feed(given.own)
+    except OSError as error:
+        raise BadFile(given.own, None, error.strerror or 'cannot be written') from error
+    return Room(Day(network, start, names, given.feed), feed, settings)
+
+
+def warn(given: argparse.Namespace, room: Room) -> None:
+    """Says on standard error what somebody should know."""
+    if not is_loopback(given.listen):
+        print(f'desk.py: {given.listen} is not the loopback address. Whoever reads what goes over the wire has the token: put TLS before it.',
+              file=sys.stderr)
+    if given.token is not None and others_read(given.token):
+        print(f'desk.py: others than you may read {given.token}', file=sys.stderr)
+    if room.settings.program is None:
+        print('desk.py: without a built program all times are those of the second reading; see --program', file=sys.stderr)
+
+
+def main() -> None:
+    given = arguments().parse_args()
+    speak_utf8()
+    signal.signal(signal.SIGTERM, lambda *_: sys.exit(0))
+    with tempfile.TemporaryDirectory() as folder:
+        try:
+            token = None if given.token is None else read_token(given.token)
+            room = room_of(given, folder)
+            server = PageServer((given.listen, given.port), room, Rights(frozenset(), token))
+        except (BadFile, OSError) as fault:
+            sys.exit(f'desk.py: {fault}')
+        port = server.server_address[1]
+        server.rights = Rights(hosts_of(given.listen, port, given.host), token)
+        warn(given, room)
+        room.start()
+        print(f'http://{given.listen if ":" not in given.listen else f"[{given.listen}]"}:{port}/', flush=True)
+        try:
+            server.serve_forever()
+        except KeyboardInterrupt:
+            room.stopped.set()
+
+
+if __name__ == '__main__':
+    main()

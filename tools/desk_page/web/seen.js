@@ -1,0 +1,189 @@
+// What is seen: late trains, alerts, the diagram of a line, a train, a board, the last entries.
+import { button, element, get, made, oneAtATime, replace, rights, say, secondsOf, table, withNumber } from './parts.js';
+import { trainShown } from './done.js';
+
+let day = null, clock = 0, lastEntries = 0, wide = 1;
+const seenAlerts = new Set();
+const body = id => element(id).querySelector('.scroll');
+const option = (text, value) => new Option(text, value);
+
+export function begin(given) {
+  day = given;
+  element('lines').append(...day.lines.map(option));
+  element('trains').append(...day.trains.map(([name], number) => option(name, number)));
+  element('stops').append(...day.stops.map(([stop, name]) => option(name, stop)));
+  const names = [...day.trains.map(([name]) => name), ...day.trains.map(([, trip]) => trip).filter(Boolean), ...day.stops.map(([, name]) => name)];
+  element('names').append(...[...new Set(names)].map(name => option(name, name)));
+  for (const [id, does] of [['lines', refreshLine], ['trains', refreshTrain], ['stops', refreshBoard]]) element(id).addEventListener('change', does);
+  for (const id of ['from', 'to', 'follows']) element(id).addEventListener('change', refreshLine);
+  element('from').addEventListener('input', () => { element('follows').checked = false; });
+  element('to').addEventListener('input', () => { element('follows').checked = false; });
+  element('wider').addEventListener('click', () => widen(1.4));
+  element('narrower').addEventListener('click', () => widen(1 / 1.4));
+  element('find').addEventListener('submit', find);
+  element('view').addEventListener('click', event => {
+    const train = event.target.closest('.train');
+    if (train) showTrain(Number(train.dataset.t));
+  });
+}
+
+function find(event) {
+  event.preventDefault();
+  const wanted = element('wanted').value.trim().toLowerCase();
+  const is = name => name.toLowerCase() === wanted, has = name => wanted && name.toLowerCase().includes(wanted);
+  for (const fits of [is, has]) {
+    const train = day.trains.findIndex(([name, trip]) => fits(name) || fits(trip));
+    if (train >= 0) return showTrain(train);
+    const stop = day.stops.find(([, name]) => fits(name));
+    if (stop) return showStop(stop[0]);
+  }
+  say('No train and no stop is called so.');
+}
+
+export function showTrain(number) {
+  element('trains').value = number;
+  refreshTrain();
+  element('train').scrollIntoView({ block: 'nearest' });
+  say(`Train: ${day.trains[number][0]}`);
+}
+
+function showStop(stop) {
+  element('stops').value = stop;
+  refreshBoard();
+  element('board').scrollIntoView({ block: 'nearest' });
+  say(`Board: ${day.stops.find(([id]) => id === stop)[1]}`);
+}
+
+// ---- The screen
+
+export function showScreen(screen) {
+  clock = screen.seconds;
+  element('clock').textContent = screen.clock || 'not told';
+  element('entries').textContent = screen.began ? screen.entries : 'no server yet';
+  element('confirmed').textContent = confirmed(screen);
+  element('cost').textContent = screen.cost || '–';
+  showAlerts(screen.alerts);
+  showLate(screen);
+  showJournal(screen);
+}
+
+function confirmed(screen) {
+  if (screen.second) return 'of the second reading alone';
+  if (screen.confirmed === null) return 'not yet confirmed';
+  return screen.confirmed === screen.entries ? 'confirmed by the program' : `confirmed up to entry ${screen.confirmed}`;
+}
+
+function showAlerts(alerts) {
+  const names = new Set(alerts.map(([kind, key]) => `${kind} ${key}`));
+  for (const name of seenAlerts) if (!names.has(name)) seenAlerts.delete(name);
+  const rows = alerts.filter(([kind, key]) => !seenAlerts.has(`${kind} ${key}`)).map(([kind, key, words]) => {
+    const row = made('li', '', kind), does = button('Seen', () => { seenAlerts.add(`${kind} ${key}`); row.remove(); }, `Seen: ${words}`);
+    does.dataset.key = `${kind} ${key}`;
+    row.append(made('span', words), does);
+    return row;
+  });
+  element('h-alerts').textContent = `Alerts (${rows.length})`;
+  replace(element('alerts').querySelector('ul'), ...(rows.length ? rows : [made('li', 'None.', 'none')]));
+}
+
+function trainButton(number, name) {
+  const one = button(name, () => showTrain(number), '', 'link');
+  one.dataset.key = `train ${number}`;
+  return one;
+}
+
+function showLate(screen) {
+  const rows = screen.late.map(([number, name, worst, late, at, next, scheduled, now]) => [
+    [trainButton(number, name), withBold('', late, ` at ${at}`), next, withBold(now === scheduled ? '' : `${scheduled} `, now, '', 'time')],
+    worst >= day.late ? 'bad' : '']);
+  element('h-late').textContent = `Late trains (${screen.lateCount} of ${screen.trains})`;
+  const heads = ['Train', 'Late', 'Next', 'Scheduled, now'];
+  replace(body('late'), rows.length ? table('', heads, rows) : made('p', 'No train is a minute late.'));
+}
+
+function withBold(before, bold, behind, classes = '') {
+  const whole = made('span', before, classes);
+  whole.append(made('b', bold), behind);
+  return whole;
+}
+
+function showJournal(screen) {
+  const rows = screen.journal.map(([number, feed, words, line]) =>
+    [[String(number), withNumber(words, line), feed], number > lastEntries && lastEntries ? 'new' : '']);
+  replace(body('journal'), table('', ['Entry', 'Says', 'Told by'], rows));
+  lastEntries = screen.entries;
+}
+
+// ---- The diagram
+
+function spanOfLine() {
+  const [first, last] = day.span;
+  if (element('follows').checked) {
+    const about = clock || Math.min(Math.max(wallClock(), first), last);
+    const begin = Math.floor((about - 2700) / 600) * 600;
+    return last - first <= 7200 ? [null, null] : (from => [from, from + 9000])(Math.max(0, begin, Math.floor((first - 300) / 600) * 600));
+  }
+  const span = [secondsOf(element('from').value), secondsOf(element('to').value)];
+  return span.includes(null) || span[0] >= span[1] ? [null, null] : span;
+}
+
+function wallClock() {
+  const now = new Date();
+  return now.getHours() * 3600 + now.getMinutes() * 60 + now.getSeconds();
+}
+
+export const refreshLine = oneAtATime(async () => {
+  if (!day.lines.length) return;
+  const [begin, end] = spanOfLine();
+  const words = new URLSearchParams({ line: element('lines').value || 0 });
+  if (begin !== null) words.set('from', begin);
+  if (end !== null) words.set('to', end);
+  const answer = await get(`/line?${words}`);
+  const drawn = new DOMParser().parseFromString(await answer.text(), 'image/svg+xml').documentElement;
+  const svg = document.importNode(drawn, true);
+  if (!clock) drawNow(svg, answer.headers.get('X-Frame').split(' ').map(Number));
+  element('view').replaceChildren(svg);
+  widen(1);
+  markTrain();
+});
+
+// Where no clock was told, the line for now is that of the clock on the wall.
+function drawNow(svg, [begin, end, left, scale, top, height]) {
+  const now = wallClock();
+  if (now < begin || now > end) return;
+  const line = document.createElementNS('http://www.w3.org/2000/svg', 'line'), x = left + Math.round((now - begin) * scale);
+  for (const [name, value] of Object.entries({ class: 'now', x1: x, x2: x, y1: top - 8, y2: top + height + 8 })) line.setAttribute(name, value);
+  svg.append(line);
+}
+
+function widen(by) {
+  wide = Math.min(8, Math.max(0.5, wide * by));
+  const svg = element('view').querySelector('svg');
+  if (svg) svg.style.width = `${wide * 100}%`;
+}
+
+function markTrain() {
+  for (const train of element('view').querySelectorAll('.train')) train.classList.toggle('chosen', train.dataset.t === element('trains').value);
+}
+
+// ---- A train and a board
+
+export const refreshTrain = oneAtATime(async () => {
+  if (!day.trains.length) return;
+  const train = await (await get(`/train?train=${element('trains').value || 0}`)).json();
+  const rows = train.events.map(([id, at, kind, scheduled, now, late, passed]) => [
+    [withNumber(at, id), kind + (passed ? ', passed' : ''), scheduled, now, made('span', late, late ? 'late' : '')], '']);
+  const title = train.trip && train.trip !== train.name ? `${train.name}, trip ${train.trip}` : train.name;
+  replace(body('train'), table(title, ['Stop', 'Kind', 'Scheduled', 'Now', 'Late'], rows));
+  trainShown(train, rights.mayTell);
+  markTrain();
+});
+
+export const refreshBoard = oneAtATime(async () => {
+  if (!day.stops.length) return;
+  const board = await (await get(`/board?stop=${element('stops').value}`)).json();
+  const rows = board.events.map(([id, name, kind, scheduled, now, late, passed, , , , number, shown]) => [
+    [trainButton(number, name), kind + (passed ? ', passed' : ''), scheduled, withNumber(now, `event ${id}`), late, ...(board.served ? [shown] : [])], '']);
+  const heads = ['Train', 'Kind', 'Scheduled', 'Now', 'Late', ...(board.served ? ["Server's board"] : [])];
+  replace(body('board'), table(board.name, heads, rows));
+});
