@@ -32,7 +32,7 @@ from words import whole_between
 sys.path.append(os.path.join(TOP, 'tools', 'tests'))
 
 from browser import CHROMIUM, MISSING, Browser  # noqa: E402
-from hostile import HOSTILE  # noqa: E402
+from hostile_names import HOSTILE  # noqa: E402
 
 # What the desk promises: seconds to the first picture and from a feed to the screen, bytes of memory, and pages at once.
 FIRST, SEEN, MEMORY, PAGES = 2.0, 0.2, 200 << 20, 10

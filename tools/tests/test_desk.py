@@ -14,7 +14,7 @@ from samples import CASES, network
 
 from files import BadFile
 from giv import read_network
-from hostile import HOSTILE
+from hostile_names import HOSTILE
 from journal import Answered, Head
 from desk_page.alerts import MOST, Marks, Server, alerts_of
 from desk_page.asking import SecondReading, adoption, journal_text

@@ -10,7 +10,7 @@ import unittest
 from typing import Any, ClassVar
 
 from browser import CHROMIUM, MISSING, Browser
-from hostile import HOSTILE
+from hostile_names import HOSTILE
 from samples import CASES, lines_of_run, network, text
 
 from names import in_print

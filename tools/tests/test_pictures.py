@@ -12,7 +12,7 @@ import unittest
 from typing import Any, Iterable, Sequence
 import xml.etree.ElementTree as xml
 
-from hostile import HOSTILE
+from hostile_names import HOSTILE
 from samples import TOOLS, network, text
 
 from diagram import drawing, frame_of
