@@ -1,0 +1,196 @@
+//! Crashes at each call of a life, and the lives after them.
+
+use crate::day::{LOGS, TEXT, UNREAD};
+use crate::lives::{Life, NONE, live};
+use dm_samples::Failure;
+use dm_store::{MemStore, StoreError, Tear};
+use dm_store_text::Status;
+use std::alloc::{AllocError, Global};
+use std::sync::Wait;
+use std::thread::Threads;
+
+/// More calls than a life makes.
+const CALLS: u64 = 100;
+
+/// How many calls a start begins with that only read: the journal, and the reply file of each feed.
+const READS: u64 = 3;
+
+/// An empty store of which these calls fail.
+fn empty(alloc: Global, fails: &[u64]) -> Result<MemStore, AllocError> {
+    let mut replies = Vec::new(alloc);
+    for _feed in LOGS {
+        replies.push(Vec::new(alloc))?;
+    }
+    MemStore::new(alloc, Vec::new(alloc), replies, fails.to_vec(alloc)?)
+}
+
+/// What a crash leaves of a store, of which these calls fail next.
+fn left_of(
+    alloc: Global,
+    store: &MemStore,
+    tear: Tear,
+    fails: &[u64],
+) -> Result<MemStore, Failure> {
+    match store.after_crash(alloc, tear, fails.to_vec(alloc)?) {
+        Ok(left) => Ok(left),
+        Err(StoreError::OutOfMemory) => Err(Failure::OutOfMemory),
+        Err(_) => Err(Failure::Differs(0)),
+    }
+}
+
+/// Whether a day without a crash comes to what is due.
+pub fn one_life<R: Threads + Wait + Sync + AllocGlobal>(rt: &R) -> Result<(), Failure> {
+    let alloc = rt.alloc();
+    let life = live(rt, empty(alloc, &[])?, NONE)?;
+    if is_whole(alloc, &life)? {
+        Ok(())
+    } else {
+        Err(Failure::Differs(0))
+    }
+}
+
+/// A digit or letter for each call of a life that begins with an empty store.
+pub fn from_nothing<R: Threads + Wait + Sync + AllocGlobal>(
+    rt: &R,
+    tear: Tear,
+    twice: bool,
+) -> Result<String, Failure> {
+    let alloc = rt.alloc();
+    let mut line = String::new(alloc);
+    for call in 1..CALLS {
+        let life = live(rt, empty(alloc, &[call])?, NONE)?;
+        if life.status == Status::Ok {
+            break;
+        }
+        line.push(letter_of(rt, &life, call, tear, twice)?)?;
+    }
+    Ok(line)
+}
+
+/// A digit or letter for each sync of a feed that fails, in a life that begins with an empty store.
+pub fn unsynced<R: Threads + Wait + Sync + AllocGlobal>(
+    rt: &R,
+    feed: usize,
+) -> Result<String, Failure> {
+    let alloc = rt.alloc();
+    let mut line = String::new(alloc);
+    for sync in 1..CALLS {
+        let mut syncs = NONE;
+        if let Some(fails) = syncs.get_mut(feed) {
+            *fails = sync;
+        }
+        let life = live(rt, empty(alloc, &[])?, syncs)?;
+        if life.status == Status::Ok {
+            break;
+        }
+        line.push(letter_of(rt, &life, CALLS, Tear::All, false)?)?;
+    }
+    Ok(line)
+}
+
+/// The status of a life of which this call failed, or a letter for what is wrong of it or behind it.
+fn letter_of<R: Threads + Wait + Sync + AllocGlobal>(
+    rt: &R,
+    life: &Life,
+    call: u64,
+    tear: Tear,
+    twice: bool,
+) -> Result<char, Failure> {
+    if let Some(letter) = wrong(rt.alloc(), life, call, &[&[], &[]])? {
+        return Ok(letter);
+    }
+    if !goes_on(rt, life, tear)? || twice && !each_goes_on(rt, life, tear)? {
+        return Ok('n');
+    }
+    match life.status {
+        Status::ReadFault => Ok('4'),
+        _ => Ok('5'),
+    }
+}
+
+/// What is wrong of a life of which this call failed, and that began with these reply files.
+fn wrong(alloc: Global, life: &Life, call: u64, before: &[&[u8]]) -> Result<Option<char>, Failure> {
+    let (status, printed) = if call <= READS {
+        (Status::ReadFault, UNREAD)
+    } else {
+        (Status::WriteFault, &b""[..])
+    };
+    if life.status != status {
+        return Ok(Some('s'));
+    }
+    if life.printed.as_slice() != printed {
+        return Ok(Some('p'));
+    }
+    let after = left_of(alloc, &life.store, Tear::All, &[])?;
+    for ((log, shown), earlier) in LOGS.iter().zip(after.was_shown()).zip(before) {
+        if !log.starts_with(shown) || !shown.starts_with(earlier) {
+            return Ok(Some('f'));
+        }
+    }
+    Ok(None)
+}
+
+/// What the reply file of a feed had shown when the store was made.
+fn shown_by(alloc: Global, store: &MemStore, feed: usize) -> Result<Vec<u8>, Failure> {
+    match store.was_shown().get(feed) {
+        Some(shown) => Ok(shown.to_vec(alloc)?),
+        None => Err(Failure::NoDay),
+    }
+}
+
+/// Whether the life that begins with what a crash leaves of this one is whole.
+fn goes_on<R: Threads + Wait + Sync + AllocGlobal>(
+    rt: &R,
+    life: &Life,
+    tear: Tear,
+) -> Result<bool, Failure> {
+    let alloc = rt.alloc();
+    let next = live(rt, left_of(alloc, &life.store, tear, &[])?, NONE)?;
+    is_whole(alloc, &next)
+}
+
+/// Whether each life goes well that begins with what a crash leaves of this one, and of which a call fails, and the one after it.
+fn each_goes_on<R: Threads + Wait + Sync + AllocGlobal>(
+    rt: &R,
+    life: &Life,
+    tear: Tear,
+) -> Result<bool, Failure> {
+    for call in 1..CALLS {
+        let alloc = rt.alloc();
+        let store = left_of(alloc, &life.store, tear, &[call])?;
+        let shown = [shown_by(alloc, &store, 0)?, shown_by(alloc, &store, 1)?];
+        let next = live(rt, store, NONE)?;
+        if next.status == Status::Ok {
+            return Ok(call > READS);
+        }
+        if wrong(alloc, &next, call, &[&shown[0], &shown[1]])?.is_some()
+            || !goes_on(rt, &next, tear)?
+        {
+            return Ok(false);
+        }
+    }
+    Ok(false)
+}
+
+/// Whether a life ended with the text and the logs of a day without a crash.
+fn is_whole(alloc: Global, life: &Life) -> Result<bool, Failure> {
+    let after = left_of(alloc, &life.store, Tear::All, &[])?;
+    let shown = after.was_shown();
+    let logs = LOGS
+        .iter()
+        .zip(shown)
+        .all(|(log, shown)| *log == shown.as_slice());
+    Ok(life.status == Status::Ok && logs && shown.len() == LOGS.len() && is_text(&life.printed))
+}
+
+/// Whether the bytes are the day's text.
+fn is_text(printed: &[u8]) -> bool {
+    let mut rest = printed;
+    for part in TEXT {
+        let Some(behind) = rest.strip_prefix(part) else {
+            return false;
+        };
+        rest = behind;
+    }
+    rest.is_empty()
+}

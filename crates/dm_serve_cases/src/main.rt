@@ -1,0 +1,51 @@
+//! Lives of a live server over a store in memory: each call of a life fails in turn, a crash tears what stood there, and the next
+//! life goes on.
+//!
+//! A day of two feeds is served, a line of each in a round, and the text is compared with one that was worked out by hand. Then
+//! each call on the store fails in a life of its own, from an empty store. The life has to end with its status and its line, and
+//! what it showed has to be a front of each log. On what a crash then leaves, torn in each way, the next life has to end with the
+//! text and the logs of a day without a crash: every line answered once, none lost. For two ways of tearing each call of the next
+//! life fails as well, and a third one has to end so. For each way it prints the status of each life whose call failed, by call,
+//! or a letter where what came of it is wrong: `s` its status, `p` what it printed, `f` what it showed, `n` a life after it. So
+//! it does for each sync of a feed that fails. It stands on dm_serve for what it tries, on dm_store for the store and on what a
+//! server is handed, and promises nothing.
+#![tactic(auto)]
+
+mod crashes;
+mod day;
+mod lives;
+mod outside;
+
+use crate::crashes::{from_nothing, one_life, unsynced};
+use dm_samples::{Failure, report};
+use dm_store::Tear;
+use std::io;
+
+/// The ways of tearing, by name, and whether each call of the next life fails as well.
+const TEARS: [(&str, Tear, bool); 8] = [
+    ("nothing", Tear::Nothing, false),
+    ("all", Tear::All, false),
+    ("one-byte", Tear::Front(1), false),
+    ("front", Tear::Front(20), false),
+    ("zeros", Tear::Zeros, false),
+    ("open-gates", Tear::Other(b'+'), false),
+    ("front-twice", Tear::Front(20), true),
+    ("open-gates-twice", Tear::Other(b'+'), true),
+];
+
+fn main(rt: HostRuntime) -> io::Result<()> {
+    report(&rt, "one-life", one_life(&rt))?;
+    for (name, tear, twice) in TEARS {
+        print_line(&rt, name, from_nothing(&rt, tear, twice))?;
+    }
+    print_line(&rt, "first-feed", unsynced(&rt, 0))?;
+    print_line(&rt, "second-feed", unsynced(&rt, 1))
+}
+
+/// Prints a name and a line.
+fn print_line<R: Print>(rt: &R, name: &str, line: Result<String, Failure>) -> io::Result<()> {
+    match line {
+        Ok(line) => println!(rt; "{name} {line}"),
+        Err(failure) => report(rt, name, Err(failure)),
+    }
+}
