@@ -1,0 +1,4 @@
+-- What one life leaves is taken up.
+pub mod Again
+-- What is refused of it.
+pub mod Refusals

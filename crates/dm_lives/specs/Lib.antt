@@ -1,0 +1,2 @@
+-- What one life leaves to the next.
+pub mod Laws
