@@ -55,7 +55,7 @@ int fsync(int file) { return slowly("fsync", file); }
 
 LINES, LINES_AT_ONCE, ENTRIES = 1_000, 200_000, 300_000
 PLANS, NODES = 8, 16_384
-IDLE_SECONDS = 5.0
+SETTLED, IDLE_SECONDS = 1.0, 10.0
 MANY = 64
 
 
@@ -180,6 +180,8 @@ def lines(day: Day) -> None:
 def idle(day: Day) -> None:
     for feeds in (3, MANY):
         server = day.served(feeds)
+        # Its reply files are there before it goes round.
+        time.sleep(SETTLED)
         before = seconds_of(server)
         time.sleep(IDLE_SECONDS)
         share = (seconds_of(server) - before) / IDLE_SECONDS
