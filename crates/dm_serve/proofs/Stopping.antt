@@ -209,7 +209,7 @@ module _ {K S T : Type 0} (taken : K → Option (List ℕ)) (sink_faults : K →
       ends_failed taken sink_faults store_faults faults Due before now old new result h.0 h.1 (inl (risen_since (store_faults old.store) (store_faults mid) (store_faults new.store) later why))
 
   -- feeds that do not go on with the book that was read back
-  module _ (book : Book) (is_new : Bool) (one other : List (Watched T)) (are : feeds ≡ map opened one) (many : length one ≡ length names) (last : tails ≡ map tail_in other)
+  module _ (book : Book) (is_new : Bool) (one other : List (Watched T)) (are : feeds ≡ map opened one) (many : length one ≡ length names) (entries : length book.logs ≡ length names) (last : tails ≡ map tail_in other)
       (back : IsReadBack tells seen shown may_leave moment left_since s (length names) book is_new old.store new.store) where
     pub catching_ends : (stopped : StartStop) (result : Status) → StopsCatchingUp given faults book.logs one other stopped → EndsStart taken sink_faults store names stopped before now result → End result
     catching_ends stop.OutOfMemory result why h = wanting_ends result h.0 h.1
@@ -230,6 +230,7 @@ module _ {K S T : Type 0} (taken : K → Option (List ℕ)) (sink_faults : K →
         ends_as taken sink_faults store_faults faults Due before now old new Refused (feed_line number line) result refused_is_no_fault refused_is_no_want
         (inr (inr (inl (record {
           place = why.place;
+          within = omega (arith, entries, slice_get_within book.logs why.place why.items why.of);
           at_line = line;
           tail = why.watched.tail;
           stands = ap (λ (l : List (Tail T)). slice_get l why.place) last ∙ at_mapped tail_in other why.place why.watched why.stands;
@@ -246,10 +247,10 @@ module _ {K S T : Type 0} (taken : K → Option (List ℕ)) (sink_faults : K →
 module _ {K S T : Type 0} (taken : K → Option (List ℕ)) (sink_faults : K → ℕ) (tells : S → Type 0) (seen : S → List ℕ) (shown : S → List (List ℕ)) (may_leave : S → Image → Type 0) (moment : S → ℕ)
     (left_since : S → ℕ → Image → Type 0) (store_faults : S → ℕ) (given : T → Option (List ℕ)) (faults : T → ℕ) (up : Net → List ℕ → List Note → Type 0) (s : Setting) (asked : ServerAsked)
     (before now : K) (old new : Journal S) (book : Book) (is_new : Bool) (one other : List (Watched T)) (end : DayEnd T) where
-  pub at_feeds_ends : (stopped : StartStop) → length one ≡ length asked.run.feeds → IsReadBack tells seen shown may_leave moment left_since s (length asked.run.feeds) book is_new old.store new.store
+  pub at_feeds_ends : (stopped : StartStop) → length one ≡ length asked.run.feeds → length book.logs ≡ length asked.run.feeds → IsReadBack tells seen shown may_leave moment left_since s (length asked.run.feeds) book is_new old.store new.store
       → StopsCatchingUp given faults book.logs one other stopped → EndsAtFeeds taken sink_faults asked other stopped before now end
       → Ends taken sink_faults store_faults faults (λ status text. IsDueOver tells seen shown may_leave store_faults given faults up asked.run.feeds asked.store (map opened one) end.tails.items old new status s text) before now old new end.status
-  at_feeds_ends stopped many back why (inl h) =
+  at_feeds_ends stopped many entries back why (inl h) =
       ends_wanting taken sink_faults store_faults faults (λ status text. IsDueOver tells seen shown may_leave store_faults given faults up asked.run.feeds asked.store (map opened one) end.tails.items old new status s text) before now old new end.status h.0 h.1
-  at_feeds_ends stopped many back why (inr h) =
-      catching_ends taken sink_faults tells seen shown may_leave moment left_since store_faults given faults up s asked.run.feeds asked.store (map opened one) end.tails.items before now old new book is_new one other refl many h.0 back stopped end.status why h.1
+  at_feeds_ends stopped many entries back why (inr h) =
+      catching_ends taken sink_faults tells seen shown may_leave moment left_since store_faults given faults up s asked.run.feeds asked.store (map opened one) end.tails.items before now old new book is_new one other refl many entries h.0 back stopped end.status why h.1

@@ -57,6 +57,7 @@ pub record IsReplyRefusal {S : Type 0} (tells : S → Type 0) (seen : S → List
 -- only looked at.
 pub record IsFeedRefusal {S T : Type 0} (tells : S → Type 0) (seen : S → List ℕ) (shown : S → List (List ℕ)) (may_leave : S → Image → Type 0) (given : T → Option (List ℕ)) (s : Setting) (feeds : ℕ) (tails : List (Tail T)) (old new : Journal S) (text : List ℕ) : Type 0 where
   pub place : ℕ
+  pub within : place < feeds
   pub at_line : ℕ
   pub tail : Tail T
   pub stands : slice_get tails place ≡ Some tail

@@ -1,4 +1,5 @@
-use Rattle.std.proofs.Common.{length, map, refl}
+use Rattle.std.proofs.Common.{◌∙◌, length, map, refl}
+use Rattle.std.proofs.lemmas.List.{length-map}
 use Rattle.dm_cert.specs.declared.replies.FeedLog.{FeedLog}
 use Rattle.dm_restore.specs.Start.{book_back}
 use Rattle.dm_table_desk.specs.Tables.{desk_of, setting_of}
@@ -35,7 +36,7 @@ pub returns-in-Err-clause-ends : goal.returns-in-Err-clause-ends
 returns-in-Err-clause-ends g c = λ start later back.
     at_feeds_ends g.K.Sink.taken g.K.Sink.faults g.S.Store.tells g.S.Store.seen g.S.Store.shown g.S.Store.may_leave g.S.Store.moment g.S.Store.left_since g.S.Store.faults g.T.Growing.given g.T.Growing.faults _
     (setting_of c.args.restored.desk.plans c.args.restored.desk.table) (server_of c.args.words.now) c.args.out.now c.end_at_feeds.new.out start c.args.journal.now (book_back c.args.restored) c.args.restored.is_new c.args.feeds.items c.catch_up_all.new.feeds.items
-    c.end_at_feeds.result c.in-Err.stop c.requires.as_many back c.in-Err.ensures.stops c.end_at_feeds.ensures.ends
+    c.end_at_feeds.result c.in-Err.stop c.requires.as_many (length-map c.args.restored.logs.items (λ (log : FeedLog). log.items) ∙ c.requires.logs) back c.in-Err.ensures.stops c.end_at_feeds.ensures.ends
 
 pub returns-in-Err-clause-keeps : goal.returns-in-Err-clause-keeps
 returns-in-Err-clause-keeps g c = λ start back.
