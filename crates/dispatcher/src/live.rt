@@ -18,6 +18,7 @@ use std::rt::{Clock, Files};
 use std::sync::Wait;
 use std::thread::Threads;
 use std::time::Instant;
+use std::{fs, io};
 
 /// Whether the first word is one of the live server's.
 pub fn is_live(words: &[String]) -> bool {
@@ -25,6 +26,32 @@ pub fn is_live(words: &[String]) -> bool {
         Some(word) => word.as_str() == "serve" || word.as_str() == "text",
         None => false,
     }
+}
+
+/// A journal of so many bytes takes about a second to take up, on a slow host.
+const LONG: u64 = 8_000_000;
+
+/// Says that a server takes up what its store holds, where the journal is long.
+pub fn say_taking_up<R: Eprint + AllocGlobal + Files<File = File>>(
+    rt: &R,
+    words: &[String],
+) -> io::Result<()> {
+    let Some(LiveWords::Serve(server)) = read_serve_words(words) else {
+        return Ok(());
+    };
+    let store = server.store;
+    let Ok(journal) = format!(in rt.alloc(); "{store}/journal") else {
+        return Ok(());
+    };
+    let bytes = match fs::metadata(rt, journal.as_str()) {
+        Ok(about) => about.len(),
+        Err(_) => return Ok(()),
+    };
+    if bytes < LONG {
+        return Ok(());
+    }
+    let megabytes = bytes / 1_000_000;
+    eprintln!(rt; "dispatcher: taking up {megabytes} MB of {journal}")
 }
 
 /// Does what words of the live server ask. `files` is the runtime that a store and boards keep.

@@ -14,7 +14,7 @@ ghost use Rattle.dm_base.specs.declared.limits.TheConstants.{BOARDS};
 mod live;
 mod pace;
 
-use crate::live::{do_live, is_live};
+use crate::live::{do_live, is_live, say_taking_up};
 use dm_boards::FileBoard;
 use dm_hints::{Listener, tell, tell_live};
 use dm_outside::{Board, FolderShelf, OpenGate, StdSink};
@@ -23,7 +23,7 @@ use dm_words::{CommandWords, LiveWords, board_words, read_serve_words, read_word
 use std::alloc::{AllocError, Global};
 use std::env;
 use std::fs::File;
-use std::io::ErrorKind;
+use std::io::{ErrorKind, IsTerminal as _};
 use std::process::ExitCode;
 use std::rt::{Env, Files};
 
@@ -45,6 +45,9 @@ fn main(rt: HostRuntime) -> ExitCode {
     }
     let mut out = Listener::new(StdSink::new(rt.stdout()));
     if is_live(words.as_slice()) {
+        if rt.stderr().is_terminal() {
+            let _ = say_taking_up(&rt, words.as_slice());
+        }
         let status = do_live(&rt, rt, words.as_slice(), &mut boards, &mut out);
         let _ = tell_live(&rt, words.as_slice(), status as u8, &out);
         return ExitCode::from(status as u8);
