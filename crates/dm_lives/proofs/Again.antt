@@ -1,23 +1,28 @@
 -- What a crash leaves of a life is taken up by the next.
-use Rattle.std.proofs.Common.{ℕ, List, map, sym, subst}
+use Rattle.std.proofs.Common.{ℕ, List, length, map, sym, subst}
+use Rattle.dm_cert.specs.Answers.{Setting}
 use Rattle.dm_store.specs.Blocks.{Stands}
 use Rattle.dm_store.specs.Calls.{Image}
 use Rattle.dm_store.specs.Journals.{HasCrashEnd}
-use Rattle.dm_book.specs.Books.{AreFronts, reply_text}
+use Rattle.dm_book.specs.Books.{AreFronts, Book, IsSafe, reply_text}
 use Rattle.dm_serve.proofs.Answering.{as_many}
-use Rattle.dm_lives.specs.Laws.{IsTakenUpAgain}
+use Rattle.dm_serve.specs.Lives.{IsTakenUp}
+use Rattle.dm_lives.specs.Laws.{Holds, IsTakenUpAgain}
+
+-- what a crash left is taken up with the book there
+pub taken_from : {S : Type 0} (tells : S → Type 0) (seen : S → List ℕ) (shown : S → List (List ℕ)) (may_leave : S → Image → Type 0) (s : Setting) (first last : Book) (image : Image) (store : S)
+    (safe : IsSafe s first last image) → Holds tells seen shown may_leave image store → IsTakenUp tells seen shown may_leave s (length first.logs) store safe.contents safe.book
+taken_from tells seen shown may_leave s first last image store safe holds = record {
+  found = record { told = holds.told; stands = subst (Stands safe.contents) (sym holds.journal) safe.stands; durable = holds.durable };
+  crash_end = subst (HasCrashEnd safe.contents) (sym holds.journal) safe.crash_end;
+  restored = record { is_in = safe.is_in; is_true = safe.is_true; as_many = sym (as_many first.logs safe.book.logs safe.above.logs) };
+  shown_fronts = subst (λ (l : List (List ℕ)). AreFronts l (map reply_text safe.book.logs)) (sym holds.replies) safe.shown;
+}
 
 pub taken_up_again : {S : Type 0} (tells : S → Type 0) (seen : S → List ℕ) (shown : S → List (List ℕ)) (may_leave : S → Image → Type 0) → IsTakenUpAgain tells seen shown may_leave
-taken_up_again tells seen shown may_leave = λ s first image store from holds.
-    let safe = from.safe in
-    record {
-      contents = safe.contents;
-      book = safe.book;
-      taken = record {
-        found = record { told = holds.told; stands = subst (Stands safe.contents) (sym holds.journal) safe.stands; durable = holds.durable };
-        crash_end = subst (HasCrashEnd safe.contents) (sym holds.journal) safe.crash_end;
-        restored = record { is_in = safe.is_in; is_true = safe.is_true; as_many = sym (as_many first.logs safe.book.logs safe.above.logs) };
-        shown_fronts = subst (λ (l : List (List ℕ)). AreFronts l (map reply_text safe.book.logs)) (sym holds.replies) safe.shown;
-      };
-      grows = safe.above;
-    }
+taken_up_again tells seen shown may_leave = λ s first image store from holds. record {
+  contents = from.safe.contents;
+  book = from.safe.book;
+  taken = taken_from tells seen shown may_leave s first from.last image store from.safe holds;
+  grows = from.safe.above;
+}

@@ -2,3 +2,9 @@
 pub mod Again
 -- What is refused of it.
 pub mod Refusals
+-- What a log answers of feeds that grow.
+pub mod Growth
+-- What is refused where feeds only grow.
+pub mod Complete
+-- What the text of a store is refused for.
+pub mod Texts

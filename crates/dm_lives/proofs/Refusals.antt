@@ -34,7 +34,7 @@ unfolding head_text
 head_begins penalty plans feeds = refl
 
 -- nothing is refused of blocks that hold a book, where a crash may leave the end
-ends_well : (s : Setting) (book : Book) (contents : List (List ℕ)) (end : List ℕ) → IsBookIn s contents book → is_crash_end (is_new contents) end ≡ true → refusal contents end ≡ None
+pub ends_well : (s : Setting) (book : Book) (contents : List (List ℕ)) (end : List ℕ) → IsBookIn s contents book → is_crash_end (is_new contents) end ≡ true → refusal contents end ≡ None
 ends_well s book [] end is_in ends = ap {B = Option StoreError} (λ (b : Bool). if b then None else Some NoJournal) ends
 ends_well s book (first ∷ contents) end (inl is) ends = absurd (none_there is.none)
 ends_well s book (first ∷ contents) end (inr is) ends =
@@ -43,7 +43,7 @@ ends_well s book (first ∷ contents) end (inr is) ends =
     ∙ ap {B = Option StoreError} (λ (b : Bool). if b then None else Some Broken) ends
 
 -- of lists that are fronts, those at one place are
-fronts_at : {X : Type 0} (one more : List (List X)) (place : ℕ) → AreFronts one more → place < length one → IsPrefix (get_or one place []) (get_or more place [])
+pub fronts_at : {X : Type 0} (one more : List (List X)) (place : ℕ) → AreFronts one more → place < length one → IsPrefix (get_or one place []) (get_or more place [])
 fronts_at [] more place fronts low = absurd (omega (arith, low))
 fronts_at (x ∷ xs) [] place fronts low = absurd fronts
 fronts_at (x ∷ xs) (y ∷ ys) zero fronts low = fronts.0

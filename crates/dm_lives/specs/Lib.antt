@@ -1,2 +1,6 @@
 -- What one life leaves to the next.
 pub mod Laws
+-- Feeds that only grow from one life to the next.
+pub mod Growth
+-- What the text of such a store is refused for.
+pub mod Texts
