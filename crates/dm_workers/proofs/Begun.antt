@@ -19,7 +19,7 @@ use Rattle.dm_deques.specs.Deques.{TallyValue}
 use Rattle.dm_deques.specs.Rule.{WasEmpty}
 use Rattle.dm_deques.specs.Sharing.{new_tally, deque_of}
 use Rattle.dm_search.specs.Moving.{IsOver}
-use Rattle.dm_ways.specs.Ways.{paths_on, leaves_on}
+use Rattle.dm_workers.specs.Ways.{paths_on, leaves_on}
 use Rattle.dm_workers.specs.Nodes.{GuidedTask}
 use Rattle.dm_workers.specs.declared.working.Worker.{Worker}
 use Rattle.dm_workers.specs.Inside.Workers.{IsWorking, IsSameWorker, IsNewWorker, IsDone}

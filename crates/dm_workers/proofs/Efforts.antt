@@ -11,8 +11,8 @@ use Rattle.dm_tree.specs.declared.forms.Node.TheVariants.{Inner, Cycle, Bound, O
 use Rattle.dm_tree.specs.declared.forms.Leaf.{Leaf}
 use Rattle.dm_bound.specs.Words.{HandValue, nothing_looked}
 use Rattle.dm_deques.specs.Deques.{TallyValue, having_put}
-use Rattle.dm_ways.specs.Ways.{GoesDown, on_way, paths_on, leaves_on}
-use Rattle.dm_ways.proofs.Ways.{below_weight}
+use Rattle.dm_workers.specs.Ways.{GoesDown, on_way, paths_on, leaves_on}
+use Rattle.dm_workers.proofs.Ways.{below_weight}
 use Rattle.dm_workers.specs.Nodes.{GuidedTask, IsChosen}
 use Rattle.dm_workers.specs.Expanding.{having_looked}
 use Rattle.dm_workers.specs.Found.{IsEnd, IsHandedIn, AreKept}

@@ -10,7 +10,7 @@ use Rattle.dm_deques.specs.declared.account.Account.{Account}
 use Rattle.dm_deques.specs.Deques.{TallyValue}
 use Rattle.dm_deques.specs.Rule.{opening, WasEmpty}
 use Rattle.dm_deques.specs.Sharing.{deque_of, new_tally, having_lent, settling_each}
-use Rattle.dm_ways.specs.Ways.{paths_on}
+use Rattle.dm_workers.specs.Ways.{paths_on}
 use Rattle.dm_workers.specs.Found.{IsDrained}
 use Rattle.dm_workers.specs.Inside.Gathering.{owners_put, owners_taken, all_taken, HasLent, HasLentOnly, AreEquipped}
 use Rattle.dm_workers.specs.Inside.Working.{Path, taken_on}

@@ -10,7 +10,7 @@ use Rattle.dm_tree.specs.declared.forms.Leaf.{Leaf}
 use Rattle.dm_bound.specs.Words.{HandValue, lowest, nothing_looked}
 use Rattle.dm_deques.specs.Deques.{TallyValue}
 use Rattle.dm_deques.specs.Sharing.{deque_of, settling, settling_each}
-use Rattle.dm_ways.specs.Ways.{paths_on, on_way, StandApart}
+use Rattle.dm_workers.specs.Ways.{paths_on, on_way, StandApart}
 use Rattle.dm_workers.specs.Nodes.{GuidedTask}
 use Rattle.dm_workers.specs.Found.{IsHandedIn, AreKept}
 use Rattle.dm_workers.specs.Inside.Working.{Path, taken_on, AreListed, IsAtWork, nothing}

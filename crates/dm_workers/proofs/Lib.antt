@@ -1,3 +1,5 @@
+pub mod Ways
+pub mod Growing
 pub mod Efforts
 pub mod Gathered
 pub mod Outcomes

@@ -22,8 +22,8 @@ use Rattle.dm_search.proofs.Beside.{beside_is_task, differences_beside}
 use Rattle.dm_search.proofs.Finding.{free_is_ordered}
 use Rattle.dm_search.proofs.Leaves.{violated_is_undecided, path_goes_on}
 use Rattle.dm_search.proofs.Optimal.{allowed_there}
-use Rattle.dm_ways.specs.Ways.{IsStep}
-use Rattle.dm_ways.proofs.Ways.{goes_further}
+use Rattle.dm_workers.specs.Ways.{IsStep}
+use Rattle.dm_workers.proofs.Ways.{goes_further}
 use Rattle.dm_workers.specs.Nodes.{GuidedTask, branching_at, IsChosen, IsNode}
 use Rattle.dm_workers.specs.Found.{AreKept}
 

@@ -18,8 +18,8 @@ use Rattle.dm_guide.specs.Posed.{task_beside, IsPosed}
 use Rattle.dm_tree.specs.Trees.{IsLeaf, StandsAt, Assembles, HaveNoTree}
 use Rattle.dm_tree.proofs.Shown.{one_least}
 use Rattle.dm_search.specs.Finish.{IsKnown, IsStart, GoesOnFrom}
-use Rattle.dm_ways.specs.Ways.{GoesDown, StandApart}
-use Rattle.dm_ways.proofs.Growing.{IsTreeOf, tree_of}
+use Rattle.dm_workers.specs.Ways.{GoesDown, StandApart}
+use Rattle.dm_workers.proofs.Growing.{IsTreeOf, tree_of}
 use Rattle.dm_workers.specs.Nodes.{GuidedTask, IsChosen}
 use Rattle.dm_workers.specs.Found.{IsShown, IsEnd, IsHandedIn, AreKept, BeginsFrom, GrowsFrom}
 use Rattle.dm_workers.proofs.Outcomes.{one_chosen, chosen_is_ordered}

@@ -6,7 +6,7 @@ use Rattle.atomic_blocks.specs.Lent.{RowsId}
 use Rattle.dm_deques.specs.Deques.{TallyValue, having_taken}
 use Rattle.dm_deques.specs.Sharing.{deque_of}
 use Rattle.dm_evaluate.specs.Evaluator.{EvaluatorValue}
-use Rattle.dm_ways.specs.Ways.{on_way, paths_on}
+use Rattle.dm_workers.specs.Ways.{on_way, paths_on}
 use Rattle.dm_workers.specs.declared.working.Worker.{Worker}
 use Rattle.dm_workers.specs.Inside.Working.{Path}
 use Rattle.dm_workers.specs.Inside.Workers.{HasStolen, HasTaken, HasFoundNone, IsSameWorker}

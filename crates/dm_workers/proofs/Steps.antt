@@ -16,7 +16,7 @@ use Rattle.dm_guide.specs.Posed.{task_beside, IsPosed}
 use Rattle.dm_bound.specs.Words.{HandValue, nothing_looked}
 use Rattle.dm_search.specs.declared.steps.Outcome.{Outcome}
 use Rattle.dm_search.specs.declared.steps.Outcome.TheVariants.{Cycle as CycleFound, Pruned, Solved, Branch}
-use Rattle.dm_ways.specs.Ways.{on_way}
+use Rattle.dm_workers.specs.Ways.{on_way}
 use Rattle.dm_workers.specs.declared.working.Worker.{Worker}
 use Rattle.dm_workers.specs.Nodes.{GuidedTask, branching_at, IsChosen, IsNode}
 use Rattle.dm_workers.specs.Expanding.{IsSeenBy, having_looked, limit_of}

@@ -12,7 +12,7 @@ use Rattle.dm_tree.specs.Trees.{Assembles}
 use Rattle.dm_bound.specs.Words.{nothing_looked}
 use Rattle.dm_deques.specs.Deques.{TallyValue}
 use Rattle.dm_search.specs.Finish.{GoesOnFrom}
-use Rattle.dm_ways.specs.Ways.{GoesDown, StandApart}
+use Rattle.dm_workers.specs.Ways.{GoesDown, StandApart}
 use Rattle.dm_workers.specs.Nodes.{GuidedTask, IsChosen}
 
 -- what the rows cost by themselves

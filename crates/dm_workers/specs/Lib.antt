@@ -1,4 +1,5 @@
--- What a reader must believe: Nodes, Expanding, Found. What a worker has done and what is gathered: Inside.
+-- What a reader must believe: Ways, Nodes, Expanding, Found. What a worker has done and what is gathered: Inside.
+pub mod Ways
 pub mod Nodes
 pub mod Expanding
 pub mod Found

@@ -9,7 +9,7 @@ use Rattle.dm_guide.specs.declared.tasks.Task.{Task as PosedTask}
 use Rattle.dm_guide.specs.declared.tree.Guide.{Guide}
 use Rattle.dm_guide.specs.declared.tree.Hint.{Hint}
 use Rattle.dm_guide.specs.Tasks.{task_of}
-use Rattle.dm_ways.specs.Ways.{GoesDown}
+use Rattle.dm_workers.specs.Ways.{GoesDown}
 
 -- a task, and the nodes of a guide's tree
 pub record GuidedTask : Type 0 where

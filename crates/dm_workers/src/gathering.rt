@@ -5,7 +5,7 @@ ghost use Rattle.atomic_blocks.specs.Lent.{RowsId};
 ghost use Rattle.dm_deques.specs.Sharing.{deque_of};
 ghost use Rattle.dm_search.specs.Moving.{IsOver};
 ghost use Rattle.dm_tree.specs.Plans.{Task};
-ghost use Rattle.dm_ways.specs.Ways.{paths_on};
+ghost use Rattle.dm_workers.specs.Ways.{paths_on};
 ghost use Rattle.dm_workers.specs.Nodes.{GuidedTask};
 ghost use Rattle.dm_workers.specs.Found.{IsDrained};
 ghost use Rattle.dm_workers.specs.Inside.Working.{nothing};

@@ -1,8 +1,7 @@
 //! Plans searched by several workers, in threads of their own.
 //!
 //! It stands on dm_search for one step of a search and for what makes a true plan of a tree and choices, on dm_guide for
-//! searchers that look for a guide, on dm_deques for the deques from which the workers steal, and on dm_ways for the tree that
-//! their leaves make.
+//! searchers that look for a guide, and on dm_deques for the deques from which the workers steal.
 //!
 //! # What is promised
 //!

@@ -7,7 +7,7 @@ ghost use Rattle.dm_search.specs.Moving.{IsOver};
 ghost use Rattle.dm_tree.specs.Plans.{Task as PlanTask};
 ghost use Rattle.dm_deques.specs.Rule.{WasEmpty};
 ghost use Rattle.dm_deques.specs.Sharing.{deque_of};
-ghost use Rattle.dm_ways.specs.Ways.{on_way};
+ghost use Rattle.dm_workers.specs.Ways.{on_way};
 ghost use Rattle.dm_workers.specs.Nodes.{guided_by, IsNode, PicksNodes};
 ghost use Rattle.dm_workers.specs.Inside.Workers.{IsWorking, HasTaken, HasStolen, HasFoundNone, IsHandedTo, IsBetterOf, HasBranched, IsSameWorker, IsNewWorker, IsDone};
 ghost use Rattle.dm_workers.specs.Found.{IsOwnCost};

@@ -5,7 +5,7 @@ use Rattle.atomic_blocks.specs.Lent.{RowsId}
 use Rattle.dm_bound.specs.Words.{HandValue, nothing_looked}
 use Rattle.dm_deques.specs.Sharing.{deque_of}
 use Rattle.dm_search.specs.Moving.{IsOver}
-use Rattle.dm_ways.specs.Ways.{paths_on}
+use Rattle.dm_workers.specs.Ways.{paths_on}
 use Rattle.dm_workers.specs.declared.working.Worker.{Worker}
 use Rattle.dm_workers.specs.declared.gathering.Gathered.{Gathered}
 use Rattle.dm_workers.specs.Nodes.{GuidedTask}

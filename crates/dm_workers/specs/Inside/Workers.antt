@@ -11,7 +11,7 @@ use Rattle.dm_search.specs.Moving.{IsOver}
 use Rattle.dm_deques.specs.Deques.{TallyValue, having_put}
 use Rattle.dm_deques.specs.Sharing.{deque_of, new_tally}
 use Rattle.dm_deques.specs.Rule.{WasEmpty}
-use Rattle.dm_ways.specs.Ways.{on_way, paths_on}
+use Rattle.dm_workers.specs.Ways.{on_way, paths_on}
 use Rattle.dm_workers.specs.Nodes.{GuidedTask}
 use Rattle.dm_workers.specs.declared.working.Worker.{Worker}
 use Rattle.dm_workers.specs.Inside.Working.{Path, taken_on, IsAtWork, nothing}

@@ -5,7 +5,7 @@ use Rattle.dm_rows.specs.declared.messages.Decision.{Decision}
 use Rattle.dm_tree.specs.declared.forms.Leaf.{Leaf}
 use Rattle.dm_bound.specs.Words.{HandValue, nothing_looked}
 use Rattle.dm_deques.specs.Deques.{TallyValue}
-use Rattle.dm_ways.specs.Ways.{paths_on, leaves_on}
+use Rattle.dm_workers.specs.Ways.{paths_on, leaves_on}
 use Rattle.dm_workers.specs.Nodes.{GuidedTask}
 use Rattle.dm_workers.specs.Found.{IsHandedIn, AreKept}
 

@@ -1,5 +1,5 @@
 use Rattle.std.proofs.Common.{sym, subst}
-use Rattle.dm_ways.specs.Ways.{on_way}
+use Rattle.dm_workers.specs.Ways.{on_way}
 use Rattle.dm_workers.specs.Found.{IsDrained}
 use Rattle.dm_workers.proofs.Enlisted.{drained}
 use Rattle.dm_workers.proofs.gathering.check_one.Goals as goal

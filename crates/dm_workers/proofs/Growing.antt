@@ -13,8 +13,8 @@ use Rattle.dm_tree.specs.declared.forms.Leaf.{Leaf}
 use Rattle.dm_tree.specs.declared.forms.Node.{Node}
 use Rattle.dm_tree.specs.declared.forms.Node.TheVariants.{Inner, Cycle, Bound, Open, Hole}
 use Rattle.dm_tree.specs.Trees.{Shape, leaf, branch, IsLeaf, IsProper, StandsAt, HasLeaves}
-use Rattle.dm_ways.specs.Ways.{IsStep, GoesDown, on_way, leaves_on, StandApart}
-use Rattle.dm_ways.proofs.Ways.{first_is_first, second_is_not, sides_of, step_weight, own_way, two_places}
+use Rattle.dm_workers.specs.Ways.{IsStep, GoesDown, on_way, leaves_on, StandApart}
+use Rattle.dm_workers.proofs.Ways.{first_is_first, second_is_not, sides_of, step_weight, own_way, two_places}
 
 abbrev at_path : List Decision → Node → Leaf
 at_path path n = record { path = path; node = n }

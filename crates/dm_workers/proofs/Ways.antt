@@ -9,7 +9,7 @@ use Rattle.dm_rows.specs.declared.messages.Choice.TheVariants.{Change, Pair}
 use Rattle.dm_rows.specs.declared.messages.Decision.{Decision}
 use Rattle.dm_rows.specs.Sides.{first_decision, second_decision, is_first_decision, IsOrdered}
 use Rattle.dm_tree.specs.declared.forms.Leaf.{Leaf}
-use Rattle.dm_ways.specs.Ways.{IsStep, GoesDown, on_way, leaves_on}
+use Rattle.dm_workers.specs.Ways.{IsStep, GoesDown, on_way, leaves_on}
 
 pub first_is_first : (c : Choice) → IsOrdered c → is_first_decision (first_decision c) ≡ true
 first_is_first (Change a) o = refl

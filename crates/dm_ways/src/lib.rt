@@ -1,2 +1,0 @@
-//! Ways down a tree of chosen choices, and the trees that leaves at their ends make.
-#![tactic(auto)]
