@@ -1,5 +1,5 @@
--- An order that lets all activities go, and takes up those that constraints hold.
-use Rattle.std.proofs.Common.{◌≡◌, ℕ, ◌+◌, ◌<◌, true, false, List, [], ◌∷◌, length, refl, sym, ap, ◌∙◌, inl, inr, arith}
+-- An order that lets go of what constraints do not hold, and takes up what they hold besides.
+use Rattle.std.proofs.Common.{◌≡◌, ℕ, ◌+◌, ◌<◌, Bool, true, false, List, [], ◌∷◌, length, refl, sym, ap, ◌∙◌, inl, inr, arith}
 use Rattle.std.proofs.lemmas.Bool.{cases_eq, cases_lt}
 use Rattle.dm_graph.proofs.Transfers.{cycle_carries}
 use Rattle.dm_network.specs.Net.{Net}
@@ -8,24 +8,42 @@ use Rattle.dm_order.specs.Value.{OrderValue}
 use Rattle.dm_order.specs.Orders.{IsOrderOf, held_with, held_without}
 use Rattle.dm_settle.specs.Constraints.{ConstraintsValue}
 use Rattle.dm_live.specs.Live.{HasHeldCycle}
-use Rattle.dm_live.specs.Inside.Aligning.{HoldsNoneBefore, HoldsAlikeBefore}
+use Rattle.dm_live.specs.Inside.Aligning.{HoldsNoOthersBefore, HoldsAlikeBefore}
 use Rattle.dm_live.proofs.Ordering.{one_with, others_with, one_without, others_without}
 
-pub none_first : (net : Net) (order : OrderValue) → IsOrderOf net order → HoldsNoneBefore net order 0
-none_first net order ordered = record { ordered = ordered; none = λ b lt. absurd (omega arith) }
+-- two flags of which each implies the other
+both : (x y : Bool) → (x ≡ true → y ≡ true) → (y ≡ true → x ≡ true) → x ≡ y
+both true y to from = sym (to refl)
+both false true to from = from refl
+both false false to from = refl
 
-pub none_next : (net : Net) (order now : OrderValue) (a : ℕ) → HoldsNoneBefore net order a →
-    ((n : Net) → IsOrderOf n order → IsOrderOf n now) → ((b : ℕ) → is_held now.held b ≡ held_without order.held (a ∷ []) b) → HoldsNoneBefore net now (a + 1)
-none_next net order now a had ordered held = record {
-  ordered = ordered net had.ordered;
-  none = λ b lt. elim (cases_eq b a) [
-    | inl is ↦ held b ∙ one_without order.held a b is
-    | inr ne ↦ held b ∙ others_without order.held a b ne ∙ had.none b (omega arith)
-  ];
-}
+pub no_others_first : (net : Net) (order : OrderValue) (given : ConstraintsValue) → IsOrderOf net order → HoldsNoOthersBefore net order given 0
+no_others_first net order given ordered = record { ordered = ordered; fewer = λ b lt. absurd (omega arith) }
 
-pub alike_first : (net : Net) (order : OrderValue) (given : ConstraintsValue) → HoldsNoneBefore net order (length net.activities) → HoldsAlikeBefore net order given 0
-alike_first net order given none = record { ordered = none.ordered; before = λ b lt. absurd (omega arith); behind = λ b past lt. none.none b lt }
+module _ (net : Net) (order : OrderValue) (given : ConstraintsValue) (a : ℕ) (had : HoldsNoOthersBefore net order given a) where
+  -- the activity is let go
+  pub no_others_without : (now : OrderValue) → ((n : Net) → IsOrderOf n order → IsOrderOf n now) → ((b : ℕ) → is_held now.held b ≡ held_without order.held (a ∷ []) b) →
+      HoldsNoOthersBefore net now given (a + 1)
+  no_others_without now ordered held = record {
+    ordered = ordered net had.ordered;
+    fewer = λ b lt on. elim (cases_eq b a) [
+      | inl is ↦ let off : is_held now.held b ≡ false = held b ∙ one_without order.held a b is in absurd cc
+      | inr ne ↦ had.fewer b (omega arith) (sym (others_without order.held a b ne) ∙ sym (held b) ∙ on)
+    ];
+  }
+
+  -- the activity is not held, or the constraints hold it
+  pub no_others_with : (is_held order.held a ≡ true → is_held given.held a ≡ true) → HoldsNoOthersBefore net order given (a + 1)
+  no_others_with one = record {
+    ordered = had.ordered;
+    fewer = λ b lt on. elim (cases_eq b a) [
+      | inl is ↦ ap (is_held given.held) is ∙ one (ap (is_held order.held) (sym is) ∙ on)
+      | inr ne ↦ had.fewer b (omega arith) on
+    ];
+  }
+
+pub alike_first : (net : Net) (order : OrderValue) (given : ConstraintsValue) → HoldsNoOthersBefore net order given (length net.activities) → HoldsAlikeBefore net order given 0
+alike_first net order given others = record { ordered = others.ordered; before = λ b lt. absurd (omega arith); behind = λ b past lt. others.fewer b lt }
 
 module _ (net : Net) (order : OrderValue) (given : ConstraintsValue) (a : ℕ) (lt : a < length net.activities) (had : HoldsAlikeBefore net order given a) where
   pub alike_with : (now : OrderValue) → is_held given.held a ≡ true → IsOrderOf net now →
@@ -36,14 +54,15 @@ module _ (net : Net) (order : OrderValue) (given : ConstraintsValue) (a : ℕ) (
       | inl is ↦ held b ∙ one_with order.held a b is ∙ sym holds ∙ ap (is_held given.held) (sym is)
       | inr ne ↦ held b ∙ others_with order.held a b ne ∙ had.before b (omega arith)
     ];
-    behind = λ b past below. held b ∙ others_with order.held a b (λ is. absurd (omega arith)) ∙ had.behind b (omega arith) below;
+    behind = λ b past below on. had.behind b (omega arith) below (sym (others_with order.held a b (λ is. absurd (omega arith))) ∙ sym (held b) ∙ on);
   }
 
-  pub alike_without : is_held given.held a ≡ false → HoldsAlikeBefore net order given (a + 1)
-  alike_without free = record {
+  -- both hold the activity, or neither
+  pub alike_without : (is_held given.held a ≡ true → is_held order.held a ≡ true) → HoldsAlikeBefore net order given (a + 1)
+  alike_without one = record {
     ordered = had.ordered;
     before = λ b below. elim (cases_eq b a) [
-      | inl is ↦ had.behind b (omega arith) (omega arith) ∙ sym free ∙ ap (is_held given.held) (sym is)
+      | inl is ↦ ap (is_held order.held) is ∙ both (is_held order.held a) (is_held given.held a) (had.behind a (omega arith) lt) one ∙ ap (is_held given.held) (sym is)
       | inr ne ↦ had.before b (omega arith)
     ];
     behind = λ b past below. had.behind b (omega arith) below;
@@ -56,7 +75,7 @@ module _ (net : Net) (order : OrderValue) (given : ConstraintsValue) (a : ℕ) (
         let was : is_held order.held b ≡ true = sym (others_with order.held a b ne) ∙ with_a in
         elim (cases_lt b a) [
           | inl earlier ↦ sym (had.before b earlier) ∙ was
-          | inr past ↦ let none : is_held order.held b ≡ false = had.behind b (omega arith) below in absurd cc
+          | inr past ↦ had.behind b (omega arith) below was
         ]
   ]
 

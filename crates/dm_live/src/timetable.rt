@@ -69,8 +69,9 @@ impl Model for LiveTimetable {
 }
 
 impl LiveTimetable {
-    /// The timetable of these constraints, with the room of an order of the same network, which may hold other activities:
-    /// those that go forward in it cost a look each. Every event is marked: [`LiveTimetable::settle_watched`] computes the times.
+    /// The timetable of these constraints, with the room of an order of the same network, which may hold other activities: it is
+    /// changed where the two differ, and what both hold costs a look. Every event is marked:
+    /// [`LiveTimetable::settle_watched`] computes the times.
     ///
     /// [`OrderFault::Cyclic`] comes exactly where the activities that the constraints hold have a cycle, unless memory is
     /// short: then [`OrderFault::OutOfMemory`].

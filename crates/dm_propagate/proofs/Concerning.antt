@@ -4,7 +4,7 @@ use Rattle.std.specs.Prelude.{◌↔◌, slice_set, slice_get, is_some, unwrap_o
 use Rattle.std.proofs.lemmas.Bool.{cases_eq}
 use Rattle.dm_network.specs.Net.{Net, event_at, activity_at, pair_at}
 use Rattle.dm_network.specs.Pairs.{IsPaired}
-use Rattle.dm_rows.specs.Active.{has_passed, is_active, IsCycle}
+use Rattle.dm_rows.specs.Active.{is_active, IsCycle}
 use Rattle.dm_rows.specs.Resolve.{after_change, after_flip}
 use Rattle.dm_rows.specs.Rows.{RowsValue, passed_at}
 use Rattle.dm_rows.specs.Timetable.{planned_time, floor_of, span_of}

@@ -1,5 +1,5 @@
 -- A delay leaves the floor of an event that has passed.
-use Rattle.std.proofs.Common.{◌≡◌, ℕ, ◌<◌, true, length, sym, subst, ◌∙◌, inl, inr, arith, slice_index}
+use Rattle.std.proofs.Common.{◌≡◌, ℕ, ◌<◌, true, length, sym, subst, inl, inr, arith, slice_index}
 use Rattle.dm_network.specs.Net.{Net}
 use Rattle.dm_live.specs.Live.{is_fixed}
 use Rattle.dm_rows.specs.Reach.{Reaches}

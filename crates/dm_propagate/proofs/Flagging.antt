@@ -15,7 +15,7 @@ use Rattle.dm_live.specs.Live.{is_fixed}
 use Rattle.dm_priced.specs.Priced.{PricedValue, is_flagged}
 use Rattle.dm_propagate.specs.Inside.Concern.{IsOfOneBefore}
 use Rattle.dm_propagate.specs.Inside.Turning.{IsAmong, IsOnly}
-use Rattle.dm_propagate.specs.Inside.Flags.{FlagsValue, flags_of, AreFlagsOf, FixesPassed, FixesNoOther, FixesNoOtherBut, MovesPass, IsNamed, LeadsInto, MovesCharge, AreFlagsBut, Charges, SetsFlagsAt, SetsFlagsBy, HasFlagsTo}
+use Rattle.dm_propagate.specs.Inside.Flags.{FlagsValue, flags_of, AreFlagsOf, FixesPassed, FixesNoOther, FixesNoOtherBut, MovesPass, IsNamed, LeadsInto, MovesCharge, AreFlagsBut, Charges, SetsFlagsAt, SetsFlagsBy}
 use Rattle.dm_propagate.proofs.HeldLemmas.{among_next, set_on, set_off}
 use Rattle.dm_propagate.proofs.Around.{by_flips, into_is_listed}
 use Rattle.dm_propagate.proofs.Concerning.{decided_later}
@@ -105,19 +105,6 @@ module _ (net : Net) (rows : RowsValue) where
       Charges net rows (IsOfOneBefore IsNamed flips (n + 1)) one three
   next_flip_charged flips n flip there one two three f s =
       charges_then (IsOfOneBefore IsNamed flips n) (IsNamed flip) (IsOfOneBefore IsNamed flips (n + 1)) one two three (by_flips IsNamed flips n flip there) f s
-
-  pub next_flags : (n : ℕ) (before after : FlagsValue) → n < length before.passed → HasFlagsTo net rows n before →
-      SetsFlagsAt net rows n before after → HasFlagsTo net rows (n + 1) after
-  next_flags n before after below has sets = record {
-    passed = λ i lt. ap (λ (fs : List Bool). is_flagged fs i) sets.passed ∙ elim (cases_eq i n) [
-      | inl same ↦ set_on before.passed n i (has_passed rows n) same below ∙ ap (has_passed rows) (sym same)
-      | inr other ↦ set_off before.passed n i (has_passed rows n) other ∙ has.passed i (omega arith)
-    ];
-    charged = λ a lt head. sets.charged a lt (elim (cases_eq (activity_at net a).head n) [
-      | inl same ↦ inr same
-      | inr other ↦ inl (has.charged a lt (omega arith))
-    ]);
-  }
 
   -- flags that are right but for what a change concerns, and that are set there
   pub none_concerned : (change : Change) (flags : FlagsValue) → ((i : ℕ) → MovesPass change i → ⊥) → ((a : ℕ) → MovesCharge net change a → ⊥) →

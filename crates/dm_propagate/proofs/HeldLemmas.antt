@@ -10,7 +10,7 @@ use Rattle.dm_settle.specs.Constraints.{ConstraintsValue}
 use Rattle.dm_marks.specs.Marked.{is_marked}
 use Rattle.dm_marks.proofs.Marking.{marked_if}
 use Rattle.dm_live.specs.Live.{LiveValue, with_held, with_head}
-use Rattle.dm_propagate.specs.Inside.Turning.{IsAmong, IsBelow, IsOnly, KeepsNumbers, LetsGo, HoldsMore, TakesUp, IsRefused}
+use Rattle.dm_propagate.specs.Inside.Turning.{IsAmong, IsOnly, KeepsNumbers, LetsGo, HoldsMore, TakesUp, IsRefused}
 
 numbers_kept : (live : LiveValue) → KeepsNumbers live live
 numbers_kept live = record { floors = refl; spans = refl; times = refl }
@@ -32,9 +32,6 @@ among_next acts n b (k, lt, is) =
       | inl earlier ↦ inl (k, earlier, is)
       | inr past ↦ let here : k ≡ n = omega arith in inr (sym is ∙ ap (slice_index acts) here)
     ]
-
-below_next : (n b : ℕ) → IsBelow (n + 1) b → IsBelow n b ⊎ IsOnly n b
-below_next n b lt = elim (cases_lt b n) [ inl earlier ↦ inl earlier | inr past ↦ inr (omega arith) ]
 
 module _ (net : Net) (rows : RowsValue) where
   -- nothing is let go
@@ -127,13 +124,6 @@ module _ (net : Net) (rows : RowsValue) where
   next_taken_up acts n a one two three is f s =
       taken_up_then (IsAmong acts n) (IsOnly a) (IsAmong acts (n + 1)) one two three
       (λ b r. elim (among_next acts n b r) [ inl p ↦ inl p | inr q ↦ inr (q ∙ sym is) ]) f s
-
-  pub none_below_taken_up : (live : LiveValue) → TakesUp net rows (IsBelow 0) live live
-  none_below_taken_up live = taken_up_none (IsBelow 0) live (λ b lt active. absurd (omega arith))
-
-  pub next_below_taken_up : (n : ℕ) (one two three : LiveValue) → TakesUp net rows (IsBelow n) one two → TakesUp net rows (IsOnly n) two three →
-      TakesUp net rows (IsBelow (n + 1)) one three
-  next_below_taken_up n one two three f s = taken_up_then (IsBelow n) (IsOnly n) (IsBelow (n + 1)) one two three (below_next n) f s
 
   pub refused_after : (one two three : LiveValue) → HoldsMore net rows one two → IsRefused net rows two three → IsRefused net rows one three
   refused_after one two three f s = record {

@@ -12,4 +12,4 @@ pub mod Raising
 pub mod Reaching
 pub mod Turned
 pub mod Delays
-pub mod Placing
+pub mod Beginning

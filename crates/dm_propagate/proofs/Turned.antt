@@ -7,14 +7,14 @@ use Rattle.std.proofs.lemmas.Bool.{cases_eq, cases_Bool}
 use Rattle.dm_graph.proofs.Transfers.{cycle_carries}
 use Rattle.dm_network.specs.Net.{Net, activity_at}
 use Rattle.dm_network.specs.Held.{is_held, arcs_of}
-use Rattle.dm_rows.specs.Active.{is_active, active_arcs, IsCycle}
+use Rattle.dm_rows.specs.Active.{is_active, active_arcs}
 use Rattle.dm_rows.specs.Rows.{RowsValue, passed_at}
 use Rattle.dm_rows.specs.Touch.{IsActiveBetween}
 use Rattle.dm_rows.proofs.AsGraph.{head_is_free}
 use Rattle.dm_marks.specs.Marked.{is_marked}
 use Rattle.dm_live.specs.Live.{LiveValue, IsEnteredByNone}
 use Rattle.dm_propagate.specs.Inside.Concern.{LeadsAt}
-use Rattle.dm_propagate.specs.Inside.Turning.{IsBelow, Within, LetsGo, IsLetGoAt, HoldsMore, TakesUp, IsTakenUpAt, IsRefused}
+use Rattle.dm_propagate.specs.Inside.Turning.{Within, LetsGo, IsLetGoAt, HoldsMore, TakesUp, IsTakenUpAt, IsRefused}
 use Rattle.dm_propagate.specs.Inside.Changing.{HasPlace, HasPassed, Turns, IsTurnRefused}
 
 -- what is let go from a timetable is so from one that is the same
@@ -116,26 +116,6 @@ module _ (net : Net) (rows : RowsValue) (some : ℕ → Type 0) (before middle p
     either_way r _ _ _ ok err (λ taken. taken.held.numbers.floors) (λ refused. refused.held.numbers.floors),
     on_ok_weaker r (λ taken. taken.held.numbers.times) ok,
   )
-
--- all activities are let go and taken up as the rows have them
-module _ (net : Net) (rows : RowsValue) (before middle after : LiveValue) (gone : LetsGo net rows (IsBelow (length net.activities)) before middle) where
-  abbrev every : ℕ → Type 0
-  every a = Unit {0}
-
-  all_gone : LetsGo net rows (Within net every) before middle
-  all_gone = record { numbers = gone.numbers; cycle = gone.cycle; fewer = gone.fewer; kept = gone.kept; gone = λ b (lt, one). gone.gone b lt; marked = gone.marked }
-
-  pub held_as_active : TakesUp net rows (IsBelow (length net.activities)) middle after → (a : ℕ) → a < length net.activities →
-      is_held after.given.held a ≡ is_active net rows a
-  held_as_active taken =
-      let all : TakesUp net rows (Within net every) middle after = record { held = taken.held; cycle = taken.cycle; taken = λ b (lt, one). taken.taken b lt } in
-      let turns = turned net rows every before middle middle after all_gone refl refl refl all in
-      λ a lt. turns.held a lt (inr tt)
-
-  pub refused_by_cycle : IsRefused net rows middle after → IsCycle net rows after.order.cycle
-  refused_by_cycle refused =
-      let turn = turn_refused net rows every before middle middle after all_gone refl refl refl refused in
-      turn.cycle (λ a lt. inr tt)
 
 -- at an event that has passed
 module _ (net : Net) (rows : RowsValue) (i t : ℕ) (passed : passed_at rows i ≡ Some t) (before middle : LiveValue)

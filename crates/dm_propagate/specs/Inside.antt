@@ -1,5 +1,5 @@
 -- States of loops. Who believes what an engine promises need not read them.
-pub mod Sweeping
+pub mod Beginning
 pub mod Setting
 -- What a change concerns, and what is held and marked while it is made.
 pub mod Concern

@@ -6,29 +6,13 @@ ghost use Rattle.dm_rows.specs.Cost.{is_dropped_change};
 ghost use Rattle.dm_rows.specs.Reach.{ReachesFlip};
 ghost use Rattle.dm_priced.specs.Priced.{IsPriced};
 ghost use Rattle.dm_propagate.specs.Inside.Concern.{IsOfOneBefore};
-ghost use Rattle.dm_propagate.specs.Inside.Flags.{flags_of, AreFlagsOf, FixesPassed, Charges, IsNamed, SetsFlagsAt};
+ghost use Rattle.dm_propagate.specs.Inside.Flags.{flags_of, Charges, IsNamed, SetsFlagsAt};
 ghost use Rattle.dm_propagate.specs.Inside.Turning.{IsAmong, IsOnly};
 
 use crate::day::Day;
-use dm_base::{ActKind, Steps};
+use dm_base::ActKind;
 use dm_priced::PricedTimetable;
 use dm_rows::Flip;
-use std::sync::ledger::Ledger;
-
-/// Sets every flag to what the rows say.
-pub fn set_flags<L: Ledger>(priced: &mut PricedTimetable, day: &Day<'_>, steps: &mut Steps<L>)
-    requires priced { IsPriced day.now.net.now priced.old }
-    requires fixed { FixesPassed day.now.rows.now priced.old.live.fixed }
-    ensures priced { IsPriced day.now.net.now priced.new }
-    ensures live { priced.new.live ≡ priced.old.live }
-    ensures flags { AreFlagsOf day.now.net.now day.now.rows.now (flags_of priced.new) }
-{
-    day.net.sound();
-    for i in 0..day.net.events() {
-        let into = day.net.in_row(i, steps);
-        set_flags_at(priced, day, i, into);
-    }
-}
 
 /// Sets the flags of an event and of the activities into it, which are those of this row, to what the rows say.
 pub fn set_flags_at(priced: &mut PricedTimetable, day: &Day<'_>, event: usize, into: &[usize])
@@ -89,7 +73,7 @@ fn charge_one(priced: &mut PricedTimetable, day: &Day<'_>, a: usize)
 }
 
 /// Whether an activity is a dropped change whose head has not passed.
-fn is_dropped_change(day: &Day<'_>, a: usize) -> bool
+pub fn is_dropped_change(day: &Day<'_>, a: usize) -> bool
     requires is_activity { a < length day.now.net.now.activities }
     ensures { result ≡ is_dropped_change day.now.net.now day.now.rows.now a }
 {

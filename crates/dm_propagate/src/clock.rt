@@ -9,7 +9,6 @@ ghost use Rattle.dm_propagate.specs.Inside.Raising.{HaveFloorsBut, RaisesFloors}
 ghost use Rattle.dm_schedule.specs.Schedule.{IsScheduleOf};
 
 use crate::day::Day;
-use crate::sweeping::set_floors;
 use dm_base::Secs;
 use dm_priced::PricedTimetable;
 use dm_rows::floor_of;
@@ -37,6 +36,20 @@ pub fn move_clock(
     } else {
         let due = scheduled_before(schedule, clock);
         raise_floors(priced, day, clock, due);
+    }
+}
+
+/// Gives each event its floor by the rows.
+#[tactic(auto, using(crate::proofs::Flagging::flags_stay))]
+fn set_floors(priced: &mut PricedTimetable, day: &Day<'_>)
+    requires priced { IsPriced day.now.net.now priced.old }
+    requires stay { FloorsStay day.now.net.now day.now.rows.now priced.old.live.given priced.old.live.fixed }
+    ensures priced { IsPriced day.now.net.now priced.new }
+    ensures flags { flags_of priced.new ≡ flags_of priced.old }
+    ensures floors { HasFloors day.now.net.now day.now.rows.now (length day.now.net.now.events) priced.old.live priced.new.live }
+{
+    for i in 0..day.net.events() {
+        priced.set_floor(day.net, i, floor_of(day.net, day.rows, i));
     }
 }
 

@@ -30,13 +30,13 @@ mod charging;
 mod clock;
 mod day;
 mod engine;
+mod first_flags;
 mod held;
 pub mod laws;
 mod moving;
 mod noting;
 mod setting;
 mod starting;
-mod sweeping;
 mod turning;
 
 pub use engine::Engine;

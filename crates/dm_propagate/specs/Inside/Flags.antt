@@ -91,8 +91,3 @@ pub record SetsFlagsBy (net : Net) (rows : RowsValue) (flips : List Flip) (befor
   pub fixed : after.fixed ≡ before.fixed
   pub passed : after.passed ≡ before.passed
   pub charged : Charges net rows (IsOfOneBefore IsNamed flips (length flips)) before.charged after.charged
-
--- the first n events and the activities into them have the flags of the rows
-pub record HasFlagsTo (net : Net) (rows : RowsValue) (n : ℕ) (flags : FlagsValue) : Type 0 where
-  pub passed : (i : ℕ) → i < n → is_flagged flags.passed i ≡ has_passed rows i
-  pub charged : (a : ℕ) → a < length net.activities → (activity_at net a).head < n → is_flagged flags.charged a ≡ is_dropped_change net rows a

@@ -11,10 +11,6 @@ use Rattle.dm_live.specs.Live.{LiveValue}
 abbrev pub IsAmong : List ℕ → ℕ → ℕ → Type 0
 IsAmong acts n b = (k : ℕ) × (k < n) × (slice_index acts k ≡ b)
 
--- the place lies before n
-abbrev pub IsBelow : ℕ → ℕ → Type 0
-IsBelow n b = b < n
-
 abbrev pub IsOnly : ℕ → ℕ → Type 0
 IsOnly a b = b ≡ a
 

@@ -3,7 +3,6 @@ use Rattle.std.proofs.lemmas.Result.{on_ok_weaker}
 use Rattle.dm_rows.specs.Rows.{RowsValue}
 use Rattle.dm_propagate.specs.Inside.Altering.{change_in}
 use Rattle.dm_propagate.specs.Inside.Concern.{FollowsBut}
-use Rattle.dm_propagate.specs.Inside.Changing.{FollowsAt}
 use Rattle.dm_propagate.proofs.AtClock.{other_at_clock, rows_at_clock}
 use Rattle.dm_propagate.proofs.Concerning.{follows_but_after, follows_but_before}
 use Rattle.dm_propagate.specs.Inside.Flags.{flags_of, AreFlagsBut}

@@ -1,4 +1,4 @@
 use Rattle.dm_propagate.proofs.starting.priced_for.Given as goal
 
-abbrev pub ghosts-settle : goal.ghosts-settle
-ghosts-settle a = record { name = a.blank.name; parts = a.blank.parts }
+abbrev pub ghosts-flag : goal.ghosts-flag
+ghosts-flag a = record { name = a.blank.name; parts = a.blank.parts }

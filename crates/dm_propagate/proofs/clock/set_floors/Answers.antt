@@ -1,7 +1,7 @@
-use Rattle.std.proofs.Common.{◌≡◌, ◌<◌, length, sym, ap, ◌∙◌, arith}
+use Rattle.std.proofs.Common.{◌<◌, length, sym, ap, ◌∙◌, arith}
 use Rattle.dm_live.specs.Live.{is_fixed}
 use Rattle.dm_propagate.specs.Inside.Flags.{FlagsValue}
-use Rattle.dm_propagate.proofs.sweeping.set_floors.Goals as goal
+use Rattle.dm_propagate.proofs.clock.set_floors.Goals as goal
 
 pub set_floor-requires-clause-stays : goal.set_floor-requires-clause-stays
 set_floor-requires-clause-stays c = λ on.
