@@ -3,7 +3,8 @@
 //! It stands on dm_words and dm_lintim for what words and columns mean, on dm_input, which reads the files again, with the faults
 //! of dm_network and dm_rows, on dm_outside for the sink that it listens at, and on dm_base for limits and numbers. [`Listener`]
 //! passes on what is written, unchanged, and remembers what is worth a word; [`tell`] says it once the program has ended with its
-//! status, and [`tell_live`] once a server, or the text of a store, has. Nothing is promised of the words: that every call is safe and ends is proved.
+//! status, and [`tell_live`] once a server, or the text of a store, has. Nothing is promised of the words: that every call is safe
+//! and ends is proved.
 //!
 //! # What is promised
 //!

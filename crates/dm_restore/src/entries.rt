@@ -1,5 +1,5 @@
 //! The entries that items name as accepted, by their numbers.
-ghost use Rattle.std.specs.Prelude.{◌≡◌, ◌-◌, ◌<◌, ◌≤◌, ℕ, ◌^◌, false, [], List, length, IfOk, OnOk, Some};
+ghost use Rattle.std.specs.Prelude.{◌≡◌, ◌-◌, ◌<◌, ◌≤◌, ◌^◌, false, [], List, length, IfOk, OnOk, Some};
 ghost use Rattle.std.specs.Option.{option_copied};
 ghost use Rattle.dm_rows.specs.declared.messages.Entry.{Entry as AnEntry};
 ghost use Rattle.dm_cert.specs.Answers.{Setting, plan_after};

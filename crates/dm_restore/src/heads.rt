@@ -1,5 +1,5 @@
 //! The first block of a journal: what goes with its run.
-ghost use Rattle.std.specs.Prelude.{◌≡◌, ◌≤◌, IfOk, IfSome, codes};
+ghost use Rattle.std.specs.Prelude.{◌≡◌, ◌≤◌, IfOk, IfSome};
 ghost use Rattle.std.specs.Option.{option_map};
 ghost use Rattle.dm_cert.specs.Inside.PlanLines.{number_behind};
 ghost use Rattle.dm_outside.specs.Printing.{Prints};

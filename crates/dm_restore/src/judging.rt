@@ -3,11 +3,8 @@ ghost use Rattle.std.specs.Prelude.{◌≡◌, ◌≤◌, [], All, length, IfOk,
 ghost use Rattle.dm_cert.specs.declared.limits.TheConstants.{PLANS};
 ghost use Rattle.dm_cert.specs.Logs.{AreTrueLogs};
 ghost use Rattle.dm_cert.specs.RunTexts.{IsSpelledLog, run_text, FitsRun};
-ghost use Rattle.dm_cert.specs.Runs.{IsRunText};
 ghost use Rattle.dm_base.specs.declared.limits.TheConstants.{TEXT};
 ghost use Rattle.dm_outside.specs.Printing.{Puts};
-ghost use Rattle.dm_check.specs.FalseRecords.{IsVerdict};
-ghost use Rattle.dm_check.specs.Truth.{SaysGood};
 ghost use Rattle.dm_records.specs.Laws.{IsHeldLog};
 ghost use Rattle.dm_table.specs.Value.{IsTable};
 ghost use Rattle.dm_table_desk.specs.Tables.{setting_of};
