@@ -20,7 +20,7 @@ pub fn dive(alloc: Global, scout: &mut Scout<'_>, root: &Table) -> Result<bool, 
         let is_new = table.get(i).is_none();
         let gains = try_both(scout, i);
         if is_new {
-            table.set(i, gains);
+            let _before = table.set(i, gains);
             scores.look_at(scout, &table, i);
         } else if !decide_cheaper(scout, i, gains.first <= gains.second)? {
             return Ok(false);

@@ -4,6 +4,7 @@ use crate::choices::Side;
 use crate::scouting::Scout;
 use dm_base::Cost;
 use std::alloc::{AllocError, Global};
+use std::mem::replace;
 
 /// A gain that stands for no limit.
 const LIMIT: u64 = 1_152_921_504_606_846_976;
@@ -95,9 +96,11 @@ impl Table {
         }
     }
 
-    pub fn set(&mut self, i: usize, gains: Gains) {
-        if let Some(slot) = self.gains.get_mut(i) {
-            *slot = gains;
+    /// Enters the gains of a choice, and gives those before.
+    pub fn set(&mut self, i: usize, gains: Gains) -> Gains {
+        match self.gains.get_mut(i) {
+            Some(slot) => replace(slot, gains),
+            None => UNTRIED,
         }
     }
 }

@@ -34,11 +34,12 @@ pub struct Leaf {
     pub node: usize,
 }
 
-/// The gains of a choice that was tried.
+/// The gains of a choice that was tried, and those before.
 #[derive(Clone, Copy)]
 pub struct Change {
     pub number: usize,
     pub gains: Gains,
+    pub before: Gains,
 }
 
 /// A tree that grows, the gains of the choices, and the best choices that it has met.
@@ -55,12 +56,12 @@ pub struct Tree {
     /// How many nodes were expanded.
     pub expanded: u64,
 
-    /// How many nodes it had, and which of these were to be expanded, when the round began.
-    pub before: usize,
-    pub chosen: Vec<usize>,
-
-    /// The gains that have come since the round began, where another searcher is told of them.
+    /// How many nodes other searchers were told of, which leaves were expanded since, and the gains that have come since.
+    pub told: usize,
+    pub fresh: Vec<usize>,
     pub changes: Vec<Change>,
+
+    /// Whether there are other searchers.
     pub tells: bool,
 }
 
@@ -74,8 +75,8 @@ impl Drop for Tree {
             best: _,
             here: _,
             expanded: _,
-            before: _,
-            chosen: _,
+            told: _,
+            fresh: _,
             changes: _,
             tells: _,
         } = self;
@@ -103,8 +104,8 @@ impl Tree {
             },
             here: Vec::new(alloc),
             expanded: 0,
-            before: 0,
-            chosen: Vec::new(alloc),
+            told: 0,
+            fresh: Vec::new(alloc),
             changes: Vec::new(alloc),
             tells,
         })
@@ -385,12 +386,24 @@ impl Tree {
         number: usize,
         gains: Gains,
     ) -> Result<(), AllocError> {
-        self.table.set(number, gains);
+        let before = self.table.set(number, gains);
         self.scores.look_at(scout, &self.table, number);
-        if self.tells {
-            self.changes.push(Change { number, gains })?;
-        }
+        self.changes.push(Change {
+            number,
+            gains,
+            before,
+        })?;
         Ok(())
+    }
+
+    /// Forgets all gains but the first so many.
+    pub fn forget(&mut self, scout: &Scout<'_>, many: usize) {
+        for _ in many..self.changes.len() {
+            if let Some(change) = self.changes.pop() {
+                let _after = self.table.set(change.number, change.before);
+                self.scores.look_at(scout, &self.table, change.number);
+            }
+        }
     }
 
     /// The violated choice that promises most where no gain counts for more than a cap.
@@ -446,6 +459,17 @@ impl Tree {
         }
         way.reverse();
         Ok(way)
+    }
+
+    /// Goes up to one of the first so many nodes.
+    pub fn leave(&mut self, scout: &mut Scout<'_>, many: usize) -> Result<(), AllocError> {
+        for _ in 0..self.here.len() {
+            match self.here.last() {
+                Some(node) if *node >= many => self.go_up(scout)?,
+                _ => return Ok(()),
+            }
+        }
+        Ok(())
     }
 
     fn go_up(&mut self, scout: &mut Scout<'_>) -> Result<(), AllocError> {

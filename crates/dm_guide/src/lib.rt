@@ -16,8 +16,9 @@
 //! task's network, and has it try its part of the choices that are violated at the root; `violated` says how many choices are
 //! violated where it stands; `play` does its part of a round. Want of memory that it meets there ends the search.
 //!
-//! `Round`: what all searchers do at once, each its part: windows, kicks, or leaves of the tree to be expanded. All read it. How
-//! it is run is the caller's: `in_turn` has one searcher play after the other; in threads they may play at once.
+//! `Round`: what all searchers do at once: windows and kicks, of which each has its part, or leaves of the tree to be expanded,
+//! of which each takes parts that nobody has taken yet. All read it. How it is run is the caller's: `in_turn` has one searcher
+//! play after the other; in threads they may play at once.
 //!
 //! `Start`: where the search begins, a tree in preorder and choices with what they cost.
 //!
@@ -36,6 +37,7 @@ mod guiding;
 mod kicking;
 mod moving;
 mod noting;
+mod parts;
 mod places;
 mod rounds;
 mod scouting;

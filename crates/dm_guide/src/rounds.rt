@@ -1,11 +1,11 @@
 //! What several searchers do at once, each its part.
 
 use crate::choices::Side;
+use crate::parts::Leaves;
 use crate::searchers::Searcher;
-use crate::sharing::Leaves;
-use std::alloc::{AllocError, Global};
+use std::alloc::AllocError;
 
-/// What searchers do at once, each its part. All of them read it, and each changes nothing but itself.
+/// What searchers do at once. All of them read it, and each changes nothing but itself and the count of parts that were taken.
 pub struct Round {
     /// How many searchers have a part in it: all of them, or the first alone.
     pub(crate) parts: usize,
@@ -75,24 +75,4 @@ pub fn block<T>(list: &[T], place: usize, parts: usize) -> &[T] {
         .saturating_mul(place.saturating_add(1))
         .checked_div(parts);
     list.get(from.unwrap_or(0)..to.unwrap_or(0)).unwrap_or(&[])
-}
-
-/// How many blocks of a list each searcher is dealt.
-const BLOCKS: usize = 4;
-
-/// The part of a searcher where blocks of a list are dealt in turn.
-pub fn dealt(
-    alloc: Global,
-    list: &[usize],
-    place: usize,
-    parts: usize,
-) -> Result<Vec<usize>, AllocError> {
-    let mut all = Vec::new(alloc);
-    for k in 0..BLOCKS {
-        let next = k.saturating_mul(parts).saturating_add(place);
-        for i in block(list, next, parts.saturating_mul(BLOCKS)) {
-            all.push(*i)?;
-        }
-    }
-    Ok(all)
 }

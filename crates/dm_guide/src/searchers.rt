@@ -7,7 +7,8 @@ use crate::gaining::try_both;
 use crate::growing::Tree;
 use crate::kicking::Kicks;
 use crate::moving::Mover;
-use crate::rounds::{Round, Seeds, Work, block, dealt};
+use crate::parts::Part;
+use crate::rounds::{Round, Seeds, Work, block};
 use crate::scouting::Scout;
 use crate::tasks::Task;
 use dm_evaluate::Evaluator;
@@ -19,6 +20,9 @@ pub struct Searcher<'t> {
     pub(crate) scout: Scout<'t>,
     pub(crate) kicks: Kicks,
     pub(crate) tree: Tree,
+
+    /// The parts of the last round's leaves that it has expanded.
+    pub(crate) parts: Vec<Part>,
 
     /// Its place among all, the first being 0.
     place: usize,
@@ -34,6 +38,7 @@ impl Drop for Searcher<'_> {
             scout: _,
             kicks: _,
             tree: _,
+            parts: _,
             place: _,
             is_short: _,
         } = self;
@@ -76,6 +81,7 @@ impl<'t> Searcher<'t> {
             scout,
             kicks,
             tree,
+            parts: Vec::new(alloc),
             place,
             is_short: false,
         };
@@ -130,11 +136,11 @@ impl<'t> Searcher<'t> {
                 self.kicks.round(&mut self.scout, mine)
             }
             Work::Leaves(leaves) => {
-                let mine = dealt(self.alloc, &leaves.chosen, self.place, round.parts)?;
                 if self.place > 0 {
-                    self.tree.follow(&mut self.scout, leaves, &mine)?;
+                    self.tree.follow(&mut self.scout, &leaves.known)?;
                 }
-                self.tree.expand_part(&mut self.scout, leaves, &mine)
+                self.parts = self.tree.expand_parts(&mut self.scout, leaves)?;
+                Ok(())
             }
         }
     }

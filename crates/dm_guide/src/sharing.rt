@@ -1,6 +1,7 @@
 //! A tree that several searchers expand in rounds.
 
 use crate::growing::{Change, Grown, Leaf, Tree};
+use crate::parts::{Leaves, Part, Placed};
 use crate::places::{NOWHERE, Place};
 use crate::rounds::{Round, Work, play};
 use crate::scouting::Scout;
@@ -9,36 +10,17 @@ use crate::tree::{Found, Guide};
 use dm_base::Cost;
 use dm_tree::Node;
 use std::alloc::{AllocError, Global};
+use std::mem::replace;
 
-/// How many nodes for each searcher are expanded best first before the rounds, and how few are left for the last round.
+/// How many nodes are expanded best first before the rounds, and how few are left for the last round.
 const FIRST: u64 = 16;
 
-/// The leaves of a tree that are expanded in a round, in preorder, and what others than the first searcher know of the tree.
-pub struct Leaves {
-    pub chosen: Vec<usize>,
-
-    /// Below them is expanded what costs less than this.
-    pub limit: Cost,
-
-    /// How many nodes are expanded at most.
-    pub most: u64,
-    pub known: Known,
-}
-
-impl Drop for Leaves {
-    fn drop(self) {
-        let Leaves {
-            chosen: _,
-            limit: _,
-            most: _,
-            known: _,
-        } = self;
-    }
-}
+/// A round of fewer leaves than this is the first searcher's alone.
+const ALONE: usize = 64;
 
 /// What others than the first searcher are told of the tree.
 pub struct Known {
-    /// What has become of the leaves of the round before, and the nodes that have come since.
+    /// What has become of the leaves that were expanded since they were told last, and the nodes that have come since.
     expanded: Vec<Placed>,
     added: Vec<Grown>,
 
@@ -58,11 +40,15 @@ impl Drop for Known {
     }
 }
 
-/// A node, and its place.
-#[derive(Clone, Copy)]
-struct Placed {
-    place: usize,
-    node: Grown,
+impl Known {
+    fn nothing(alloc: Global) -> Known {
+        Known {
+            expanded: Vec::new(alloc),
+            added: Vec::new(alloc),
+            changes: Vec::new(alloc),
+            best: 0,
+        }
+    }
 }
 
 /// The tree of at most `budget` nodes that grows from the nodes of a tree in preorder, and the best choices that it meets. The
@@ -77,12 +63,11 @@ pub fn grow<'t, F: Fn(&Round, &mut Searcher<'t>, &mut [Searcher<'t>])>(
 ) -> Result<Guide, AllocError>
     requires { F.IsAlwaysCallable run.now }
 {
-    let few = FIRST.saturating_mul((others.len() as u64).saturating_add(1));
     first.tree.begin(&mut first.scout, nodes, best)?;
-    let many = few.min(first.tree.left(budget));
+    let many = FIRST.min(first.tree.left(budget));
     first.tree.expand_first(&mut first.scout, many)?;
     first.tree.note_table()?;
-    go_on(first, others, run, few, budget)?;
+    go_on(first, others, run, budget)?;
     first.tree.told(&first.scout)
 }
 
@@ -91,7 +76,6 @@ fn go_on<'t, F: Fn(&Round, &mut Searcher<'t>, &mut [Searcher<'t>])>(
     first: &mut Searcher<'t>,
     others: &mut [Searcher<'t>],
     run: &F,
-    few: u64,
     budget: u64,
 ) -> Result<(), AllocError>
     requires { F.IsAlwaysCallable run.now }
@@ -102,53 +86,80 @@ fn go_on<'t, F: Fn(&Round, &mut Searcher<'t>, &mut [Searcher<'t>])>(
         if left == 0 || open.is_empty() {
             return Ok(());
         }
-        let parts = others.len().saturating_add(1);
-        let many = if left <= few {
+        let many = if left <= FIRST {
             left
         } else {
-            many_of(first.tree.expanded(), left, parts)
+            many_of(first.tree.expanded(), left)
         };
-        let work = Work::Leaves(leaves_of(first, &open, many, left)?);
-        play(first, others, run, &Round { parts, work })?;
+        let round = round_of(first, others, &open, many, left)?;
+        play(first, others, run, &round)?;
         merge(first, others)?;
     }
     Ok(())
 }
 
-/// How many leaves a round before the last expands, where so many nodes were expanded and so many may still be: more where
-/// several searchers play, who are started anew for each round.
-fn many_of(expanded: u64, left: u64, parts: usize) -> u64 {
-    if parts > 1 {
-        left.saturating_sub(left / 4)
-            .min(expanded.saturating_mul(2))
-    } else {
-        (left / 2).min(expanded.saturating_add(1) / 2)
-    }
+/// How many leaves a round before the last expands, where so many nodes were expanded and so many may still be.
+fn many_of(expanded: u64, left: u64) -> u64 {
+    (left / 2).min(expanded.saturating_add(1) / 2)
 }
 
-/// The leaves of a round, so many, where so many nodes may still be expanded. In the last round nothing below them is.
-fn leaves_of(
+/// A round that expands so many leaves, where so many nodes may still be expanded. In the last round nothing below them is.
+fn round_of(
     first: &mut Searcher<'_>,
+    others: &[Searcher<'_>],
     open: &[Leaf],
     many: u64,
     left: u64,
-) -> Result<Leaves, AllocError> {
+) -> Result<Round, AllocError> {
     let chosen = cheapest(first.alloc, open, many.max(1))?;
-    let known = first.tree.known(&chosen.nodes)?;
-    Ok(Leaves {
-        chosen: chosen.nodes,
-        limit: if many < left { chosen.limit } else { 0 },
-        most: left,
-        known,
-    })
+    let limit = if many < left { chosen.limit } else { 0 };
+    let parts = if chosen.nodes.len() < ALONE {
+        1
+    } else {
+        others.len().saturating_add(1)
+    };
+    let known = first.tree.known(&chosen.nodes, parts > 1)?;
+    let work = Work::Leaves(Leaves::new(chosen.nodes, limit, left, known));
+    Ok(Round { parts, work })
 }
 
-/// Has the first searcher take in what the others have expanded, one after the other.
+/// Has the first searcher take in what all have expanded, one part after the other.
 fn merge<'t>(first: &mut Searcher<'t>, others: &mut [Searcher<'t>]) -> Result<(), AllocError> {
+    let before = first.tree.nodes.len();
+    let parts = all_parts(first, others)?;
+    for number in 0..parts.len() {
+        take_in(first, &parts, number, before)?;
+    }
+    Ok(())
+}
+
+/// The parts that the searchers have expanded.
+fn all_parts<'t>(
+    first: &mut Searcher<'t>,
+    others: &mut [Searcher<'t>],
+) -> Result<Vec<Part>, AllocError> {
+    let mut all = replace(&mut first.parts, Vec::new(first.alloc));
     for k in 0..others.len() {
         let other = &mut others[k];
-        let shift = first.tree.take_in(&first.scout, &other.tree)?;
-        other.tree.shift_here(shift);
+        let parts = replace(&mut other.parts, Vec::new(other.alloc));
+        for part in parts {
+            all.push(part)?;
+        }
+    }
+    Ok(all)
+}
+
+/// Has the first searcher take in the part of a number.
+fn take_in(
+    first: &mut Searcher<'_>,
+    parts: &[Part],
+    number: usize,
+    before: usize,
+) -> Result<(), AllocError> {
+    for part in parts {
+        if part.number == number {
+            first.tree.take_in(&first.scout, part, before)?;
+        }
     }
     Ok(())
 }
@@ -160,7 +171,11 @@ impl Tree {
             self.changes.clear();
             for number in 0..self.table.len() {
                 if let Some(gains) = self.table.get(number) {
-                    self.changes.push(Change { number, gains })?;
+                    self.changes.push(Change {
+                        number,
+                        gains,
+                        before: gains,
+                    })?;
                 }
             }
         }
@@ -168,75 +183,46 @@ impl Tree {
     }
 
     /// What others are to know of the tree when a round begins in which these leaves are expanded.
-    fn known(&mut self, chosen: &[usize]) -> Result<Known, AllocError> {
-        let known = Known {
-            expanded: self.expanded_before()?,
-            added: self.added()?,
-            changes: Vec::from_slice(self.alloc, &self.changes)?,
-            best: self.best.cost,
+    fn known(&mut self, chosen: &[usize], is_told: bool) -> Result<Known, AllocError> {
+        let known = if is_told {
+            self.news()?
+        } else {
+            Known::nothing(self.alloc)
         };
-        if self.tells {
-            self.before = self.nodes.len();
-            self.chosen = Vec::from_slice(self.alloc, chosen)?;
+        if is_told || !self.tells {
+            self.told = self.nodes.len();
+            self.fresh.clear();
             self.changes.clear();
+        }
+        for node in chosen {
+            self.fresh.push(*node)?;
         }
         Ok(known)
     }
 
-    /// The leaves of the round before, as they are now.
-    fn expanded_before(&self) -> Result<Vec<Placed>, AllocError> {
-        let mut all = Vec::new(self.alloc);
-        for place in &self.chosen {
-            if let Some(node) = self.nodes.get(*place) {
-                all.push(Placed {
-                    place: *place,
-                    node: *node,
-                })?;
-            }
-        }
-        Ok(all)
+    /// What has come since others were told last.
+    fn news(&self) -> Result<Known, AllocError> {
+        Ok(Known {
+            expanded: self.placed(&self.fresh)?,
+            added: self.nodes_from(self.told)?,
+            changes: Vec::from_slice(self.alloc, &self.changes)?,
+            best: self.best.cost,
+        })
     }
 
-    /// The nodes that have come since the round before began, where others are to know them.
-    fn added(&self) -> Result<Vec<Grown>, AllocError> {
-        match self.nodes.get(self.before..) {
-            Some(added) if self.tells => Vec::from_slice(self.alloc, added),
-            _ => Ok(Vec::new(self.alloc)),
-        }
-    }
-
-    /// Comes to know the tree as it is when a round begins, in which these leaves are expanded here.
-    pub fn follow(
-        &mut self,
-        scout: &mut Scout<'_>,
-        leaves: &Leaves,
-        mine: &[usize],
-    ) -> Result<(), AllocError> {
+    /// Comes to know the tree as it is when a round begins.
+    pub fn follow(&mut self, scout: &mut Scout<'_>, known: &Known) -> Result<(), AllocError> {
         if self.nodes.is_empty() {
             go_back(scout)?;
             scout.note_violated()?;
         }
-        self.take_nodes(&leaves.known)?;
-        self.chosen = Vec::from_slice(self.alloc, mine)?;
-        self.best.cost = leaves.known.best;
-        self.expanded = 0;
-        self.learn_all(scout, &leaves.known.changes)?;
-        self.changes.clear();
-        Ok(())
-    }
-
-    /// Drops its own nodes of the round before for those of all.
-    fn take_nodes(&mut self, known: &Known) -> Result<(), AllocError> {
-        self.nodes.truncate(self.before);
-        for placed in &known.expanded {
-            if let Some(slot) = self.nodes.get_mut(placed.place) {
-                *slot = placed.node;
-            }
-        }
+        self.place(&known.expanded);
         for node in &known.added {
             self.nodes.push(*node)?;
         }
-        self.before = self.nodes.len();
+        self.best.cost = known.best;
+        self.learn_all(scout, &known.changes)?;
+        self.changes.clear();
         Ok(())
     }
 
@@ -244,60 +230,11 @@ impl Tree {
     pub fn learn_of(&mut self, scout: &Scout<'_>, other: &Tree) -> Result<(), AllocError> {
         self.learn_all(scout, &other.changes)
     }
-
-    fn learn_all(&mut self, scout: &Scout<'_>, changes: &[Change]) -> Result<(), AllocError> {
-        for change in changes {
-            self.learn(scout, change.number, change.gains)?;
-        }
-        Ok(())
-    }
-
-    /// Expands these of the leaves of a round, and what is below them.
-    pub fn expand_part(
-        &mut self,
-        scout: &mut Scout<'_>,
-        leaves: &Leaves,
-        mine: &[usize],
-    ) -> Result<(), AllocError> {
-        let part = leaves.most.saturating_mul(mine.len() as u64);
-        let most = part.checked_div(leaves.chosen.len() as u64).unwrap_or(0);
-        self.expand_all(scout, mine, leaves.limit, most)
-    }
-
-    /// Takes in what another tree has expanded since the round began, and says by how much its new nodes move.
-    fn take_in(&mut self, scout: &Scout<'_>, other: &Tree) -> Result<usize, AllocError> {
-        let shift = self.nodes.len().saturating_sub(other.before);
-        for node in &other.chosen {
-            if let (Some(slot), Some(grown)) = (self.nodes.get_mut(*node), other.nodes.get(*node)) {
-                *slot = grown.shifted(other.before, shift);
-            }
-        }
-        for grown in other.nodes.get(other.before..).unwrap_or(&[]) {
-            self.nodes.push(grown.shifted(other.before, shift))?;
-        }
-        self.learn_all(scout, &other.changes)?;
-        self.expanded = self.expanded.saturating_add(other.expanded);
-        if other.best.cost < self.best.cost {
-            self.best = Found {
-                path: Vec::from_slice(self.alloc, &other.best.path)?,
-                cost: other.best.cost,
-            };
-        }
-        Ok(shift)
-    }
-
-    /// The new nodes of the way to where the scout stands have moved.
-    fn shift_here(&mut self, shift: usize) {
-        for k in 0..self.here.len() {
-            let moved = shifted(self.here[k], self.before, shift);
-            self.here[k] = moved;
-        }
-    }
 }
 
 impl Grown {
     /// The same where the nodes from a place on stand further behind.
-    fn shifted(&self, before: usize, shift: usize) -> Grown {
+    pub fn shifted(&self, before: usize, shift: usize) -> Grown {
         let mut grown = *self;
         grown.parent = Place::of(shifted(grown.parent.index(), before, shift));
         grown.below = match grown.below.get() {
