@@ -107,6 +107,3 @@ grows_on budget leaves partial tree b on = record {
   assembled = b.assembled;
   grows = λ few. subst (λ (ns : List Node). GoesOnFrom ns tree) (sym (b.begins few)) on;
 }
-
-pub no_dearer_than : (task : Task) (kept given : List Decision) (best cost : ℕ) → given ≡ kept → CostsWith task kept best → ((c : ℕ) → CostsWith task given c → cost ≤ c) → cost ≤ best
-no_dearer_than task kept given best cost is costs less = less best (subst (λ (ds : List Decision). CostsWith task ds best) (sym is) costs)

@@ -2,3 +2,4 @@ pub mod Working
 pub mod Workers
 pub mod Gathering
 pub mod Together
+pub mod Teams

@@ -6,8 +6,8 @@ ghost use Rattle.dm_rows.specs.Active.{HasNoCycle};
 ghost use Rattle.dm_search.specs.Moving.{IsOver};
 ghost use Rattle.dm_workers.specs.Nodes.{guided_by, PicksNodes};
 ghost use Rattle.dm_workers.specs.Found.{IsOwnCost, AreKept, IsFound, IsDrained};
-ghost use Rattle.dm_workers.specs.Inside.Workers.{IsNewWorker};
-ghost use Rattle.dm_workers.specs.Inside.Together.{AreHandedIn, AreDone, IsFirstHand};
+ghost use Rattle.dm_workers.specs.Inside.Teams.{IsNewIn, AreHandedInBy};
+ghost use Rattle.dm_workers.specs.Inside.Together.{AreDone, IsFirstHand};
 
 use crate::expanding::capped;
 use crate::gathering::{Gathered, check_empty, gather, nothing_gathered, settle_all};
@@ -109,9 +109,8 @@ fn work_all<F: Grown<Path> + Send + Sync, R: Threads + Wait + Sync, H: Hold + Sy
     requires picks { PicksNodes (guided_by team.now.task.now team.now.guide.now) F.fits }
     requires no_cycle { HasNoCycle team.now.task.now.net.now team.now.task.now.rows.now }
     requires own { IsOwnCost (task_of team.now.task.now) team.now.own }
-    requires new { All (IsNewWorker (task_of team.now.task.now) team.now.own team.now.word.now.id team.now.start team.now.thieves.now.items) crew.items }
-    ensures { IfOk result (λ worked. AreHandedIn (guided_by team.now.task.now team.now.guide.now) team.now.own team.now.word.now.id team.now.start
-        team.now.thieves.now.items crew.items worked.items) }
+    requires new { All (IsNewIn team.now) crew.items }
+    ensures { IfOk result (λ worked. AreHandedInBy team.now crew.items worked.items) }
 {
     thread::map_vec(rt, crew, &|worker: Worker<F>| worker.work(rt, team, gate))
 }
@@ -130,7 +129,8 @@ fn put_together<F: Grown<Path>>(
     requires hand { IsFirstHand own best.cost word.id hand }
     requires worked { AreDone (guided_by task.now guide.now) own word.id hand.start worked.items }
     requires rooms { hand.room + length worked.items ≡ word.seats }
-    ensures found { IfOk result (λ found. IsFound (guided_by task.now guide.now) own found.leaves.items found.best.choices found.best.cost) }
+    ensures found { IfOk result (λ found.
+        IsFound (guided_by task.now guide.now) own found.leaves.items found.best.choices found.best.cost) }
     ensures drained { IfOk result (λ found. All IsDrained found.owners.items) }
     ensures evaluator { IfOk result (λ found. IfSome found.evaluator (IsOver (task_of task.now))) }
 {

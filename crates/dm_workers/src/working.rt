@@ -9,7 +9,8 @@ ghost use Rattle.dm_deques.specs.Rule.{WasEmpty};
 ghost use Rattle.dm_deques.specs.Sharing.{deque_of};
 ghost use Rattle.dm_workers.specs.Ways.{on_way};
 ghost use Rattle.dm_workers.specs.Nodes.{guided_by, IsNode, PicksNodes};
-ghost use Rattle.dm_workers.specs.Inside.Workers.{IsWorking, HasTaken, HasStolen, HasFoundNone, IsHandedTo, IsBetterOf, HasBranched, IsSameWorker, IsNewWorker, IsDone};
+ghost use Rattle.dm_workers.specs.Inside.Workers.{HasTaken, HasStolen, HasFoundNone, IsHandedTo, IsBetterOf, HasBranched, IsSameWorker};
+ghost use Rattle.dm_workers.specs.Inside.Teams.{WorksIn, IsNewIn, IsDoneIn};
 ghost use Rattle.dm_workers.specs.Found.{IsOwnCost};
 ghost use Rattle.dm_workers.specs.Inside.Working.{nothing};
 
@@ -170,8 +171,8 @@ impl<F: Grown<Path>> Worker<F> {
         ensures evaluator { IsOver (task_of team.now.task.now) evaluator.new }
         ensures same { OnOk result (IsSameWorker self.old self.new) }
         ensures works { OnOk result ((given : List Bool → ℕ) (start : ℕ)
-            → IsWorking (guided_by team.now.task.now team.now.guide.now) team.now.own team.now.word.now.id start given (λ s. on_way s path) self.old
-            → IsWorking (guided_by team.now.task.now team.now.guide.now) team.now.own team.now.word.now.id start given nothing self.new) }
+            → WorksIn team.now start given (λ s. on_way s path) self.old
+            → WorksIn team.now start given nothing self.new) }
     {
         let task = team.task;
         task.net.sound();
@@ -231,8 +232,8 @@ impl<F: Grown<Path>> Worker<F> {
         ensures same { IfOk result (IsSameWorker self) }
         ensures empty { IfOk result (λ w. WasEmpty w.owner.account) }
         ensures works { IfOk result (λ w. (given : List Bool → ℕ) (start : ℕ)
-            → IsWorking (guided_by team.now.task.now team.now.guide.now) team.now.own team.now.word.now.id start given nothing self
-            → IsWorking (guided_by team.now.task.now team.now.guide.now) team.now.own team.now.word.now.id start given nothing w) }
+            → WorksIn team.now start given nothing self
+            → WorksIn team.now start given nothing w) }
     {
         let mut worker = self;
         let mut evaluator = made(team.task, worker.evaluator.take())?;
@@ -259,8 +260,8 @@ impl<F: Grown<Path>> Worker<F> {
         ensures same { OnOk result (IsSameWorker self.old self.new) }
         ensures empty { OnOk result (WasEmpty self.new.owner.account) }
         ensures works { OnOk result ((given : List Bool → ℕ) (start : ℕ)
-            → IsWorking (guided_by team.now.task.now team.now.guide.now) team.now.own team.now.word.now.id start given nothing self.old
-            → IsWorking (guided_by team.now.task.now team.now.guide.now) team.now.own team.now.word.now.id start given nothing self.new) }
+            → WorksIn team.now start given nothing self.old
+            → WorksIn team.now start given nothing self.new) }
     {
         if team.share == 0 {
             team.pace.spend();
@@ -302,8 +303,8 @@ impl<F: Grown<Path>> Worker<F> {
         ensures evaluator { IsOver (task_of team.now.task.now) evaluator.new }
         ensures same { OnOk result (IsSameWorker self.old self.new) }
         ensures works { OnOk result ((given : List Bool → ℕ) (start : ℕ)
-            → IsWorking (guided_by team.now.task.now team.now.guide.now) team.now.own team.now.word.now.id start given (λ s. on_way s path) self.old
-            → IsWorking (guided_by team.now.task.now team.now.guide.now) team.now.own team.now.word.now.id start given nothing self.new) }
+            → WorksIn team.now start given (λ s. on_way s path) self.old
+            → WorksIn team.now start given nothing self.new) }
     {
         if self.branched >= team.share || !team.pace.goes_on() {
             team.pace.done();
@@ -349,9 +350,8 @@ impl<F: Grown<Path>> Worker<F> {
         requires picks { PicksNodes (guided_by team.now.task.now team.now.guide.now) F.fits }
         requires no_cycle { HasNoCycle team.now.task.now.net.now team.now.task.now.rows.now }
         requires own { IsOwnCost (task_of team.now.task.now) team.now.own }
-        requires new { IsNewWorker (task_of team.now.task.now) team.now.own team.now.word.now.id team.now.start team.now.thieves.now.items self }
-        ensures { IfOk result (IsDone (guided_by team.now.task.now team.now.guide.now) team.now.own team.now.word.now.id team.now.start
-            team.now.thieves.now.items self) }
+        requires new { IsNewIn team.now self }
+        ensures { IfOk result (IsDoneIn team.now self) }
     {
         let who = self.who;
         gate.hold(who, STARTS);
@@ -373,9 +373,8 @@ impl<F: Grown<Path>> Worker<F> {
         requires picks { PicksNodes (guided_by team.now.task.now team.now.guide.now) F.fits }
         requires no_cycle { HasNoCycle team.now.task.now.net.now team.now.task.now.rows.now }
         requires own { IsOwnCost (task_of team.now.task.now) team.now.own }
-        requires new { IsNewWorker (task_of team.now.task.now) team.now.own team.now.word.now.id team.now.start team.now.thieves.now.items self }
-        ensures { IfOk result (IsDone (guided_by team.now.task.now team.now.guide.now) team.now.own team.now.word.now.id team.now.start
-            team.now.thieves.now.items self) }
+        requires new { IsNewIn team.now self }
+        ensures { IfOk result (IsDoneIn team.now self) }
     {
         match self.work_on(rt, team, gate) {
             Ok(done) => Ok(done),
