@@ -56,7 +56,7 @@ fn is_least(plan: &Plan) -> Result<(), Failure> {
     Ok(())
 }
 
-/// The same on a day whose plan is not known: it is a good one, and the same when it is searched again.
+/// The same on a day whose plan is not known: it is a good one, and the same when it is searched again, by one worker.
 pub fn late_day_is_planned<R: Threads + Wait + Sync + AllocGlobal>(
     rt: &R,
     workers: u32,
@@ -70,7 +70,7 @@ pub fn late_day_is_planned<R: Threads + Wait + Sync + AllocGlobal>(
     let plan = planned(rt, &net, &late, workers, DAY_BUDGET, &gate)?;
     gate.end(DAY_BUDGET / 2, DAY_BUDGET)?;
     is_good_plan(&plan, own, 0)?;
-    let again = planned(rt, &net, &late, workers, DAY_BUDGET, &OpenGate)?;
+    let again = planned(rt, &net, &late, 1, DAY_BUDGET, &OpenGate)?;
     is_same(&plan, &again)
 }
 
