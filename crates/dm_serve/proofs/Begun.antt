@@ -21,7 +21,7 @@ use Rattle.dm_watch.specs.Rounds.{book_in}
 use Rattle.dm_watch.specs.Settled.{HaveSettled}
 use Rattle.dm_watch.specs.declared.round.Watch.{Watch}
 use Rattle.dm_watch.proofs.Fronts.{book_of_itself}
-use Rattle.dm_serve.specs.Lives.{IsSafeFrom, IsTakenUp}
+use Rattle.dm_serve.specs.Lives.{IsLeft, IsSafeFrom, IsTakenUp}
 use Rattle.dm_serve.specs.Inside.Replies.{IsStarting, StopsRenewing}
 use Rattle.dm_serve.specs.Inside.Stages.{HasBegun, HasGone, StopsPutting}
 use Rattle.dm_serve.specs.Inside.Telling.{stop_of_commit, stop_of_read, stop_of_recover}
@@ -78,6 +78,7 @@ read_stops before now error.Full known failed some = absurd known
 read_stops before now error.NoJournal known failed some = absurd known
 read_stops before now error.OtherVersion known failed some = absurd known
 read_stops before now error.Broken known failed some = absurd known
+read_stops before now error.Unread known failed some = absurd known
 
 no_form : (n : ℕ) → why.Form n ≡ why.OutOfMemory → ⊥
 no_form n e = cc
@@ -91,29 +92,32 @@ module _ {S : Type 0} (tells : S → Type 0) (seen : S → List ℕ) (shown : S 
       → (contents : List (List ℕ)) (found : IsFound tells seen may_leave contents old) → refusal contents found.stands.end ≡ None → ⊥
   refused_so old e is contents found none = none_some (sym none ∙ is contents found)
 
-  pub recover_stops : (old new : S) (e : StoreError) → (e ≡ error.Failed → HasRisen (faults old) (faults new))
-      → ((contents : List (List ℕ)) (found : IsFound tells seen may_leave contents old) → IsJudged contents found.stands.end (Err e)) → StopsPutting tells seen may_leave faults old new (stop_of_recover e)
-  recover_stops old new error.OutOfMemory failed judged = tt
-  recover_stops old new error.Failed failed judged = failed refl
-  recover_stops old new error.Full failed judged = (no_form 1, refused_so old error.Full judged)
-  recover_stops old new error.NoJournal failed judged = (no_form 1, refused_so old error.NoJournal judged)
-  recover_stops old new error.OtherVersion failed judged = (no_form 1, refused_so old error.OtherVersion judged)
-  recover_stops old new error.Broken failed judged = (no_form 1, refused_so old error.Broken judged)
+  pub recover_stops : (old new : S) (e : StoreError) → (e ≡ error.Failed → HasRisen (faults old) (faults new)) → (e ≡ error.Unread → HasRisen (faults old) (faults new))
+      → (e ≡ error.Unread → (contents : List (List ℕ)) → IsFound tells seen may_leave contents old → IsLeft seen shown may_leave old new)
+      → ((contents : List (List ℕ)) (found : IsFound tells seen may_leave contents old) → IsJudged contents found.stands.end (Err e)) → StopsPutting tells seen shown may_leave faults old new (stop_of_recover e)
+  recover_stops old new error.OutOfMemory failed unread left judged = tt
+  recover_stops old new error.Failed failed unread left judged = failed refl
+  recover_stops old new error.Unread failed unread left judged = (unread refl, left refl)
+  recover_stops old new error.Full failed unread left judged = (no_form 1, refused_so old error.Full judged)
+  recover_stops old new error.NoJournal failed unread left judged = (no_form 1, refused_so old error.NoJournal judged)
+  recover_stops old new error.OtherVersion failed unread left judged = (no_form 1, refused_so old error.OtherVersion judged)
+  recover_stops old new error.Broken failed unread left judged = (no_form 1, refused_so old error.Broken judged)
 
-  pub commit_stops : (old new : S) (e : StoreError) → IsOfCommit e → (e ≡ error.Failed → HasRisen (faults old) (faults new)) → StopsPutting tells seen may_leave faults old new (stop_of_commit e)
+  pub commit_stops : (old new : S) (e : StoreError) → IsOfCommit e → (e ≡ error.Failed → HasRisen (faults old) (faults new)) → StopsPutting tells seen shown may_leave faults old new (stop_of_commit e)
   commit_stops old new error.OutOfMemory known failed = tt
   commit_stops old new error.Failed known failed = failed refl
   commit_stops old new error.Full known failed = tt
   commit_stops old new error.NoJournal known failed = absurd known
   commit_stops old new error.OtherVersion known failed = absurd known
   commit_stops old new error.Broken known failed = absurd known
+  commit_stops old new error.Unread known failed = absurd known
 
   -- a commit's stop, after a journal was recovered
-  pub commit_stops_later : (old mid new : S) (e : StoreError) → faults old ≤ faults mid → IsOfCommit e → (e ≡ error.Failed → HasRisen (faults mid) (faults new)) → StopsPutting tells seen may_leave faults old new (stop_of_commit e)
+  pub commit_stops_later : (old mid new : S) (e : StoreError) → faults old ≤ faults mid → IsOfCommit e → (e ≡ error.Failed → HasRisen (faults mid) (faults new)) → StopsPutting tells seen shown may_leave faults old new (stop_of_commit e)
   commit_stops_later old mid new e low known failed = commit_stops old new e known (λ is. risen_since (faults old) (faults mid) (faults new) low (failed is))
 
   -- a stop of reply files, after the journal was put right
-  pub renew_stops : {U : Type 0} (old mid new : S) (result : Result U StartStop) → faults old ≤ faults mid → IfErr result (StopsRenewing faults mid new) → IfErr result (StopsPutting tells seen may_leave faults old new)
+  pub renew_stops : {U : Type 0} (old mid new : S) (result : Result U StartStop) → faults old ≤ faults mid → IfErr result (StopsRenewing faults mid new) → IfErr result (StopsPutting tells seen shown may_leave faults old new)
   renew_stops old mid new (Ok u) low h = tt
   renew_stops old mid new (Err stop.OutOfMemory) low h = tt
   renew_stops old mid new (Err stop.Unread) low h = absurd h

@@ -39,6 +39,7 @@ module _ {S : Type 0} (tells : S → Type 0) (seen : S → List ℕ) (shown : S 
   stops_read old new error.NoJournal h = absurd h.known
   stops_read old new error.OtherVersion h = absurd h.known
   stops_read old new error.Broken h = absurd h.known
+  stops_read old new error.Unread h = absurd h.known
 
   module _ (old : S) (file : List ℕ) (is : tells old → file ≡ seen old) where
     found_in : (contents : List (List ℕ)) → IsFound tells seen may_leave contents old → Stands contents file

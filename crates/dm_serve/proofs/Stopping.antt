@@ -108,15 +108,15 @@ reading_reason tells seen shown may_leave faults s feeds old new (stop.Fault pla
 reading_reason tells seen shown may_leave faults s feeds old new (stop.Changed number line) few why = tt
 reading_reason tells seen shown may_leave faults s feeds old new stop.Failed few why = tt
 
-pub putting_reason : {S : Type 0} (tells : S → Type 0) (seen : S → List ℕ) (may_leave : S → Image → Type 0) (faults : S → ℕ) (old new : S) (stopped : StartStop)
-    → StopsPutting tells seen may_leave faults old new stopped → HasReason stopped
-putting_reason tells seen may_leave faults old new stop.OutOfMemory why = tt
-putting_reason tells seen may_leave faults old new stop.Unread why = tt
-putting_reason tells seen may_leave faults old new (stop.Refused reason) why = why.0
-putting_reason tells seen may_leave faults old new (stop.Reply place) why = absurd why
-putting_reason tells seen may_leave faults old new (stop.Fault place) why = tt
-putting_reason tells seen may_leave faults old new (stop.Changed number line) why = tt
-putting_reason tells seen may_leave faults old new stop.Failed why = tt
+pub putting_reason : {S : Type 0} (tells : S → Type 0) (seen : S → List ℕ) (shown : S → List (List ℕ)) (may_leave : S → Image → Type 0) (faults : S → ℕ) (old new : S) (stopped : StartStop)
+    → StopsPutting tells seen shown may_leave faults old new stopped → HasReason stopped
+putting_reason tells seen shown may_leave faults old new stop.OutOfMemory why = tt
+putting_reason tells seen shown may_leave faults old new stop.Unread why = tt
+putting_reason tells seen shown may_leave faults old new (stop.Refused reason) why = why.0
+putting_reason tells seen shown may_leave faults old new (stop.Reply place) why = absurd why
+putting_reason tells seen shown may_leave faults old new (stop.Fault place) why = tt
+putting_reason tells seen shown may_leave faults old new (stop.Changed number line) why = tt
+putting_reason tells seen shown may_leave faults old new stop.Failed why = tt
 
 pub catching_reason : {T : Type 0} (given : T → Option (List ℕ)) (faults : T → ℕ) (logs : List (List LogItem)) (old new : List (Watched T)) (stopped : StartStop)
     → StopsCatchingUp given faults logs old new stopped → HasReason stopped
@@ -177,7 +177,7 @@ module _ {K S T : Type 0} (taken : K → Option (List ℕ)) (sink_faults : K →
       → StopsReadingBack tells seen shown may_leave store_faults s (length names) old.store new.store stopped → EndsStart taken sink_faults store names stopped before now result → End result
   reading_ends stop.OutOfMemory result looks why h = wanting_ends result h.0 h.1
   reading_ends stop.Unread result looks why h =
-      ends_as taken sink_faults store_faults faults Due before now old new ReadFault _ result unread_is_no_fault unread_is_no_want (inr (record { risen = why; line = refl })) h
+      ends_as taken sink_faults store_faults faults Due before now old new ReadFault _ result unread_is_no_fault unread_is_no_want (inr (record { risen = why; left = λ contents found. (looks.0 found.told).1; line = refl })) h
   reading_ends (stop.Refused reason) result looks why h =
       ends_as taken sink_faults store_faults faults Due before now old new Refused _ result refused_is_no_fault refused_is_no_want
       (inl (record { why = reason; some = why.0; cause = why.1; left = λ contents found. (looks.0 found.told).1; line = refl })) h
@@ -190,10 +190,19 @@ module _ {K S T : Type 0} (taken : K → Option (List ℕ)) (sink_faults : K →
 
   -- what was found could not be taken up
   pub putting_ends : (book : Book) (is_new : Bool) (mid : S) (stopped : StartStop) (result : Status) → store_faults old.store ≤ store_faults mid
-      → IsReadBack tells seen shown may_leave moment left_since s (length names) book is_new old.store mid → StopsPutting tells seen may_leave store_faults mid new.store stopped
+      → IsReadBack tells seen shown may_leave moment left_since s (length names) book is_new old.store mid → StopsPutting tells seen shown may_leave store_faults mid new.store stopped
       → EndsStart taken sink_faults store names stopped before now result → End result
   putting_ends book is_new mid stop.OutOfMemory result later back why h = wanting_ends result h.0 h.1
-  putting_ends book is_new mid stop.Unread result later back why h = absurd why
+  putting_ends book is_new mid stop.Unread result later back why h =
+      ends_as taken sink_faults store_faults faults Due before now old new ReadFault _ result unread_is_no_fault unread_is_no_want
+      (inr (record {
+        risen = risen_since (store_faults old.store) (store_faults mid) (store_faults new.store) later why.0;
+        left = λ contents found.
+            let first = (back.looks.0 found.told).1 in
+            let then = why.1 contents (found_looked tells seen shown may_leave moment left_since old.store mid back.looks contents found) in
+            record { journal = then.journal ∙ first.journal; replies = then.replies ∙ first.replies; none = λ image left. first.none image (then.none image left) };
+        line = refl;
+      })) h
   putting_ends book is_new mid (stop.Refused reason) result later back why h =
       let none : (contents : List (List ℕ)) → IsFound tells seen may_leave contents old.store → ⊥ =
       λ contents found.

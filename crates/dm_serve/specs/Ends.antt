@@ -104,9 +104,10 @@ pub record IsFeedFault {T : Type 0} (faults : T → ℕ) (names : List (List ℕ
   pub cause : (slice_get feeds place ≡ Some None) ⊎ HasFailed faults feeds tails place
   pub line : text ≡ unread_line name
 
--- the store, of which a call has failed
-pub record IsStoreFault {S : Type 0} (faults : S → ℕ) (store : List ℕ) (old new : Journal S) (text : List ℕ) : Type 0 where
+-- The store, of which a call has failed. It was only looked at.
+pub record IsStoreFault {S : Type 0} (tells : S → Type 0) (seen : S → List ℕ) (shown : S → List (List ℕ)) (may_leave : S → Image → Type 0) (faults : S → ℕ) (store : List ℕ) (old new : Journal S) (text : List ℕ) : Type 0 where
   pub risen : HasRisen (faults old.store) (faults new.store)
+  pub left : (contents : List (List ℕ)) → IsFound tells seen may_leave contents old.store → IsLeft seen shown may_leave old.store new.store
   pub line : text ≡ unread_line store
 
 -- ---- by status
@@ -121,7 +122,7 @@ IsDueOver tells seen shown may_leave store_faults given faults up names store fe
     ⊎ (IsFeedRefusal tells seen shown may_leave given s (length names) tails old new text
     ⊎ IsFull tells seen shown may_leave given s (length names) old text))
 IsDueOver tells seen shown may_leave store_faults given faults up names store feeds tails old new ReadFault s text =
-    IsFeedFault faults names feeds tails text ⊎ IsStoreFault store_faults store old new text
+    IsFeedFault faults names feeds tails text ⊎ IsStoreFault tells seen shown may_leave store_faults store old new text
 IsDueOver tells seen shown may_leave store_faults given faults up names store feeds tails old new Usage s text = ⊥
 IsDueOver tells seen shown may_leave store_faults given faults up names store feeds tails old new WriteFault s text = ⊥
 IsDueOver tells seen shown may_leave store_faults given faults up names store feeds tails old new NoMemory s text = ⊥

@@ -14,8 +14,8 @@
 //! (`LivesSafely`). `headline`, at status Ok: the text is that of a true run in version 2 that goes on from what was found, all of it
 //! is in the journal and in the reply files, each log answers the due lines of a front of its feed, each once and in order, and the
 //! boards are up with its times (`IsDayOf`). `told`: it ends so only where it was told to. `refused`, `read_fault`, `write_fault`,
-//! `no_memory`: each other status has its cause, as `specs/Ends` has it; what is refused at a start was only looked at, and is left
-//! as it was. Of a write fault that comes of a feed which could not be synced it is not said which feed that was. `shelf_kept`,
+//! `no_memory`: each other status has its cause, as `specs/Ends` has it; what is refused at a start, or could not be read there, was
+//! only looked at, and is left as it was. Of a write fault that comes of a feed which could not be synced it is not said which feed that was. `shelf_kept`,
 //! `later`, `store_later`, `boards_kept`: as of a run.
 #![tactic(auto)]
 

@@ -97,7 +97,7 @@ pub fn take_up<S: Store, T: Growing + Drop>(
     requires spelled { All (λ w. All IsSpelledItem w.log.items) feeds.now }
     ensures takes { TakesUp S.tells S.seen S.shown S.may_leave S.moment S.left_since head is_new feeds.now journal.old journal.new
         result }
-    ensures stops { IfErr result (StopsPutting S.tells S.seen S.may_leave S.faults journal.old.store journal.new.store) }
+    ensures stops { IfErr result (StopsPutting S.tells S.seen S.shown S.may_leave S.faults journal.old.store journal.new.store) }
     ensures later { S.faults journal.old.store ≤ S.faults journal.new.store }
 {
     match put_right(alloc, head, is_new, journal) {
@@ -115,7 +115,7 @@ fn put_right<S: Store>(
     journal: &mut Journal<S>,
 ) -> Result<(), StartStop>
     ensures right { PutsRight S.tells S.seen S.shown S.may_leave S.moment S.left_since head is_new journal.old journal.new result }
-    ensures stops { IfErr result (StopsPutting S.tells S.seen S.may_leave S.faults journal.old.store journal.new.store) }
+    ensures stops { IfErr result (StopsPutting S.tells S.seen S.shown S.may_leave S.faults journal.old.store journal.new.store) }
     ensures later { S.faults journal.old.store ≤ S.faults journal.new.store }
 {
     match journal.recover(alloc) {
@@ -192,6 +192,7 @@ fn stop_of_recover(error: StoreError) -> StartStop
 {
     match error {
         StoreError::OutOfMemory => StartStop::OutOfMemory,
+        StoreError::Unread => StartStop::Unread,
         StoreError::Failed => StartStop::Failed,
         _ => StartStop::Refused(RestoreStop::Form(1)),
     }

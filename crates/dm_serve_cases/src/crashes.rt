@@ -12,8 +12,9 @@ use std::thread::Threads;
 /// More calls than a life makes.
 const CALLS: u64 = 100;
 
-/// How many calls a start begins with that only read: the journal, and the reply file of each feed.
-const READS: u64 = 3;
+/// How many calls a start begins with that only read: the journal, the reply file of each feed, and the journal that is to be
+/// repaired.
+const READS: u64 = 4;
 
 /// An empty store of which these calls fail.
 fn empty(alloc: Global, fails: &[u64]) -> Result<MemStore, AllocError> {

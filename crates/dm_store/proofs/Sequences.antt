@@ -1,14 +1,14 @@
 -- What a crash leaves while a block is committed, and while a journal is recovered, one call after the other.
-use Rattle.std.proofs.Common.{◌≡◌, ℕ, ◌+◌, ◌<◌, ◌^◌, List, ◌++◌, length, Vec, Result, Ok, Err, Some, refl, sym, ◌∙◌, subst}
+use Rattle.std.proofs.Common.{◌≡◌, ℕ, ◌+◌, ◌<◌, ◌^◌, List, ◌++◌, length, Vec, Result, Ok, Err, None, Some, refl, sym, ◌∙◌, subst}
 use Rattle.std.specs.List.{flat_map}
 use Rattle.std.specs.Result.{IsErrAnd}
 use Rattle.std.specs.declared.alloc.Global.{Global}
-use Rattle.dm_store.specs.Blocks.{block, at_rest, IsEnd, refusal}
+use Rattle.dm_store.specs.Blocks.{block, at_rest, IsEnd, refusal, IsOfJournal}
 use Rattle.dm_store.specs.Calls.{Image, Torn, Cut, LeavesJournal, LeavesOnly, AddsNone, Goes, IsOfStore}
 use Rattle.dm_store.specs.Journals.{IsFound, IsAtRest, IsBeforeOrAfter, StillKeeps, IsRefusal, IsJudged}
 use Rattle.dm_store.specs.Inside.Stages.{IsSettled, IsStage, Stepped, ReadsBlocks, IsRead}
 use Rattle.dm_store.specs.declared.faults.StoreError.{StoreError}
-use Rattle.dm_store.specs.declared.faults.StoreError.TheVariants.{OutOfMemory, Failed, Full, NoJournal, OtherVersion, Broken}
+use Rattle.dm_store.specs.declared.faults.StoreError.TheVariants.{OutOfMemory, Failed, Unread, Full, NoJournal, OtherVersion, Broken}
 use Rattle.dm_store.specs.declared.journal.Journal.{Journal}
 use Rattle.dm_store.proofs.Moments.{started, goes_on, and_then, weaker}
 use Rattle.dm_store.proofs.Crash.{with_block, torn_behind, torn_gate, unchanged, torn_cut, torn_end}
@@ -96,22 +96,24 @@ module _ {S : Type 0} (tells : S → Type 0) (seen : S → List ℕ) (shown : S 
     judged = judged;
   }
 
--- the error of a store's own call is a fault or want of memory
-pub of_store : (contents : List (List ℕ)) (end : List ℕ) (error : StoreError) → IsOfStore error → IsRefusal contents end error
-of_store contents end OutOfMemory is = tt
-of_store contents end Failed is = tt
-of_store contents end Full is = absurd is
-of_store contents end NoJournal is = absurd is
-of_store contents end OtherVersion is = absurd is
-of_store contents end Broken is = absurd is
+-- the error of a store's own call, after nothing was refused of the journal
+pub of_store : (contents : List (List ℕ)) (end : List ℕ) (error : StoreError) → refusal contents end ≡ None → IsOfStore error → IsRefusal contents end error
+of_store contents end OutOfMemory none is = tt
+of_store contents end Failed none is = none
+of_store contents end Unread none is = absurd is
+of_store contents end Full none is = absurd is
+of_store contents end NoJournal none is = absurd is
+of_store contents end OtherVersion none is = absurd is
+of_store contents end Broken none is = absurd is
 
-pub is_refusal : (contents : List (List ℕ)) (end : List ℕ) (error : StoreError) → refusal contents end ≡ Some error → IsRefusal contents end error
-is_refusal contents end OutOfMemory is = tt
-is_refusal contents end Failed is = tt
-is_refusal contents end Full is = is
-is_refusal contents end NoJournal is = is
-is_refusal contents end OtherVersion is = is
-is_refusal contents end Broken is = is
+pub is_refusal : (contents : List (List ℕ)) (end : List ℕ) (error : StoreError) → IsOfJournal error → refusal contents end ≡ Some error → IsRefusal contents end error
+is_refusal contents end OutOfMemory known is = tt
+is_refusal contents end Failed known is = absurd known
+is_refusal contents end Unread known is = tt
+is_refusal contents end Full known is = is
+is_refusal contents end NoJournal known is = is
+is_refusal contents end OtherVersion known is = is
+is_refusal contents end Broken known is = is
 
 pub judged_err : (contents : List (List ℕ)) (end : List ℕ) (error : StoreError) (r : Result (Vec ℕ Global) StoreError) → IsErrAnd r (λ e. e ≡ error) →
     IsRefusal contents end error → IsJudged contents end r

@@ -5,7 +5,7 @@ use Rattle.std.specs.declared.alloc.Global.{Global}
 use Rattle.dm_store.specs.Blocks.{Stands, block, at_rest, is_new, is_crash_end, refusal}
 use Rattle.dm_store.specs.Calls.{Image, LeavesJournal, AddsNone}
 use Rattle.dm_store.specs.declared.faults.StoreError.{StoreError}
-use Rattle.dm_store.specs.declared.faults.StoreError.TheVariants.{OutOfMemory, Failed, Full}
+use Rattle.dm_store.specs.declared.faults.StoreError.TheVariants.{OutOfMemory, Failed, Unread, Full}
 use Rattle.dm_store.specs.declared.journal.Journal.{Journal}
 
 -- the most bytes that a journal may have
@@ -45,13 +45,15 @@ pub record StillKeeps (contents : List (List ℕ)) (end : List ℕ) (shown : Lis
   pub crash_end : is_crash_end (is_new contents) end ≡ true → HasCrashEnd contents image.journal
   pub same : image.shown ≡ shown
 
--- the error tells the refusal, or is a fault or want of memory
+-- The error tells the refusal, or that it was not read, or is want of memory. What failed later is refused nothing.
 abbrev pub IsRefusal : List (List ℕ) → List ℕ → StoreError → Type 0
 IsRefusal contents end OutOfMemory = ⊤
-IsRefusal contents end Failed = ⊤
+IsRefusal contents end Unread = ⊤
+IsRefusal contents end Failed = refusal contents end ≡ None
 IsRefusal contents end error = refusal contents end ≡ Some error
 
--- nothing is refused of a journal that was repaired, and what is told of one that was not is its refusal, or a fault or want of memory
+-- nothing is refused of a journal that was repaired, or whose repair failed; what is told of another is its refusal, that it was not
+-- read, or want of memory
 abbrev pub IsJudged : List (List ℕ) → List ℕ → Result (Vec ℕ Global) StoreError → Type 0
 IsJudged contents end (Ok bytes) = refusal contents end ≡ None
 IsJudged contents end (Err error) = IsRefusal contents end error

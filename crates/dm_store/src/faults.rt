@@ -11,6 +11,9 @@ pub enum StoreError {
     OutOfMemory,
     /// A call of the system failed. The store has counted the fault.
     Failed,
+    /// The journal that was to be recovered could not be read: a call of the system failed. The store has counted the fault.
+    /// Nothing was changed.
+    Unread,
     /// With the block the journal would be longer than `LARGEST_JOURNAL` bytes. Nothing was written.
     Full,
     /// The file is no journal: no block stands in it, and no crash leaves such bytes. Nothing was changed.

@@ -62,12 +62,14 @@ fn read_judged<S: Store>(store: &mut S, alloc: Global) -> Result<(Vec<u8>, usize
     ensures read { (contents : List (List ℕ)) (found : IsFound S.tells S.seen S.may_leave contents store.old)
         → IsRead S.tells S.seen S.shown S.may_leave S.moment S.left_since contents found.stands.end store.old store.new result }
     ensures within { IfOk result (λ p. p.1 ≤ length p.0.items) }
-    ensures failed { IsErrOf result StoreError.Failed → HasRisen (S.faults store.old) (S.faults store.new) }
+    ensures read_well { IsErrOf result StoreError.Failed → ⊥ }
+    ensures unread { IsErrOf result StoreError.Unread → HasRisen (S.faults store.old) (S.faults store.new) }
     ensures later { S.faults store.old ≤ S.faults store.new }
 {
     match store.read(alloc) {
         Ok(bytes) => judged(bytes),
-        Err(error) => Err(error),
+        Err(StoreError::Failed) => Err(StoreError::Unread),
+        Err(_) => Err(StoreError::OutOfMemory),
     }
 }
 
@@ -100,6 +102,11 @@ impl<S: Store> Journal<S> {
             → IsJudged contents found.stands.end result }
         ensures untouched { (contents : List (List ℕ)) (found : IsFound S.tells S.seen S.may_leave contents self.old.store)
             → refusal contents found.stands.end ≢ None → Untouched S.seen S.may_leave self.old.store self.new.store }
+
+        // What could not be read is left as it stands, too.
+        ensures unread { IsErrOf result StoreError.Unread → HasRisen (S.faults self.old.store) (S.faults self.new.store) }
+        ensures unread_left { (contents : List (List ℕ)) → IsFound S.tells S.seen S.may_leave contents self.old.store
+            → IsErrOf result StoreError.Unread → Untouched S.seen S.may_leave self.old.store self.new.store }
 
         // It does not fail by itself.
         ensures failed { IsErrOf result StoreError.Failed → HasRisen (S.faults self.old.store) (S.faults self.new.store) }

@@ -12,8 +12,9 @@
 //! and a crash at any moment of it leaves the same blocks. It refuses, and leaves as it stands, what no crash leaves: a file
 //! that is no journal (`NoJournal`), one of another version (`OtherVersion`), and one where behind the blocks an open gate stands
 //! before less than a block (`Broken`). It never refuses what a crash of either call left of a journal that it would not have
-//! refused before. `Full` comes exactly where the journal would be longer than [`LARGEST_JOURNAL`]; `Failed` comes only where
-//! the store's count of faults rose, or stands at its last value. [`first_block`] reads the block in front of a file, where one
+//! refused before. `Full` comes exactly where the journal would be longer than [`LARGEST_JOURNAL`]; `Failed` and `Unread` come only
+//! where the store's count of faults rose, or stands at its last value. At `Unread` the journal could not be read, and stands as it
+//! did; at `Failed` of [`Journal::recover`] it was read, and nothing is refused of it. [`first_block`] reads the block in front of a file, where one
 //! stands there. Of a file one list of contents stands, and no other (`laws`).
 //!
 //! [`MemStore`] is a store in memory that tells: some image is always left of it, what a read returns with what is shown. A new

@@ -75,6 +75,7 @@ fn name_of(error: StoreError) -> &'static str {
     match error {
         StoreError::OutOfMemory => "no memory",
         StoreError::Failed => "failed",
+        StoreError::Unread => "unread",
         StoreError::Full => "full",
         StoreError::NoJournal => "no journal",
         StoreError::OtherVersion => "other version",

@@ -59,6 +59,7 @@ stop_in_store before now error.Full h = absurd h.known
 stop_in_store before now error.NoJournal h = absurd h.known
 stop_in_store before now error.OtherVersion h = absurd h.known
 stop_in_store before now error.Broken h = absurd h.known
+stop_in_store before now error.Unread h = absurd h.known
 
 in_store_to_settle : {T : Type 0} (first before now end : ℕ) (feeds : List (Watched T)) (stopped : RoundStop) → first ≤ before → IsStopOfStore before now stopped → IsStopOfSettling first now end feeds stopped
 in_store_to_settle first before now end feeds stop.OutOfMemory low s = tt
@@ -79,6 +80,7 @@ stop_of_commit before now end feeds content error.Full is known failed full = su
 stop_of_commit before now end feeds content error.NoJournal is known failed full = absurd known
 stop_of_commit before now end feeds content error.OtherVersion is known failed full = absurd known
 stop_of_commit before now end feeds content error.Broken is known failed full = absurd known
+stop_of_commit before now end feeds content error.Unread is known failed full = absurd known
 
 -- ---- feeds that were synced, and then settled
 

@@ -41,7 +41,7 @@ use Rattle.dm_restore.specs.declared.heads.Head.{Head}
 use Rattle.dm_restore.specs.declared.stops.RestoreStop.TheVariants as why
 use Rattle.dm_serve.specs.Ends.{HasUnsynced, IsFullOf}
 use Rattle.dm_serve.specs.Inside.Replies.{IsKeptIn, IsStarting, Looks}
-use Rattle.dm_serve.specs.Lives.{IsSafeFrom, IsTakenUp}
+use Rattle.dm_serve.specs.Lives.{IsLeft, IsSafeFrom, IsTakenUp}
 use Rattle.dm_serve.specs.declared.ending.DayEnd.{DayEnd}
 use Rattle.dm_serve.specs.declared.opening.Unopened.{Unopened}
 use Rattle.dm_serve.specs.declared.opening.Unopened.TheVariants as unopened
@@ -99,13 +99,14 @@ PutsRight tells seen shown may_leave moment left_since head is_new old new resul
     → LeavesOnly moment left_since old.store new.store (IsSafe s first first)
     × OnOk result (HasBegun tells seen shown may_leave moment left_since s first first old.store new)
 
--- the cause of a stop as a journal is put right; one that nothing is refused of is not refused
-abbrev pub StopsPutting : {S : Type 0} → (S → Type 0) → (S → List ℕ) → (S → Image → Type 0) → (S → ℕ) → S → S → StartStop → Type 0
-StopsPutting tells seen may_leave faults old new stop.OutOfMemory = Unit {0}
-StopsPutting tells seen may_leave faults old new stop.Failed = HasRisen (faults old) (faults new)
-StopsPutting tells seen may_leave faults old new (stop.Refused reason) =
+-- The cause of a stop as a journal is put right. One that could not be read is left, and one that nothing is refused of is not refused.
+abbrev pub StopsPutting : {S : Type 0} → (S → Type 0) → (S → List ℕ) → (S → List (List ℕ)) → (S → Image → Type 0) → (S → ℕ) → S → S → StartStop → Type 0
+StopsPutting tells seen shown may_leave faults old new stop.OutOfMemory = Unit {0}
+StopsPutting tells seen shown may_leave faults old new stop.Unread = HasRisen (faults old) (faults new) × ((contents : List (List ℕ)) → IsFound tells seen may_leave contents old → IsLeft seen shown may_leave old new)
+StopsPutting tells seen shown may_leave faults old new stop.Failed = HasRisen (faults old) (faults new)
+StopsPutting tells seen shown may_leave faults old new (stop.Refused reason) =
     (reason ≡ why.OutOfMemory → ⊥) × ((contents : List (List ℕ)) (found : IsFound tells seen may_leave contents old) → refusal contents found.stands.end ≡ None → ⊥)
-StopsPutting tells seen may_leave faults old new stopped = ⊥
+StopsPutting tells seen shown may_leave faults old new stopped = ⊥
 
 -- Whatever true book was found whose logs are those of the feeds, a crash while it is taken up leaves it, and at Ok it is settled.
 abbrev pub TakesUp : {S T E : Type 0} → (S → Type 0) → (S → List ℕ) → (S → List (List ℕ)) → (S → Image → Type 0) → (S → ℕ) → (S → ℕ → Image → Type 0) → Head → Bool → List (Watched T) → Journal S → Journal S → Result (Unit {0}) E → Type 0

@@ -15,6 +15,7 @@ stop_of_read _ = stop.Unread
 
 abbrev pub stop_of_recover : StoreError → StartStop
 stop_of_recover error.OutOfMemory = stop.OutOfMemory
+stop_of_recover error.Unread = stop.Unread
 stop_of_recover error.Failed = stop.Failed
 stop_of_recover _ = stop.Refused (why.Form 1)
 

@@ -17,7 +17,7 @@ take_up-requires g c = record {
 }
 
 pub end_start-requires : goal.end_start-requires
-end_start-requires g c = putting_reason g.S.Store.tells g.S.Store.seen g.S.Store.may_leave g.S.Store.faults c.args.journal.now.store c.take_up.new.journal.store c.in-Err.stop c.in-Err.ensures.stops
+end_start-requires g c = putting_reason g.S.Store.tells g.S.Store.seen g.S.Store.shown g.S.Store.may_leave g.S.Store.faults c.args.journal.now.store c.take_up.new.journal.store c.in-Err.stop c.in-Err.ensures.stops
 
 pub returns-in-Ok-clause-ends : goal.returns-in-Ok-clause-ends
 returns-in-Ok-clause-ends g c = λ start feeds later back.

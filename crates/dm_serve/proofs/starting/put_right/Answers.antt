@@ -9,8 +9,9 @@ returns-in-Err-clause-right g c = λ s contents first penalty plans new t.
 
 pub returns-in-Err-clause-stops : goal.returns-in-Err-clause-stops
 returns-in-Err-clause-stops g c =
-    subst (StopsPutting g.S.Store.tells g.S.Store.seen g.S.Store.may_leave g.S.Store.faults c.args.journal.now.store c.recover.new.self.store) (sym c.stop_of_recover.ensures)
-    (recover_stops g.S.Store.tells g.S.Store.seen g.S.Store.shown g.S.Store.may_leave g.S.Store.moment g.S.Store.left_since g.S.Store.faults c.args.journal.now.store c.recover.new.self.store c.in-Err.error (λ is. c.in-Err.ensures.failed (ap Err is)) c.in-Err.ensures.judged)
+    subst (StopsPutting g.S.Store.tells g.S.Store.seen g.S.Store.shown g.S.Store.may_leave g.S.Store.faults c.args.journal.now.store c.recover.new.self.store) (sym c.stop_of_recover.ensures)
+    (recover_stops g.S.Store.tells g.S.Store.seen g.S.Store.shown g.S.Store.may_leave g.S.Store.moment g.S.Store.left_since g.S.Store.faults c.args.journal.now.store c.recover.new.self.store c.in-Err.error (λ is. c.in-Err.ensures.failed (ap Err is)) (λ is. c.in-Err.ensures.unread (ap Err is))
+    (λ is contents found. let left = c.in-Err.ensures.unread_left contents found (ap Err is) in record { journal = left.same; replies = c.recover.ensures.shown contents found; none = left.none }) c.in-Err.ensures.judged)
 
 pub returns-then-not-is_new-clause-right : goal.returns-then-not-is_new-clause-right
 returns-then-not-is_new-clause-right g c = λ s contents first penalty plans new t.
@@ -53,5 +54,5 @@ returns-clause-right g c = λ s contents first penalty plans new t.
 
 pub returns-clause-stops : goal.returns-clause-stops
 returns-clause-stops g c =
-    subst (StopsPutting g.S.Store.tells g.S.Store.seen g.S.Store.may_leave g.S.Store.faults c.args.journal.now.store c.commit.new.self.store) (sym c.stop_of_commit.ensures)
+    subst (StopsPutting g.S.Store.tells g.S.Store.seen g.S.Store.shown g.S.Store.may_leave g.S.Store.faults c.args.journal.now.store c.commit.new.self.store) (sym c.stop_of_commit.ensures)
     (commit_stops_later g.S.Store.tells g.S.Store.seen g.S.Store.shown g.S.Store.may_leave g.S.Store.moment g.S.Store.left_since g.S.Store.faults c.args.journal.now.store c.recover.new.self.store c.commit.new.self.store c.in-Err-commit.error c.recover.ensures.later c.in-Err-commit.ensures.known (λ is. c.in-Err-commit.ensures.failed (ap Err is)))

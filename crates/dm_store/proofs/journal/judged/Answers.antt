@@ -13,7 +13,7 @@ returns-in-Some-clause-judged c = λ contents stands.
     let front = cut_done contents c.deref-2.result.now stands.end (c.deref-2.ensures.value ∙ stands.split) stands.is_end c.blocks_len-end.result there in
     let back = take_rest c.deref-3.result.now c.blocks_len-end.result
     ∙ end_is contents c.deref-3.result.now stands.end (c.deref-3.ensures.value ∙ stands.split) stands.is_end c.blocks_len-end.result there in
-    is_refusal contents stands.end c.in-Some.error (sym (ap (refusal contents) back) ∙ sym (c.in-Some.ensures.told contents front))
+    is_refusal contents stands.end c.in-Some.error c.in-Some.ensures.known (sym (ap (refusal contents) back) ∙ sym (c.in-Some.ensures.told contents front))
 
 pub returns-in-None-clause-judged : goal.returns-in-None-clause-judged
 returns-in-None-clause-judged c = λ contents stands.

@@ -21,6 +21,10 @@ pub returns-in_err-bytes-clause-untouched : goal.returns-in_err-bytes-clause-unt
 returns-in_err-bytes-clause-untouched g c = λ contents found.
     λ refused. record { same = (c.read_judged.ensures.read contents found).settled.reads; none = (c.read_judged.ensures.read contents found).none }
 
+pub returns-in_err-bytes-clause-unread_left : goal.returns-in_err-bytes-clause-unread_left
+returns-in_err-bytes-clause-unread_left g c = λ contents found is.
+    record { same = (c.read_judged.ensures.read contents found).settled.reads; none = (c.read_judged.ensures.read contents found).none }
+
 pub returns-in_err-cut_synced-clause-any_moment : goal.returns-in_err-cut_synced-clause-any_moment
 returns-in_err-cut_synced-clause-any_moment g c = λ contents found.
     let read = c.in_ok-bytes.ensures.read contents found in
