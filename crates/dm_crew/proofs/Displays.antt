@@ -1,24 +1,23 @@
 -- Boards that are kept up over a server.
-use Rattle.std.proofs.Common.{◌≡◌, ℕ, true, false, inl, inr, ◌+◌, ◌-◌, ◌<◌, ◌≤◌, List, [], length, eqb, eqb-true, map, Option, Some, None, Result, Ok, Err, refl, sym, ap, subst, ◌∙◌, arith}
+use Rattle.std.proofs.Common.{◌≡◌, ℕ, true, ◌+◌, ◌-◌, ◌<◌, ◌≤◌, List, length, eqb, eqb-true, map, Option, Some, None, Result, Ok, Err, refl, sym, ap, subst, ◌∙◌, arith}
 use Rattle.std.specs.Prelude.{vec_capacity, OnOk}
 use mathlib.Core.List.{IsPrefix}
-use Rattle.std.proofs.lemmas.Bool.{cases_lt, eqb-false}
-use Rattle.std.proofs.lemmas.List.{length-map}
-use Rattle.std.proofs.lemmas.List.Elements.{All-nil, All-weaker}
 use Rattle.std.proofs.lemmas.Option.{slice_get_within}
 use Rattle.dm_network.specs.Net.{Net}
 use Rattle.dm_rows.specs.declared.messages.Entry.{Entry}
 use Rattle.dm_rows.specs.History.{rows_at, IsLegal}
 use Rattle.dm_rows.specs.Rows.{RowsValue}
 use Rattle.dm_rows.specs.Timetable.{IsLeast, time_at}
-use Rattle.dm_cert.specs.declared.notes.Note.{Note}
-use Rattle.dm_cert.specs.Runs.{AreTrueNotes, IsTrueNote}
+use Rattle.dm_cert.specs.Runs.{AreTrueNotes}
 use Rattle.dm_desk.specs.Answered.{times}
 use Rattle.dm_desk.specs.Desks.{DeskValue, GoesOn}
 use Rattle.dm_desk.proofs.Answering.{no_shorter, on_and_on}
 use Rattle.dm_publish.specs.Shown.{ShowsTimes}
-use Rattle.dm_publish.specs.Since.{KeepsUp, KeepsUpLast, AreKeptSince, AllShowLast}
-use Rattle.dm_publish.proofs.Repeated.{kept_at_first, all_show_last, all_show_none}
+use Rattle.dm_display.specs.declared.display.Display.{Display}
+use Rattle.dm_display.specs.Displays.{IsFor, HasShownNothing, AreKept}
+use Rattle.dm_display.proofs.Displays.{true_later, as_many, first_kept}
+use Rattle.dm_publish.specs.Since.{KeepsUpLast, AllShowLast}
+use Rattle.dm_publish.proofs.Repeated.{all_show_last}
 use Rattle.dm_rounds.specs.declared.jobs.Job.{Job}
 use Rattle.dm_rounds.specs.Inside.Jobs.{InRounds}
 use Rattle.dm_rounds.proofs.Rounding.{job_grows}
@@ -29,29 +28,11 @@ use Rattle.dm_turn.specs.declared.view.Numbered.{Numbered}
 use Rattle.dm_turn.specs.Passes.{PassValue}
 use Rattle.dm_turn.proofs.Fronts.{prefix_self}
 use Rattle.dm_server.proofs.After.{least_of_longer}
-use Rattle.dm_crew.specs.declared.display.Display.{Display}
 use Rattle.dm_crew.specs.Boards.{AreShown}
 use Rattle.dm_crew.specs.Passes.{numbers_in, desk_of, IsSamePass}
 use Rattle.dm_crew.specs.Inside.Works.{IsGathered}
 use Rattle.dm_crew.proofs.Desks.{Holds, IsLegalAfter, holds_at, base_looked}
-use Rattle.dm_crew.specs.Inside.Displays.{IsFor, HasShownNothing, HasEarlierTimes, AreKept, AreUp, Shows}
-
-none_yet : AreTrueNotes 0 []
-none_yet = record {
-  few = omega arith;
-  each = All-nil (IsTrueNote 0);
-  once = λ i j one other x y same. absurd (omega (arith, slice_get_within [] i one x));
-  in_order = λ i j one other x y low. absurd (omega (arith, slice_get_within [] i one x));
-}
-
--- notes that are true at an entry are so at a later one
-true_later : (entries later : ℕ) (notes : List Note) → entries ≤ later → AreTrueNotes entries notes → AreTrueNotes later notes
-true_later entries later notes low t = record {
-  few = t.few;
-  each = All-weaker (IsTrueNote entries) (IsTrueNote later) (λ note is. record { some_board = is.some_board; few_boards = is.few_boards; stop = is.stop; entry = omega (arith, low, is.entry) }) notes t.each;
-  once = t.once;
-  in_order = t.in_order;
-}
+use Rattle.dm_crew.specs.Inside.Displays.{HasEarlierTimes, AreUp, Shows}
 
 -- ---- passes that have looked
 
@@ -112,9 +93,6 @@ some_base e = cc
 
 -- ---- a display's times
 
-pub not_none : (n : ℕ) → eqb n 0 ≡ false → 0 < n
-not_none n is = elim (cases_lt 0 n) [ inl some ↦ some | inr none ↦ absurd (eqb-false n 0 is (omega arith)) ]
-
 -- a longer history has the entries after which a display has the times
 pub earlier_entries : (base : Base) (seen : List Entry) (display : Display) → HasEarlierTimes base seen display → display.entries ≤ length seen
 earlier_entries base seen display e = omega (arith, e.times.entries, no_shorter e.history seen e.before)
@@ -128,9 +106,6 @@ earlier_least base seen display e =
 -- ---- boards
 
 module _ {B : Type 0} (place : B → ℕ) (times_on : B → Option (ℕ → Option ℕ)) (faults : B → ℕ) (is_sound : B → ℕ → Type 0) where
-  as_many : (old new : List B) → map place new ≡ map place old → length new ≡ length old
-  as_many old new stops = sym (length-map new place) ∙ (ap length stops ∙ length-map old place)
-
   -- boards that were kept up to an earlier entry are up after this history
   abbrev pub IsShownAfter : (base : Base) (seen : List Entry) (display now : Display) (old new : List B) → Type 0
   IsShownAfter base seen display now old new =
@@ -149,7 +124,7 @@ module _ {B : Type 0} (place : B → ℕ) (times_on : B → Option (ℕ → Opti
       record {
         is_for = record {
           network = network;
-          boards = boards ∙ (fits.boards ∙ sym (as_many old new stops));
+          boards = boards ∙ (fits.boards ∙ sym (as_many place times_on faults is_sound old new stops));
           events = events ∙ fits.events;
           size = least.meets.size;
           room = omega (arith, fits.room, room);
@@ -167,10 +142,6 @@ module _ {B : Type 0} (place : B → ℕ) (times_on : B → Option (ℕ → Opti
               noted = true_now;
             };
       }
-
-  -- boards that are kept up whatever they show are so where they show the last times
-  pub keeps_last : (net : Net) (last x : List ℕ) (old new : List B) (notes notes_now : List Note) → KeepsUp place times_on faults is_sound net x old new notes notes_now → KeepsUpLast place times_on faults is_sound net last x old new notes notes_now
-  keeps_last net last x old new notes notes_now keeps = λ first kept shown. keeps first kept
 
   none_shown : (base : Base) (pass : PassValue Base) (display : Display) (none : List B) → length none ≡ 0 → IsLegal base.network base.start pass.seen → IsFor base.network (length none) display
       → Shows place times_on faults is_sound base pass pass display display none none
@@ -216,12 +187,7 @@ module _ {B : Type 0} (place : B → ℕ) (times_on : B → Option (ℕ → Opti
   pub shown_first : (base : Base) (seen : List Entry) (display now : Display) (boards new : List B) → HasShownNothing display → IsShownAfter base seen display now boards new
       → AreUp place times_on faults is_sound base seen now boards new
   shown_first base seen display now boards new none shows =
-      shows boards 0 (omega arith)
-      (record {
-        kept = subst (λ (n : List Note). AreKeptSince place times_on faults is_sound base.network boards boards n) (sym none.0) (kept_at_first place times_on faults is_sound base.network boards);
-        noted = subst (λ (n : List Note). AreTrueNotes 0 n) (sym none.0) none_yet;
-        last = subst (λ (last : List ℕ). AllShowLast place times_on base.network last display.publisher.notes boards boards) (sym none.1) (all_show_none place times_on faults is_sound base.network display.publisher.notes boards boards);
-      })
+      shows boards 0 (omega arith) (first_kept place times_on faults is_sound base.network display boards none)
 
   -- boards that are up after the beginning of a history are so after the whole
   pub shown_on : (base : Base) (before seen : List Entry) (display now : Display) (first old new : List B) → IsPrefix before seen → IsShownAfter base seen display now old new → AreUp place times_on faults is_sound base before display first old

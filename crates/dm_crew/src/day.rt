@@ -9,10 +9,10 @@ ghost use Rattle.dm_crew.specs.AtOnce.{AnswersDay, day_desk};
 ghost use Rattle.dm_crew.specs.Boards.{AreShown};
 ghost use Rattle.dm_crew.specs.Inside.Works.{first_pass};
 
-use crate::display::Display;
 use crate::rounds::Crew;
 use dm_cert::FeedLog;
 use dm_desk::Hold;
+use dm_display::Display;
 use dm_network::Network;
 use dm_outside::{Board, Source};
 use dm_publish::Publisher;
@@ -100,7 +100,7 @@ pub fn answer_at_once<
     Ok(AnsweredDay {
         table,
         logs,
-        publisher: display.publisher,
+        publisher: display.into_publisher(),
     })
 }
 

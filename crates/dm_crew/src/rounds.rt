@@ -10,13 +10,15 @@ ghost use Rattle.dm_rounds.specs.Rounds.{AnswersFeeds};
 ghost use Rattle.dm_rounds.specs.Inside.Jobs.{AnswersRound, CanReadAll, AllAreTrue};
 ghost use Rattle.dm_crew.specs.Passes.{setting_of, desk_of, IsSamePass};
 ghost use Rattle.dm_crew.specs.Inside.Works.{split_of, IsGathered, IsReady, AreWorkedEach};
-ghost use Rattle.dm_crew.specs.Inside.Displays.{IsFor, HasShownNothing, AreUp};
+ghost use Rattle.dm_display.specs.Displays.{IsFor, HasShownNothing};
+ghost use Rattle.dm_crew.specs.Inside.Displays.{AreUp};
 
 use crate::desk::Seat;
-use crate::display::Display;
+use crate::display::{show, show_growth};
 use crate::work::{Work, count_read};
 use dm_cert::FeedLog;
 use dm_desk::Hold;
+use dm_display::Display;
 use dm_outside::{Board, Source};
 use dm_rounds::{Job, begin, have_ended, logs_of};
 use dm_rows::Snapshot;
@@ -76,13 +78,13 @@ impl<
     {
         let logs = Vec::with_capacity(self.alloc, feeds.len())?;
         let mut jobs = begin(self.alloc, feeds)?;
-        display.show::<P, R>(self.rt, self.server, main, boards);
+        show::<P, R>(self.rt, self.server, main, display, boards);
         for _ in self.rt.forever() {
             if have_ended(&jobs) {
                 break;
             }
             jobs = self.answer_round::<P, S>(main, jobs)?;
-            display.show_growth::<P, R>(self.rt, self.server, main, boards);
+            show_growth::<P, R>(self.rt, self.server, main, display, boards);
         }
         Ok(logs_of(jobs, logs))
     }
@@ -126,12 +128,40 @@ impl<
             works.entry.items after.items) }
     {
         if count_read(&works) >= 2 {
-            return thread::map_vec(
-                self.rt,
-                works,
-                &|work: Work<'_, S>| work.worked::<P, R, L, H>(self),
-            );
+            return self.work_side_by_side::<P, S>(works);
         }
+        self.work_one_by_one::<P, S>(works)
+    }
+
+    // Answers the next lines of feeds, each in a thread of its own if one can be made.
+    fn work_side_by_side<P: Seat + Send + Sync, S: Source + Send + Drop>(
+        &self,
+        works: Vec<Work<'n, S>>,
+    ) -> Result<Vec<Work<'n, S>>, AllocError>
+        requires ready { All (λ w. IsReady self.now.server.now.id self.now.plans P.base w.feed w.pass w.job.value) works.items }
+        requires plans { PlansUnder (L.pre self.now.planner.now) (L.post self.now.planner.now) (setting_of self.now.plans P.base) }
+        ensures len { IfOk result (λ after. vec_len after ≡ vec_len works.entry) }
+        ensures each { IfOk result (λ after. AreWorkedEach S.left S.is_sound self.now.plans P.base self.now.batch
+            works.entry.items after.items) }
+    {
+        thread::map_vec(
+            self.rt,
+            works,
+            &|work: Work<'_, S>| work.worked::<P, R, L, H>(self),
+        )
+    }
+
+    // Answers the next lines of feeds, one feed after another.
+    fn work_one_by_one<P: Seat, S: Source + Drop>(
+        &self,
+        works: Vec<Work<'n, S>>,
+    ) -> Result<Vec<Work<'n, S>>, AllocError>
+        requires ready { All (λ w. IsReady self.now.server.now.id self.now.plans P.base w.feed w.pass w.job.value) works.items }
+        requires plans { PlansUnder (L.pre self.now.planner.now) (L.post self.now.planner.now) (setting_of self.now.plans P.base) }
+        ensures len { IfOk result (λ after. vec_len after ≡ vec_len works.entry) }
+        ensures each { IfOk result (λ after. AreWorkedEach S.left S.is_sound self.now.plans P.base self.now.batch
+            works.entry.items after.items) }
+    {
         let mut done = Vec::with_capacity(self.alloc, works.len())?;
         for work in works {
             done.push(work.worked::<P, R, L, H>(self))?;

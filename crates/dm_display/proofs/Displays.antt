@@ -31,7 +31,7 @@ none_yet = record {
 }
 
 -- notes that are true at an entry are so at a later one
-true_later : (entries later : ℕ) (notes : List Note) → entries ≤ later → AreTrueNotes entries notes → AreTrueNotes later notes
+pub true_later : (entries later : ℕ) (notes : List Note) → entries ≤ later → AreTrueNotes entries notes → AreTrueNotes later notes
 true_later entries later notes low t = record {
   few = t.few;
   each = All-weaker (IsTrueNote entries) (IsTrueNote later) (λ note is. record { some_board = is.some_board; few_boards = is.few_boards; stop = is.stop; entry = omega (arith, low, is.entry) }) notes t.each;
@@ -69,7 +69,7 @@ not_none n is = elim (cases_lt 0 n) [ inl some ↦ some | inr none ↦ absurd (e
 -- ---- boards
 
 module _ {B : Type 0} (place : B → ℕ) (times_on : B → Option (ℕ → Option ℕ)) (faults : B → ℕ) (is_sound : B → ℕ → Type 0) where
-  as_many : (old new : List B) → map place new ≡ map place old → length new ≡ length old
+  pub as_many : (old new : List B) → map place new ≡ map place old → length new ≡ length old
   as_many old new stops = sym (length-map new place) ∙ (ap length stops ∙ length-map old place)
 
   -- boards that are kept up whatever they show are so where they show the last times

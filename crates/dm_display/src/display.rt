@@ -78,4 +78,18 @@ impl<'n> Display<'n> {
             .publisher
             .publish_listed(self.net, &self.times, &self.listed, entries, boards);
     }
+
+    /// The publisher, with the notes of boards whose show has failed.
+    pub fn into_publisher(self) -> Publisher
+        ensures { result ≡ self.entry.publisher }
+    {
+        let Display {
+            net: _,
+            publisher,
+            times: _,
+            entries: _,
+            listed: _,
+        } = self;
+        publisher
+    }
 }

@@ -1,28 +1,14 @@
 -- Boards that are kept up over a server.
-use Rattle.std.specs.Prelude.{ℕ, ◌≡◌, ◌<◌, ◌≤◌, List, [], length, map, vec_capacity, Option}
+use Rattle.std.specs.Prelude.{ℕ, ◌≡◌, ◌<◌, ◌≤◌, List, length, map, Option}
 use mathlib.Core.List.{IsPrefix}
-use Rattle.dm_network.specs.Net.{Net}
 use Rattle.dm_rows.specs.declared.messages.Entry.{Entry}
 use Rattle.dm_rows.specs.History.{IsLegal}
-use Rattle.dm_cert.specs.Runs.{AreTrueNotes}
-use Rattle.dm_publish.specs.Since.{AreKeptSince, AllShowLast}
+use Rattle.dm_display.specs.declared.display.Display.{Display}
+use Rattle.dm_display.specs.Displays.{IsFor, AreKept}
 use Rattle.dm_server.specs.declared.kept.Base.{Base}
 use Rattle.dm_server.specs.Answers.{AreTimesAfter, HasLooked}
 use Rattle.dm_turn.specs.Passes.{PassValue}
-use Rattle.dm_crew.specs.declared.display.Display.{Display}
 use Rattle.dm_crew.specs.Boards.{AreShown}
-
--- the display was made for this network and so many boards
-pub record IsFor (net : Net) (many : ℕ) (display : Display) : Type 0 where
-  pub network : display.net.now ≡ net
-  pub boards : display.publisher.boards ≡ many
-  pub events : display.publisher.events ≡ length net.events
-  pub size : length display.times ≡ length net.events
-  pub room : length net.events ≤ vec_capacity display.listed
-
--- nothing was published yet
-abbrev pub HasShownNothing : Display → Type 0
-HasShownNothing display = (display.publisher.notes ≡ []) × (display.publisher.last ≡ [])
 
 -- the display has the times after this history, and they were published last
 pub record HasTimes (base : Base) (history : List Entry) (display : Display) : Type 0 where
@@ -36,13 +22,8 @@ pub record HasEarlierTimes (base : Base) (seen : List Entry) (display : Display)
   pub before : IsPrefix history seen
   pub times : HasTimes base history display
 
--- the boards were kept up since these first ones, at at most so many entries, and show what was published last
-pub record AreKept {B : Type 0} (place : B → ℕ) (times : B → Option (ℕ → Option ℕ)) (faults : B → ℕ) (is_sound : B → ℕ → Type 0) (net : Net) (entries : ℕ) (display : Display) (first now : List B) : Type 0 where
-  pub kept : AreKeptSince place times faults is_sound net first now display.publisher.notes
-  pub noted : AreTrueNotes entries display.publisher.notes
-  pub last : AllShowLast place times net display.publisher.last display.publisher.notes first now
-
--- and they show the times after this history; the display has them only where there are boards
+-- the boards were kept up since these first ones, and show the times after this history; the display has them only where there are
+-- boards
 pub record AreUp {B : Type 0} (place : B → ℕ) (times : B → Option (ℕ → Option ℕ)) (faults : B → ℕ) (is_sound : B → ℕ → Type 0) (base : Base) (seen : List Entry) (display : Display) (first now : List B) : Type 0 where
   pub is_for : IsFor base.network (length now) display
   pub has : 0 < length now → HasTimes base seen display

@@ -1,6 +1,6 @@
 use Rattle.std.proofs.Common.{◌≡◌, ◌++◌, length}
 use Rattle.dm_crew.specs.Inside.Works.{AreWorkedEach}
-use Rattle.dm_crew.proofs.rounds.Crew.work_all.Given as goal
+use Rattle.dm_crew.proofs.rounds.Crew.work_one_by_one.Given as goal
 
 abbrev pub invariant-loop-work : goal.invariant-loop-work
 invariant-loop-work g l =

@@ -1,9 +1,8 @@
-use Rattle.std.proofs.Common.{◌≡◌, List, [], ◌∷◌, length, sym, ap, subst, ◌∙◌, arith, rules, length-append}
+use Rattle.std.proofs.Common.{◌≡◌, List, [], ◌∷◌, length, sym, ap, subst, ◌∙◌, arith, length-append}
 use Rattle.dm_crew.specs.declared.work.Work.{Work}
 use Rattle.dm_crew.specs.Inside.Works.{IsReady, IsWorked, AreWorkedEach}
 use Rattle.dm_crew.proofs.Loops.{one_yielded, all_yielded, all_here, paired_more}
-use Rattle.dm_crew.proofs.Sharing.{all_given}
-use Rattle.dm_crew.proofs.rounds.Crew.work_all.Goals as goal
+use Rattle.dm_crew.proofs.rounds.Crew.work_one_by_one.Goals as goal
 
 pub worked-requires-clause-ready : goal.worked-requires-clause-ready
 worked-requires-clause-ready g c =
@@ -28,7 +27,3 @@ pub returns-clause-each : goal.returns-clause-each
 returns-clause-each g c =
     let all = all_yielded c.loop-work.yielded c.loop-work.work-iterator.rest.items c.args.works.items (sym c.loop-work.work-iterator.rest.ok.0 ∙ c.in-None.ensures.steps.0) c.loop-work.invariant.whole in
     subst (λ (l : List (Work _)). AreWorkedEach g.S.Source.left g.S.Source.is_sound c.args.self.now.plans g.P.Seat.base c.args.self.now.batch l c.loop-work.done.items) all c.loop-work.invariant.each
-
-pub returns-then-count_read-ge2-clause-each : goal.returns-then-count_read-ge2-clause-each
-returns-then-count_read-ge2-clause-each g c =
-    all_given (λ (w v : Work _). (v.feed ≡ w.feed) × IsWorked g.S.Source.left g.S.Source.is_sound c.args.self.now.plans g.P.Seat.base c.args.self.now.batch w.feed w.pass w.job.value v.pass v.job.value v.answer) c.args.works.items (λ after. after.items) c.map_vec.result (λ w v call. let met = call.met in search rules) c.map_vec.ensures.each

@@ -6,21 +6,22 @@ use Rattle.dm_rows.specs.Timetable.{IsLeast}
 use Rattle.dm_server.specs.declared.kept.Base.{Base}
 use Rattle.dm_server.specs.Answers.{AreTimesAfter}
 use Rattle.dm_crew.proofs.Desks.{holds_at, base_looked}
-use Rattle.dm_crew.proofs.Displays.{some_base, earlier_entries, earlier_least, not_none, shows_after, shows_none}
-use Rattle.dm_crew.proofs.display.Display.show_growth.Goals as goal
+use Rattle.dm_display.proofs.Displays.{not_none}
+use Rattle.dm_crew.proofs.Displays.{some_base, earlier_entries, earlier_least, shows_after, shows_none}
+use Rattle.dm_crew.proofs.display.show_growth.Goals as goal
 
 pub follow_times-entry-requires-clause-shown : goal.follow_times-entry-requires-clause-shown
 follow_times-entry-requires-clause-shown g c =
-    earlier_entries g.P.Seat.base c.args.main.now.seen c.args.self.now (c.requires.has (not_none (vec_len c.args.boards.now) (sym c.if-is_empty.ensures)))
+    earlier_entries g.P.Seat.base c.args.main.now.seen c.args.display.now (c.requires.has (not_none (vec_len c.args.boards.now) (sym c.if-is_empty.ensures)))
 
 pub follow_times-entry-requires-clause-times : goal.follow_times-entry-requires-clause-times
 follow_times-entry-requires-clause-times g c = λ base is.
-    subst (λ (b : Base). IsLeast b.network (rows_at b.network b.start c.args.main.now.seen c.args.self.now.entries) c.args.self.now.times) (some_base (sym c.requires.base ∙ is))
-    (earlier_least g.P.Seat.base c.args.main.now.seen c.args.self.now (c.requires.has (not_none (vec_len c.args.boards.now) (sym c.if-is_empty.ensures))))
+    subst (λ (b : Base). IsLeast b.network (rows_at b.network b.start c.args.main.now.seen c.args.display.now.entries) c.args.display.now.times) (some_base (sym c.requires.base ∙ is))
+    (earlier_least g.P.Seat.base c.args.main.now.seen c.args.display.now (c.requires.has (not_none (vec_len c.args.boards.now) (sym c.if-is_empty.ensures))))
 
 pub follow_times-entry-requires-clause-room : goal.follow_times-entry-requires-clause-room
 follow_times-entry-requires-clause-room g c = λ base is.
-    subst (λ (b : Base). length b.network.events ≤ vec_capacity c.args.self.now.listed) (some_base (sym c.requires.base ∙ is)) c.requires.fits.room
+    subst (λ (b : Base). length b.network.events ≤ vec_capacity c.args.display.now.listed) (some_base (sym c.requires.base ∙ is)) c.requires.fits.room
 
 pub publish_listed-dropped-requires-clause-events : goal.publish_listed-dropped-requires-clause-events
 publish_listed-dropped-requires-clause-events g c = ap (λ (n : Net). length n.events) c.requires.fits.network ∙ sym c.requires.fits.events
@@ -39,15 +40,15 @@ publish_listed-dropped-requires-clause-listed g c =
     let has = c.requires.has (not_none (vec_len c.args.boards.now) (sym c.if-is_empty.ensures)) in
     let now = c.follow_times-entry.new.into in
     subst (λ (last : List ℕ). ListsMoved last now c.deref.result.now) (sym has.times.last)
-    (subst (λ (listed : List ℕ). ListsMoved c.args.self.now.times now listed) (sym c.deref.ensures.value) c.follow_times-entry.ensures.listed)
+    (subst (λ (listed : List ℕ). ListsMoved c.args.display.now.times now listed) (sym c.deref.ensures.value) c.follow_times-entry.ensures.listed)
 
 pub returns-then-is_empty : goal.returns-then-is_empty
 returns-then-is_empty g c =
-    shows_none _ _ _ _ g.P.Seat.base c.args.main.now c.args.self.now (vec_len c.args.boards.now) c.args.boards.now.items c.args.boards.now.ok.0 (sym c.if-is_empty.ensures) c.requires.legal c.requires.fits
+    shows_none _ _ _ _ g.P.Seat.base c.args.main.now c.args.display.now (vec_len c.args.boards.now) c.args.boards.now.items c.args.boards.now.ok.0 (sym c.if-is_empty.ensures) c.requires.legal c.requires.fits
 
 pub returns : goal.returns
 returns g c =
     let p = c.publish_listed-dropped.ensures in
-    shows_after _ _ _ _ g.P.Seat.base c.args.main.now c.follow_times-entry.new.pass c.args.self.now _ c.args.self.now.net.now c.follow_times-entry.result (vec_len c.args.boards.now) c.args.boards.now.items c.publish_listed-dropped.new.boards.items
+    shows_after _ _ _ _ g.P.Seat.base c.args.main.now c.follow_times-entry.new.pass c.args.display.now _ c.args.display.now.net.now c.follow_times-entry.result (vec_len c.args.boards.now) c.args.boards.now.items c.publish_listed-dropped.new.boards.items
     c.args.boards.now.ok.0 c.requires.fits c.requires.base c.follow_times-entry.ensures.looked c.follow_times-entry.ensures.legal c.follow_times-entry.ensures.times
     c.requires.fits.network c.requires.fits.network c.follow_times-entry.ensures.room c.follow_times-entry.ensures.number refl p.published.stops p.keeps_up p.true_notes p.last p.same_boards p.same_events
