@@ -3,14 +3,15 @@
 
 DISPATCHER is a built dispatcher and BEFORE another one, as of the commit before a change. The counts are of callgrind (Debian's
 `valgrind`), in millions, and the same at each run of one feed. The day is that of bench/day.py with number 7 and 2,000 trains. Each
-row has a bound, and where a count is over it the row is marked and the status is 1. What is said to be beyond loading is the count
-less that of the first row:
+row with a bound is marked where its count is over it, and the status is 1 then. What is said to be beyond another row is the count
+less that row's:
 
-    load      the files and an empty feed               230
-    gen       gen 7 2000                                 75
-    delays    a full feed of delays, beyond loading      70
-    mixed     a full feed of mixed lines, beyond         170
-    check     the text of the delays, beyond loading     45
+    load      the files and an empty feed                  230
+    gen       gen 7 2000                                    75
+    delays    a full feed of delays, beyond load            70
+    mixed     a full feed of mixed lines, beyond load      170
+    read      the check of the text of the empty feed
+    check     that of the text of the delays, beyond read   45
 """
 from __future__ import annotations
 
@@ -29,32 +30,37 @@ import day
 NUMBER, TRAINS = 7, 2_000
 PENALTY = '--penalty=3600'
 
-# The text that is checked.
-TEXT = 'text'
+# The texts that are checked, and the feeds that they are of.
+TEXTS = {'empty-text': 'empty', 'full-text': 'full'}
 
 
 class Row(NamedTuple):
-    """Words of a run, whether loading is taken off, and the bound, in millions of instructions."""
+    """Words of a run, the row whose count is taken off, and the bound, in millions of instructions."""
     name: str
     words: list[str]
-    is_beyond: bool
-    bound: int
+    beyond: str | None = None
+    bound: int | None = None
+
+    def is_over(self, count: float) -> bool:
+        return self.bound is not None and count > self.bound
 
 
 ROWS = [
-    Row('load', ['run', 'net', PENALTY, 'empty'], False, 230),
-    Row('gen', ['gen', str(NUMBER), str(TRAINS), PENALTY], False, 75),
-    Row('delays', ['run', 'net', PENALTY, 'full'], True, 70),
-    Row('mixed', ['run', 'net', PENALTY, 'mixed'], True, 170),
-    Row('check', ['check', 'net', PENALTY, TEXT], True, 45),
+    Row('load', ['run', 'net', PENALTY, 'empty'], bound=230),
+    Row('gen', ['gen', str(NUMBER), str(TRAINS), PENALTY], bound=75),
+    Row('delays', ['run', 'net', PENALTY, 'full'], 'load', 70),
+    Row('mixed', ['run', 'net', PENALTY, 'mixed'], 'load', 170),
+    Row('read', ['check', 'net', PENALTY, 'empty-text']),
+    Row('check', ['check', 'net', PENALTY, 'full-text'], 'read', 45),
 ]
 
 
 def write_day(program: str, folder: str) -> None:
-    """Writes the day, and the text of its delays."""
+    """Writes the day, and the texts of two of its feeds."""
     day.write_day(NUMBER, TRAINS, folder)
-    with open(os.path.join(folder, TEXT), 'wb') as file:
-        subprocess.run([program, 'run', 'net', PENALTY, 'full'], cwd=folder, stdout=file, stderr=subprocess.DEVNULL, check=True)
+    for text, feed in TEXTS.items():
+        with open(os.path.join(folder, text), 'wb') as file:
+            subprocess.run([program, 'run', 'net', PENALTY, feed], cwd=folder, stdout=file, stderr=subprocess.DEVNULL, check=True)
 
 
 def counted(program: str, folder: str, words: list[str]) -> float:
@@ -75,7 +81,7 @@ def counts_of(program: str, folder: str) -> dict[str, float]:
     """The counts of all rows."""
     counts: dict[str, float] = {}
     for row in ROWS:
-        counts[row.name] = counted(program, folder, row.words) - (counts['load'] if row.is_beyond else 0)
+        counts[row.name] = counted(program, folder, row.words) - (counts[row.beyond] if row.beyond else 0)
     return counts
 
 
@@ -98,8 +104,8 @@ def main() -> None:
     print('row      millions  bound' + ('  before  ratio' if before else ''))
     for row in ROWS:
         beside = f'{before[row.name]:8.1f}{now[row.name] / before[row.name]:7.2f}' if before else ''
-        print(f'{row.name:<8}{now[row.name]:9.1f}{row.bound:7}{beside}{"  over" if now[row.name] > row.bound else ""}')
-    sys.exit(any(now[row.name] > row.bound for row in ROWS))
+        print(f'{row.name:<8}{now[row.name]:9.1f}{row.bound or "":>7}{beside}{"  over" if row.is_over(now[row.name]) else ""}')
+    sys.exit(any(row.is_over(now[row.name]) for row in ROWS))
 
 
 if __name__ == '__main__':
