@@ -196,9 +196,10 @@ impl Tree {
     /// Goes to a node and looks at it.
     fn see(&mut self, scout: &mut Scout<'_>, node: usize) -> Result<(), AllocError> {
         if self.go_to(scout, node)? {
-            self.look(scout, node)?;
+            self.look(scout, node)
+        } else {
+            Ok(())
         }
-        Ok(())
     }
 
     /// Looks at the node where the scout stands: where nothing is violated it may be the best, else it may be branched on.
@@ -230,7 +231,7 @@ impl Tree {
             let Some(leaf) = next else {
                 return Ok(());
             };
-            let _children = self.expand(scout, leaf.node)?;
+            let _below = self.expand(scout, leaf.node)?;
         }
         Ok(())
     }
@@ -259,14 +260,19 @@ impl Tree {
             let Some(node) = due.pop() else {
                 return Ok(());
             };
-            let children = self.expand(scout, node)?;
-            for child in children.iter().rev() {
-                if let Some(grown) = self.open_at(*child) {
-                    if grown.cost < limit {
-                        due.push(*child)?;
-                    }
-                }
+            if let Some(below) = self.expand(scout, node)? {
+                self.add_due(&mut due, below.saturating_add(1), limit)?;
+                self.add_due(&mut due, below, limit)?;
             }
+        }
+        Ok(())
+    }
+
+    /// Adds a node that may be branched on, if it costs less than the limit.
+    fn add_due(&self, due: &mut Vec<usize>, node: usize, limit: Cost) -> Result<(), AllocError> {
+        match self.open_at(node) {
+            Some(grown) if grown.cost < limit => due.push(node)?,
+            _ => {}
         }
         Ok(())
     }
@@ -302,19 +308,30 @@ impl Tree {
         Ok(leaves)
     }
 
-    /// Branches at an open leaf that costs less than the best, and gives its children.
-    fn expand(&mut self, scout: &mut Scout<'_>, node: usize) -> Result<Vec<usize>, AllocError> {
-        let mut children = Vec::new(self.alloc);
+    /// Branches at an open leaf that costs less than the best, and gives its first child, which the second follows.
+    fn expand(&mut self, scout: &mut Scout<'_>, node: usize) -> Result<Option<usize>, AllocError> {
         if self.open_at(node).is_none() {
-            return Ok(children);
+            return Ok(None);
         }
         let Some(number) = self.choice_at(scout, node)? else {
             // A cycle, or nothing is violated: it was no open leaf.
             self.close(node);
-            return Ok(children);
+            return Ok(None);
         };
-        let cost = scout.cost();
         let below = self.branch(node, number)?;
+        self.try_children(scout, number, below)?;
+        self.expanded = self.expanded.saturating_add(1);
+        Ok(Some(below))
+    }
+
+    /// Looks at both children of the node where the scout stands, and learns what its choice gains.
+    fn try_children(
+        &mut self,
+        scout: &mut Scout<'_>,
+        number: usize,
+        below: usize,
+    ) -> Result<(), AllocError> {
+        let cost = scout.cost();
         let beside = below.saturating_add(1);
         // The second first, so that the scout then stands at the first.
         let second = self.child(scout, beside)?;
@@ -322,11 +339,7 @@ impl Tree {
             self.go_up(scout)?;
         }
         let first = self.child(scout, below)?;
-        self.learn(scout, number, Gains::over(cost, first, second))?;
-        self.expanded = self.expanded.saturating_add(1);
-        children.push(below)?;
-        children.push(beside)?;
-        Ok(children)
+        self.learn(scout, number, Gains::over(cost, first, second))
     }
 
     /// Goes to a leaf, and gives the violated choice that promises most there.

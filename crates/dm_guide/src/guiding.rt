@@ -42,7 +42,11 @@ pub fn guide<'t, F: Fn(&Round, &mut Searcher<'t>, &mut [Searcher<'t>])>(
     for other in others.iter() {
         first.tree.learn_of(&first.scout, &other.tree)?;
     }
-    let found = found_by(first, others, run, start, budget)?;
+    let mut found = Found {
+        path: Vec::new(alloc),
+        cost: start.cost,
+    };
+    find(first, others, run, start, budget, &mut found)?;
     grow(first, others, run, start.nodes, found, budget)
 }
 
@@ -54,47 +58,48 @@ pub fn in_turn<'t>(round: &Round, first: &mut Searcher<'t>, others: &mut [Search
     }
 }
 
-/// Good choices that cost less than those of the start, if the searchers find some. The first stands at the root before and
+/// Finds good choices that cost less than those of the start, if the searchers find some. The first stands at the root before and
 /// after.
-fn found_by<'t, F: Fn(&Round, &mut Searcher<'t>, &mut [Searcher<'t>])>(
+fn find<'t, F: Fn(&Round, &mut Searcher<'t>, &mut [Searcher<'t>])>(
     first: &mut Searcher<'t>,
     others: &mut [Searcher<'t>],
     run: &F,
     start: Start<'_>,
     budget: u64,
-) -> Result<Found, AllocError>
+    found: &mut Found,
+) -> Result<(), AllocError>
     requires { F.IsAlwaysCallable run.now }
 {
-    let nothing = Found {
-        path: Vec::new(first.alloc),
-        cost: start.cost,
-    };
     // Where nothing is violated at the root, or it costs too much, there is nothing better.
     if first.scout.cost() >= start.cost || first.scout.first_violated()?.is_none() {
-        return Ok(nothing);
+        return Ok(());
     }
+    begin(first, start)?;
+    if first.scout.violated()?.is_empty() {
+        climb(first, others, run, budget.saturating_mul(TRIES))?;
+    }
+    find_here(&mut first.scout, found)?;
+    go_back(&mut first.scout)
+}
+
+/// Dives, or takes over the choices of the start where those that are met so cost no less.
+fn begin(first: &mut Searcher<'_>, start: Start<'_>) -> Result<(), AllocError> {
     let dived = dive(first.alloc, &mut first.scout, &first.tree.table)?;
     if !dived || first.scout.cost() >= start.cost {
         go_back(&mut first.scout)?;
         take_over(&mut first.scout, start.choices)?;
     }
-    if first.scout.violated()?.is_empty() {
-        climb(first, others, run, budget.saturating_mul(TRIES))?;
-    }
-    let found = found_at(&mut first.scout, nothing)?;
-    go_back(&mut first.scout)?;
-    Ok(found)
+    Ok(())
 }
 
-/// The choices where the scout stands, if they violate nothing and cost less than what was found before.
-fn found_at(scout: &mut Scout<'_>, before: Found) -> Result<Found, AllocError> {
-    if scout.first_violated()?.is_some() || scout.cost() >= before.cost {
-        return Ok(before);
+/// Takes the choices where the scout stands, if they violate nothing and cost less than what was found before.
+fn find_here(scout: &mut Scout<'_>, found: &mut Found) -> Result<(), AllocError> {
+    let cost = scout.cost();
+    if scout.first_violated()?.is_none() && cost < found.cost {
+        found.path = scout.path()?;
+        found.cost = cost;
     }
-    Ok(Found {
-        path: scout.path()?,
-        cost: scout.cost(),
-    })
+    Ok(())
 }
 
 /// Decides each choice as these choices say, and the others as the rows have them.

@@ -105,10 +105,10 @@ impl Kicks {
     fn gather(&mut self, scout: &mut Scout<'_>, i: usize) -> Result<(), AllocError> {
         self.ball.forget();
         self.events.forget();
-        let _new = self.ball.add(i)?;
+        self.ball.add(i)?;
         if let Some(ends) = scout.choices().ends(i) {
-            let _new = self.events.add(ends.tail)?;
-            let _new = self.events.add(ends.head)?;
+            self.events.add(ends.tail)?;
+            self.events.add(ends.head)?;
         }
         for k in 0..EVENTS {
             let Some(event) = self.events.list().get(k).copied() else {
@@ -135,12 +135,12 @@ impl Kicks {
         for a in row {
             if let Some(j) = scout.choices().number(*a) {
                 if self.ball.list().len() < BALL && scout.side(j).is_some() {
-                    let _new = self.ball.add(j)?;
+                    self.ball.add(j)?;
                 }
             }
             if *a < net.activities() {
                 let (tail, head) = (net.activity(*a).tail, net.activity(*a).head);
-                let _new = self.events.add(if tail == event { head } else { tail })?;
+                self.events.add(if tail == event { head } else { tail })?;
             }
         }
         Ok(())

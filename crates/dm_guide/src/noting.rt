@@ -76,13 +76,12 @@ impl<T: Drop> Noted<T> {
         self.list.clear();
     }
 
-    /// Notes an item of a place of which there is none yet, and says whether there was none.
-    pub fn note(&mut self, place: usize, item: T) -> Result<bool, AllocError> {
-        let is_new = self.once.is_new(place);
-        if is_new {
+    /// Notes an item of a place of which there is none yet.
+    pub fn note(&mut self, place: usize, item: T) -> Result<(), AllocError> {
+        if self.once.is_new(place) {
             self.list.push(item)?;
         }
-        Ok(is_new)
+        Ok(())
     }
 
     pub fn list(&self) -> &[T] {
@@ -97,14 +96,14 @@ pub type Moves = Noted<Moved>;
 pub type Numbers = Noted<usize>;
 
 impl Noted<usize> {
-    /// Adds a number, and says whether it is new.
-    pub fn add(&mut self, number: usize) -> Result<bool, AllocError> {
+    /// Adds a number, if it is new.
+    pub fn add(&mut self, number: usize) -> Result<(), AllocError> {
         self.note(number, number)
     }
 
     pub fn add_all(&mut self, numbers: &[usize]) -> Result<(), AllocError> {
         for number in numbers {
-            let _new = self.add(*number)?;
+            self.add(*number)?;
         }
         Ok(())
     }

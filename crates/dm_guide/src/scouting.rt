@@ -378,8 +378,8 @@ impl<'a> Scout<'a> {
         }
         *seen = time;
         let moved = Moved { event, before };
-        let _new = self.near.note(event, moved)?;
-        let _new = self.far.note(event, moved)?;
+        self.near.note(event, moved)?;
+        self.far.note(event, moved)?;
         self.judge_entering(event)?;
         self.judge_leaving(event)
     }
@@ -456,7 +456,7 @@ impl<'a> Scout<'a> {
     fn touch(&mut self, row: &[usize]) -> Result<(), AllocError> {
         for a in row {
             if let Some(i) = self.choices.number(*a) {
-                let _new = self.touched.add(i)?;
+                self.touched.add(i)?;
             }
         }
         Ok(())
@@ -529,8 +529,7 @@ impl<'a> Scout<'a> {
             None if is_unkept => self.add(i),
             Some(place) if !is_unkept => {
                 self.take_off(i, place);
-                let _new = self.changed.add(i)?;
-                Ok(())
+                self.changed.add(i)
             }
             _ => Ok(()),
         }
@@ -560,8 +559,7 @@ impl<'a> Scout<'a> {
         let place = self.violated.len();
         self.violated.push(i)?;
         self.set_place(i, Some(place));
-        let _new = self.changed.add(i)?;
-        Ok(())
+        self.changed.add(i)
     }
 
     /// Takes a choice from its place, which the last one gets.

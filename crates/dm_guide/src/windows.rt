@@ -124,7 +124,7 @@ impl Windows {
         let near = scout.far()?;
         self.touched.add_all(&near)?;
         for turned in &scout.turned()? {
-            let _new = self.touched.add(turned.number)?;
+            self.touched.add(turned.number)?;
         }
         Ok(())
     }
@@ -132,9 +132,10 @@ impl Windows {
     /// Takes over what another searcher was better with, if it still is better.
     pub fn take_over(&mut self, scout: &mut Scout<'_>, group: &[Stand]) -> Result<(), AllocError> {
         if take_over(scout, group)? {
-            self.touch(scout)?;
+            self.touch(scout)
+        } else {
+            Ok(())
         }
-        Ok(())
     }
 
     /// Leaves the members of a window undecided, the other decisions fixed, searches there, and decides them as is best. It is
@@ -162,7 +163,7 @@ impl Windows {
     /// The members of the window around a choice: breadth first, those that are decided at the events that a turn of one moves.
     fn gather(&mut self, scout: &mut Scout<'_>, i: usize, size: usize) -> Result<(), AllocError> {
         self.members.forget();
-        let _new = self.members.add(i)?;
+        self.members.add(i)?;
         for k in 0..size {
             let Some(member) = self.members.list().get(k).copied() else {
                 return Ok(());
@@ -194,7 +195,7 @@ impl Windows {
         let _back = scout.set(member, Some(side))?;
         for i in &near {
             if self.members.list().len() < size && scout.side(*i).is_some() {
-                let _new = self.members.add(*i)?;
+                self.members.add(*i)?;
             }
         }
         Ok(())
