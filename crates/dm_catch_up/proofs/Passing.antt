@@ -17,7 +17,7 @@ use Rattle.dm_tail.specs.Watching.{IsWatched, Takes}
 use Rattle.dm_tail.specs.declared.tail.Tail.{Tail}
 use Rattle.dm_tail.specs.declared.watched.Watched.{Watched}
 use Rattle.dm_tail.proofs.FewLines.{few_lines}
-use Rattle.dm_catch_up.specs.Feeds.{IsChanged}
+use Rattle.dm_catch_up.specs.Feeds.{DiffersAt}
 use Rattle.dm_catch_up.specs.Catching.{IsFresh, RefusesFeed}
 use Rattle.dm_catch_up.specs.Inside.Comparing.{IsCompared, HasOther, StopsComparing, StopsReading, IsSame, IsCaughtUp}
 use Rattle.dm_catch_up.specs.declared.catching.CatchUpStop.{CatchUpStop}
@@ -149,11 +149,11 @@ module _ (given : Option (List ℕ)) (items : List LogItem) (pending : List ℕ)
   -- ---- what is not as it was answered
 
   pub missing_there : (x : LogItem) → from < length items → x ≡ get_or items from x → IsUnended pending →
-      IfSome given (λ bytes. IsChanged bytes items (line_of x))
+      IfSome given (λ bytes. DiffersAt bytes items (line_of x))
   missing_there x lt at unended =
       let later : drop from items ≡ x ∷ drop (from + 1) items =
       at_drop_more (λ l. l) items from x lt ∙ ap (λ y. y ∷ drop (from + 1) items) (sym at) in
-      if_some given (λ bytes. bytes ≡ s.front ++ pending) (λ bytes. IsChanged bytes items (line_of x)) (λ bytes e. record {
+      if_some given (λ bytes. bytes ≡ s.front ++ pending) (λ bytes. DiffersAt bytes items (line_of x)) (λ bytes e. record {
         same = take from items;
         next = x;
         later = drop (from + 1) items;
@@ -161,14 +161,14 @@ module _ (given : Option (List ℕ)) (items : List LogItem) (pending : List ℕ)
         cause = inr (record { front = s.front; rest = pending; whole = s.whole; split = e; unended = unended; due = s.due; is_line = refl });
       }) s.is_all
 
-  pub other_in : (told : ℕ) → HasOther pending lines (drop from items) told → IfSome given (λ bytes. IsChanged bytes items told)
+  pub other_in : (told : ℕ) → HasOther pending lines (drop from items) told → IfSome given (λ bytes. DiffersAt bytes items told)
   other_in told o =
       let named : map due_of (take from items) ++ (map due_of o.same ++ o.due ∷ []) ≡ map due_of (take from items ++ o.same) ++ o.due ∷ [] =
       sym (append_assoc (map due_of (take from items)) (map due_of o.same) (o.due ∷ []))
       ∙ ap (λ (l : List DueItem). l ++ o.due ∷ []) (sym (map-append due_of (take from items) o.same)) in
       let due : AreDueItems 0 (lines_of (s.front ++ o.front)) (map due_of (take from items ++ o.same) ++ o.due ∷ []) =
       subst (AreDueItems 0 (lines_of (s.front ++ o.front))) named (behind_first o.front (map due_of o.same ++ o.due ∷ []) o.next_due) in
-      if_some given (λ bytes. bytes ≡ (s.front ++ o.front) ++ o.rest) (λ bytes. IsChanged bytes items told) (λ bytes e. record {
+      if_some given (λ bytes. bytes ≡ (s.front ++ o.front) ++ o.rest) (λ bytes. DiffersAt bytes items told) (λ bytes e. record {
         same = take from items ++ o.same;
         next = o.next;
         later = o.later;

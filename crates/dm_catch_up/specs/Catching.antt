@@ -4,7 +4,7 @@ use Rattle.dm_outside.specs.Faults.{HasRisen}
 use Rattle.dm_cert.specs.declared.replies.LogItem.{LogItem}
 use Rattle.dm_tail.specs.Watching.{KnowsLines}
 use Rattle.dm_tail.specs.declared.watched.Watched.{Watched}
-use Rattle.dm_catch_up.specs.Feeds.{IsChanged}
+use Rattle.dm_catch_up.specs.Feeds.{DiffersAt}
 use Rattle.dm_catch_up.specs.declared.catching.CatchUpStop.{CatchUpStop}
 use Rattle.dm_catch_up.specs.declared.catching.CatchUpStop.TheVariants as stop
 
@@ -20,4 +20,4 @@ pub record IsFresh {T : Type 0} (given : T → Option (List ℕ)) (watched : Wat
 abbrev pub RefusesFeed : {T : Type 0} → (T → Option (List ℕ)) → (T → ℕ) → List LogItem → Watched T → Watched T → CatchUpStop → Type 0
 RefusesFeed given faults items before now stop.OutOfMemory = Unit {0}
 RefusesFeed given faults items before now stop.Fault = HasRisen (faults before.tail.feed) (faults now.tail.feed)
-RefusesFeed given faults items before now (stop.Changed line) = IfSome (given now.tail.feed) (λ bytes. IsChanged bytes items line)
+RefusesFeed given faults items before now (stop.Changed line) = IfSome (given now.tail.feed) (λ bytes. DiffersAt bytes items line)

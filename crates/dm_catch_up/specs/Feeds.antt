@@ -42,7 +42,7 @@ pub record HasNoLine (given : List ℕ) (same : List LogItem) (next : LogItem) (
 
 -- This line of what the feed holds is not the one that was answered: up to there its due lines are those of the items, and then one is
 -- another, or is missing.
-pub record IsChanged (given : List ℕ) (items : List LogItem) (line : ℕ) : Type 0 where
+pub record DiffersAt (given : List ℕ) (items : List LogItem) (line : ℕ) : Type 0 where
   pub same : List LogItem
   pub next : LogItem
   pub later : List LogItem

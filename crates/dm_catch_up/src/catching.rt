@@ -56,7 +56,7 @@ pub fn catch_up<T: Growing + Drop>(
 {
     let mut from = 0;
     while from < watched.log.len() {
-        match pass_more(alloc, watched, buffer, from) {
+        match skip_more(alloc, watched, buffer, from) {
             Ok(now) => from = now,
             Err(stop) => return Err(stop),
         }
@@ -74,7 +74,7 @@ fn ends_line(bytes: &[u8]) -> bool
 
 /// Reads more of a feed, of which so many items are answered, and passes the lines that the next ones answer. It answers how many
 /// are answered then.
-fn pass_more<T: Growing + Drop>(
+fn skip_more<T: Growing + Drop>(
     alloc: Global,
     watched: &mut Watched<T>,
     buffer: &mut [u8],
@@ -104,7 +104,7 @@ fn pass_more<T: Growing + Drop>(
         Err(stop) => return Err(stop),
     };
     watched.lines = compared.lines;
-    let Ok(()) = watched.tail.pass(alloc, compared.bytes) else {
+    let Ok(()) = watched.tail.skip(alloc, compared.bytes) else {
         return Err(CatchUpStop::OutOfMemory);
     };
     Ok(from + compared.items)

@@ -5,7 +5,7 @@ ghost use Rattle.dm_rows.specs.Rows.{IsSized};
 ghost use Rattle.dm_cert.specs.declared.limits.TheConstants.{PLANS};
 ghost use Rattle.dm_cert.specs.Answers.{rows_after};
 ghost use Rattle.dm_check_rows.specs.Claims.{AreCheckedRowsOf};
-ghost use Rattle.dm_check_answers.specs.Judging.{IsDay, setting_of, history_of, value_of};
+ghost use Rattle.dm_check_answers.specs.Judging.{IsRunSetting, setting_of, history_of, value_of};
 ghost use Rattle.dm_check.specs.FalseRecords.{IsVerdict};
 ghost use Rattle.dm_check.specs.Judged.{AreFlagged, IsHeader, BodyOn, LogsAndRestOn, HistoryOn, RunOn};
 
@@ -17,7 +17,7 @@ use crate::told_lines::version_told;
 use crate::told_records::{entries_told, feeds_told, penalty_told};
 use crate::told_rest::rest_told;
 use crate::verdicts::Verdict;
-use dm_check_answers::{Day, Journal};
+use dm_check_answers::{Journal, RunSetting};
 use dm_check_rows::CheckedRows;
 use dm_network::Network;
 use dm_rows::Rows;
@@ -47,16 +47,16 @@ fn logs_then_rest_told(
     checked: &mut CheckedRows,
     header: Header,
 ) -> Result<usize, Stop>
-    requires day { IsDay journal.now.day }
+    requires setting { IsRunSetting journal.now.setting }
     requires goes_over { logs.old.replay.journal ≡ value_of journal.now }
-    requires stands { AreCheckedRowsOf journal.now.day.net.now checked.old }
-    requires rows_are { checked.old.rows ≡ rows_after (setting_of journal.now.day) (history_of journal.now)
+    requires stands { AreCheckedRowsOf journal.now.setting.net.now checked.old }
+    requires rows_are { checked.old.rows ≡ rows_after (setting_of journal.now.setting) (history_of journal.now)
         (length (history_of journal.now)) }
     requires header { IsHeader header }
     requires none { AreFlagged [] logs.old.named.items }
     requires each { length logs.old.named.items ≡ length (history_of journal.now) }
     requires counted { length (history_of journal.now) ≡ header.entries }
-    ensures { LogsAndRestOn (setting_of journal.now.day) (history_of journal.now) header.feeds lines.old lines.new result }
+    ensures { LogsAndRestOn (setting_of journal.now.setting) (history_of journal.now) header.feeds lines.old lines.new result }
 {
     let plans = match logs.all_logs(lines, header.feeds) {
         Ok(plans) => plans,
@@ -75,15 +75,15 @@ fn logs_and_rest_told(
     checked: &mut CheckedRows,
     header: Header,
 ) -> Result<usize, Stop>
-    requires day { IsDay journal.now.day }
-    requires stands { AreCheckedRowsOf journal.now.day.net.now checked.old }
-    requires rows_are { checked.old.rows ≡ rows_after (setting_of journal.now.day) (history_of journal.now)
+    requires setting { IsRunSetting journal.now.setting }
+    requires stands { AreCheckedRowsOf journal.now.setting.net.now checked.old }
+    requires rows_are { checked.old.rows ≡ rows_after (setting_of journal.now.setting) (history_of journal.now)
         (length (history_of journal.now)) }
     requires header { IsHeader header }
     requires counted { length (history_of journal.now) ≡ header.entries }
-    ensures { LogsAndRestOn (setting_of journal.now.day) (history_of journal.now) header.feeds lines.old lines.new result }
+    ensures { LogsAndRestOn (setting_of journal.now.setting) (history_of journal.now) header.feeds lines.old lines.new result }
 {
-    let alloc = journal.day.alloc;
+    let alloc = journal.setting.alloc;
     let Ok(named) = vec![in alloc; false; journal.entries.len()] else {
         return Err(Stop::OutOfMemory);
     };
@@ -98,24 +98,31 @@ fn logs_and_rest_told(
 /// The entries and what stands behind them, from the rows at the start.
 fn entries_then_logs_told(
     lines: &mut Lines,
-    day: &Day<'_>,
+    setting: &RunSetting<'_>,
     header: Header,
     checked: CheckedRows,
 ) -> Result<Counts, Stop>
-    requires day { IsDay day.now }
+    requires setting { IsRunSetting setting.now }
     requires header { IsHeader header }
-    requires stands { AreCheckedRowsOf day.now.net.now checked }
-    requires copied { checked.rows ≡ day.now.start.now }
-    ensures { HistoryOn (setting_of day.now) header.feeds header.entries lines.old lines.new result }
+    requires stands { AreCheckedRowsOf setting.now.net.now checked }
+    requires copied { checked.rows ≡ setting.now.start.now }
+    ensures { HistoryOn (setting_of setting.now) header.feeds header.entries lines.old lines.new result }
 {
     let (feeds, entries) = (header.feeds, header.entries);
     let mut checked = checked;
-    let history = match all_entries(day.alloc, lines, day.net, &mut checked, feeds, entries) {
+    let history = match all_entries(
+        setting.alloc,
+        lines,
+        setting.net,
+        &mut checked,
+        feeds,
+        entries,
+    ) {
         Ok(history) => history,
         Err(stop) => return Err(stop),
     };
     let journal = Journal {
-        day: *day,
+        setting: *setting,
         entries: &history,
     };
     match logs_and_rest_told(lines, &journal, &mut checked, header) {
@@ -128,23 +135,23 @@ fn entries_then_logs_told(
 }
 
 /// The entries and what stands behind them.
-fn history_told(lines: &mut Lines, day: &Day<'_>, header: Header) -> Result<Counts, Stop>
-    requires day { IsDay day.now }
+fn history_told(lines: &mut Lines, setting: &RunSetting<'_>, header: Header) -> Result<Counts, Stop>
+    requires setting { IsRunSetting setting.now }
     requires header { IsHeader header }
-    ensures { HistoryOn (setting_of day.now) header.feeds header.entries lines.old lines.new result }
+    ensures { HistoryOn (setting_of setting.now) header.feeds header.entries lines.old lines.new result }
 {
-    match day.rows() {
-        Ok(checked) => entries_then_logs_told(lines, day, header, checked),
+    match setting.rows() {
+        Ok(checked) => entries_then_logs_told(lines, setting, header, checked),
         Err(AllocError) => Err(Stop::OutOfMemory),
     }
 }
 
 /// What stands behind the version.
-fn body_told(lines: &mut Lines, day: &Day<'_>) -> Result<Counts, Stop>
-    requires { IsDay day.now }
-    ensures { BodyOn (setting_of day.now) lines.old lines.new result }
+fn body_told(lines: &mut Lines, setting: &RunSetting<'_>) -> Result<Counts, Stop>
+    requires { IsRunSetting setting.now }
+    ensures { BodyOn (setting_of setting.now) lines.old lines.new result }
 {
-    match penalty_told(lines, day.penalty) {
+    match penalty_told(lines, setting.penalty) {
         Ok(_penalty) => (),
         Err(fault) => return Err(Stop::Fault(fault)),
     }
@@ -156,7 +163,7 @@ fn body_told(lines: &mut Lines, day: &Day<'_>) -> Result<Counts, Stop>
         Ok(entries) => entries,
         Err(fault) => return Err(Stop::Fault(fault)),
     };
-    history_told(lines, day, Header { feeds, entries })
+    history_told(lines, setting, Header { feeds, entries })
 }
 
 /// The whole run.
@@ -178,7 +185,7 @@ fn run_told(
         Ok(version) => version,
         Err(fault) => return Err(Stop::Fault(fault)),
     };
-    let day = Day {
+    let setting = RunSetting {
         alloc,
         net,
         start,
@@ -186,7 +193,7 @@ fn run_told(
         plans,
         version,
     };
-    body_told(lines, &day)
+    body_told(lines, &setting)
 }
 
 /// What is told of a text: that it is good, or the first record that breaks its rule.

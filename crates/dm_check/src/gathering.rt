@@ -1,7 +1,7 @@
 //! What the answers of a text claim of rows, found before they are judged.
 ghost use Rattle.std.specs.Prelude.{◌≡◌, All, IfOk, IfSome};
 ghost use Rattle.dm_check_answers.specs.Claims.{IsSpelledAnswer};
-ghost use Rattle.dm_check_answers.specs.Judging.{IsDay, value_of};
+ghost use Rattle.dm_check_answers.specs.Judging.{IsRunSetting, value_of};
 ghost use Rattle.dm_check.specs.Inside.Gathering.{IsSpelled};
 
 use dm_check_answers::{Answered, Journal, Replay};
@@ -16,7 +16,7 @@ pub(crate) fn replay_for<'j>(
     journal: Journal<'j>,
     feeds: usize,
 ) -> Result<Replay<'j>, AllocError>
-    requires { IsDay journal.day }
+    requires { IsRunSetting journal.setting }
     ensures { IfOk result (λ r. r.journal ≡ value_of journal.entry) }
 {
     let mut replay = match Replay::new(journal) {
@@ -26,7 +26,7 @@ pub(crate) fn replay_for<'j>(
     if feeds < 2 {
         return Ok(replay);
     }
-    let claims = match claims_in(journal.day.alloc, journal.day.version, lines.left()) {
+    let claims = match claims_in(journal.setting.alloc, journal.setting.version, lines.left()) {
         Ok(claims) => claims,
         Err(AllocError) => return Err(AllocError),
     };

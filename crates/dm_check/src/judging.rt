@@ -33,7 +33,7 @@ pub fn check(
     ensures verdict { IfOk result (IsVerdict net.now start.now penalty plans text.now) }
     ensures good { IfOk result (λ verdict. SaysGood verdict ↔ IsRunText net.now start.now penalty plans text.now) }
 {
-    net.sound();
+    net.reveal();
     start.is_within_limits();
     match verdict_on(alloc, net, start, penalty, plans, text) {
         Ok(verdict) => Ok(verdict),

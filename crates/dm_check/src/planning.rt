@@ -5,7 +5,7 @@ ghost use Rattle.dm_cert.specs.declared.replies.LogItem.{LogItem};
 ghost use Rattle.dm_cert.specs.declared.replies.Reply.TheVariants.{Planned as PlanReply};
 ghost use Rattle.dm_cert.specs.Answers.{IsBudget, IsPlanFor, IsTrueReply};
 ghost use Rattle.dm_check_rows.specs.Claims.{Tells};
-ghost use Rattle.dm_check_answers.specs.Judging.{IsDay, IsPast, setting_of, history_of};
+ghost use Rattle.dm_check_answers.specs.Judging.{IsRunSetting, IsPast, setting_of, history_of};
 
 use dm_check_answers::{Asked, Journal, Past, Replay, is_budget};
 use dm_check_plans::is_true_plan;
@@ -16,18 +16,18 @@ use std::alloc::AllocError;
 /// Whether a plan may be an answer: as many nodes may be asked for, the feed has not had all its plans, and there are as many
 /// entries.
 fn may_be(journal: &Journal<'_>, past: &Past, budget: u64, plan: &Plan) -> bool
-    requires day { IsDay journal.now.day }
-    ensures in_range { result ≡ true → IsBudget (setting_of journal.now.day) budget }
-    ensures fewer { result ≡ true → past.now.plans < (setting_of journal.now.day).plans }
+    requires setting { IsRunSetting journal.now.setting }
+    ensures in_range { result ≡ true → IsBudget (setting_of journal.now.setting) budget }
+    ensures fewer { result ≡ true → past.now.plans < (setting_of journal.now.setting).plans }
     ensures few { result ≡ true → past.now.plans < PLANS }
     ensures within { result ≡ true → plan.now.entry ≤ length (history_of journal.now) }
     ensures never { result ≡ false → (before : List LogItem) → IsPast before past.now
-        → IsPlanFor (setting_of journal.now.day) (history_of journal.now) before budget plan.now → ⊥ }
+        → IsPlanFor (setting_of journal.now.setting) (history_of journal.now) before budget plan.now → ⊥ }
 {
     if !is_budget(journal, budget) {
         return false;
     }
-    past.plans < journal.day.plans as usize && plan.entry as usize <= journal.entries.len()
+    past.plans < journal.setting.plans as usize && plan.entry as usize <= journal.entries.len()
 }
 
 /// Whether a plan is a true answer to a feed's line, behind what stands before it in the feed's log. It is asked of each node of
@@ -54,11 +54,11 @@ pub(crate) fn is_true_plan_answer(
         Ok(()) => (),
         Err(AllocError) => return Err(AllocError),
     }
-    let day = journal.day;
+    let setting = journal.setting;
     is_true_plan(
-        day.alloc,
-        day.net,
-        day.penalty,
+        setting.alloc,
+        setting.net,
+        setting.penalty,
         replay.rows(),
         *budget,
         plan,

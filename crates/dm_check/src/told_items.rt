@@ -184,7 +184,12 @@ impl<'j> Logs<'j> {
         ensures same { self.new.replay.journal ≡ self.old.replay.journal }
     {
         let journal = self.replay.journal();
-        let shown = match block_told(journal.day.alloc, lines, journal.day.version, opening) {
+        let shown = match block_told(
+            journal.setting.alloc,
+            lines,
+            journal.setting.version,
+            opening,
+        ) {
             Ok(shown) => shown,
             Err(stop) => return Err(stop),
         };
@@ -206,7 +211,7 @@ impl<'j> Logs<'j> {
     {
         let first = lines.line();
         let journal = self.replay.journal();
-        let said = match item_told(journal.day.alloc, lines, journal.day.version) {
+        let said = match item_told(journal.setting.alloc, lines, journal.setting.version) {
             Ok(said) => said,
             Err(stop) => return Err(stop),
         };

@@ -5,7 +5,7 @@ ghost use Rattle.dm_rows.specs.Timetable.{IsLeast};
 ghost use Rattle.dm_check_times.specs.Binding.{AreBelowLimit};
 ghost use Rattle.dm_cert.specs.RunTexts.{Run};
 ghost use Rattle.dm_check_rows.specs.Claims.{AreCheckedRowsOf, times_of};
-ghost use Rattle.dm_check_answers.specs.Judging.{IsDay};
+ghost use Rattle.dm_check_answers.specs.Judging.{IsRunSetting};
 ghost use Rattle.dm_check.specs.FalseRecords.{TellsNumber, TellsTime, TellsCost, TellsEnd};
 ghost use Rattle.dm_check.specs.Judged.{Judges, TellsTimetable};
 
@@ -14,7 +14,7 @@ use crate::told_lines::{number_told, time_told, word_told};
 use crate::verdicts::BadKind;
 use dm_base::Cost;
 use dm_base::limits::{ENTRIES, FEEDS};
-use dm_check_answers::Day;
+use dm_check_answers::RunSetting;
 use dm_check_rows::CheckedRows;
 use dm_text::Lines;
 
@@ -92,22 +92,22 @@ fn this_number_told(lines: &mut Lines, words: &str, expected: u128) -> Result<u1
 /// The time of the event at this place, where the times are the least ones.
 pub(crate) fn event_told(
     lines: &mut Lines,
-    day: &Day<'_>,
+    setting: &RunSetting<'_>,
     checked: &CheckedRows,
     i: usize,
 ) -> Result<u128, Fault>
-    requires stands { AreCheckedRowsOf day.now.net.now checked.now }
-    requires least { IsLeast day.now.net.now checked.now.rows (times_of checked.now) }
-    requires is_event { i < length day.now.net.now.events }
+    requires stands { AreCheckedRowsOf setting.now.net.now checked.now }
+    requires least { IsLeast setting.now.net.now checked.now.rows (times_of checked.now) }
+    requires is_event { i < length setting.now.net.now.events }
     ensures { (before : List ℕ) → length before ≡ i
-        → Judges (TellsTime day.now.net.now checked.now.rows before) (λ t. t) lines.old lines.new result }
+        → Judges (TellsTime setting.now.net.now checked.now.rows before) (λ t. t) lines.old lines.new result }
 {
     let line = lines.line();
     let said = match time_told(lines) {
         Ok(said) => said,
         Err(fault) => return Err(fault),
     };
-    if said.event == day.net.event(i).id.0 && checked.is_time(i, said.time) {
+    if said.event == setting.net.event(i).id.0 && checked.is_time(i, said.time) {
         Ok(said.time)
     } else {
         Err(Fault {
@@ -120,21 +120,21 @@ pub(crate) fn event_told(
 /// The final cost, where the times are the least ones.
 pub(crate) fn cost_told(
     lines: &mut Lines,
-    day: &Day<'_>,
+    setting: &RunSetting<'_>,
     checked: &CheckedRows,
 ) -> Result<Cost, Fault>
-    requires stands { AreCheckedRowsOf day.now.net.now checked.now }
-    requires least { IsLeast day.now.net.now checked.now.rows (times_of checked.now) }
+    requires stands { AreCheckedRowsOf setting.now.net.now checked.now }
+    requires least { IsLeast setting.now.net.now checked.now.rows (times_of checked.now) }
     requires early { AreBelowLimit (times_of checked.now) }
-    requires day { IsDay day.now }
-    ensures { Judges (TellsCost day.now.net.now checked.now.rows day.now.penalty) (λ c. c) lines.old lines.new result }
+    requires setting { IsRunSetting setting.now }
+    ensures { Judges (TellsCost setting.now.net.now checked.now.rows setting.now.penalty) (λ c. c) lines.old lines.new result }
 {
     let line = lines.line();
     let number = match number_told(lines, "cost ") {
         Ok(number) => number,
         Err(fault) => return Err(fault),
     };
-    if checked.is_cost(day.net, day.penalty, number) {
+    if checked.is_cost(setting.net, setting.penalty, number) {
         Ok(number)
     } else {
         Err(Fault {
@@ -164,15 +164,15 @@ pub(crate) fn end_told(lines: &mut Lines) -> Result<(), Fault>
 /// The times of all events, where the times are the least ones.
 pub(crate) fn timetable_told(
     lines: &mut Lines,
-    day: &Day<'_>,
+    setting: &RunSetting<'_>,
     checked: &CheckedRows,
 ) -> Result<(), Fault>
-    requires stands { AreCheckedRowsOf day.now.net.now checked.now }
-    requires least { IsLeast day.now.net.now checked.now.rows (times_of checked.now) }
-    ensures { TellsTimetable day.now.net.now checked.now.rows lines.old lines.new result }
+    requires stands { AreCheckedRowsOf setting.now.net.now checked.now }
+    requires least { IsLeast setting.now.net.now checked.now.rows (times_of checked.now) }
+    ensures { TellsTimetable setting.now.net.now checked.now.rows lines.old lines.new result }
 {
-    for i in 0..day.net.events() {
-        match event_told(lines, day, checked, i) {
+    for i in 0..setting.net.events() {
+        match event_told(lines, setting, checked, i) {
             Ok(_time) => (),
             Err(fault) => return Err(fault),
         }

@@ -8,7 +8,7 @@ ghost use Rattle.dm_cert.specs.declared.notes.Note.{Note};
 ghost use Rattle.dm_cert.specs.declared.replies.FeedLog.{FeedLog};
 ghost use Rattle.dm_cert.specs.Logs.{all_items};
 ghost use Rattle.dm_check_rows.specs.Claims.{AreCheckedRowsOf, times_of};
-ghost use Rattle.dm_check_answers.specs.Judging.{IsDay, setting_of, history_of};
+ghost use Rattle.dm_check_answers.specs.Judging.{IsRunSetting, setting_of, history_of};
 ghost use Rattle.dm_check.specs.Judged.{AreFlagged, EndingOn, RestOn};
 
 use crate::faults::{Fault, Stop};
@@ -25,18 +25,18 @@ use dm_text::Lines;
 
 /// The times, the cost and the last line, where the times are the least ones.
 fn priced_told(lines: &mut Lines, journal: &Journal<'_>, checked: &CheckedRows) -> Result<(), Stop>
-    requires day { IsDay journal.now.day }
-    requires stands { AreCheckedRowsOf journal.now.day.net.now checked.now }
-    requires least { IsLeast journal.now.day.net.now checked.now.rows (times_of checked.now) }
+    requires setting { IsRunSetting journal.now.setting }
+    requires stands { AreCheckedRowsOf journal.now.setting.net.now checked.now }
+    requires least { IsLeast journal.now.setting.net.now checked.now.rows (times_of checked.now) }
     requires early { AreBelowLimit (times_of checked.now) }
     ensures { (logs : List FeedLog) (notes : List Note)
-        → EndingOn (setting_of journal.now.day) (history_of journal.now) logs notes checked.now.rows lines.old lines.new result }
+        → EndingOn (setting_of journal.now.setting) (history_of journal.now) logs notes checked.now.rows lines.old lines.new result }
 {
-    match timetable_told(lines, &journal.day, checked) {
+    match timetable_told(lines, &journal.setting, checked) {
         Ok(()) => (),
         Err(fault) => return Err(Stop::Fault(fault)),
     }
-    match cost_told(lines, &journal.day, checked) {
+    match cost_told(lines, &journal.setting, checked) {
         Ok(_cost) => (),
         Err(fault) => return Err(Stop::Fault(fault)),
     }
@@ -48,11 +48,11 @@ fn priced_told(lines: &mut Lines, journal: &Journal<'_>, checked: &CheckedRows) 
 
 /// The first time, which is not true where the rows have a cycle.
 fn untimed_told(lines: &mut Lines, journal: &Journal<'_>, rows: &Rows) -> Result<(), Stop>
-    requires cyclic { HasNoCycle journal.now.day.net.now rows.now → ⊥ }
+    requires cyclic { HasNoCycle journal.now.setting.net.now rows.now → ⊥ }
     ensures { (logs : List FeedLog) (notes : List Note)
-        → EndingOn (setting_of journal.now.day) (history_of journal.now) logs notes rows.now lines.old lines.new result }
+        → EndingOn (setting_of journal.now.setting) (history_of journal.now) logs notes rows.now lines.old lines.new result }
 {
-    journal.day.net.sound();
+    journal.setting.net.reveal();
     let line = lines.line();
     match time_told(lines) {
         Ok(_said) => Err(Stop::Fault(Fault {
@@ -69,12 +69,12 @@ fn ending_told(
     journal: &Journal<'_>,
     checked: &mut CheckedRows,
 ) -> Result<(), Stop>
-    requires day { IsDay journal.now.day }
-    requires stands { AreCheckedRowsOf journal.now.day.net.now checked.old }
+    requires setting { IsRunSetting journal.now.setting }
+    requires stands { AreCheckedRowsOf journal.now.setting.net.now checked.old }
     ensures { (logs : List FeedLog) (notes : List Note)
-        → EndingOn (setting_of journal.now.day) (history_of journal.now) logs notes checked.old.rows lines.old lines.new result }
+        → EndingOn (setting_of journal.now.setting) (history_of journal.now) logs notes checked.old.rows lines.old lines.new result }
 {
-    match checked.settle(journal.day.net) {
+    match checked.settle(journal.setting.net) {
         Ok(()) => priced_told(lines, journal, checked),
         Err(HeldCycle) => untimed_told(lines, journal, checked.rows()),
     }
@@ -88,20 +88,20 @@ pub(crate) fn rest_told(
     named: &[bool],
     entries: u32,
 ) -> Result<(), Stop>
-    requires day { IsDay journal.now.day }
-    requires stands { AreCheckedRowsOf journal.now.day.net.now checked.old }
-    requires rows_are { checked.old.rows ≡ rows_after (setting_of journal.now.day) (history_of journal.now)
+    requires setting { IsRunSetting journal.now.setting }
+    requires stands { AreCheckedRowsOf journal.now.setting.net.now checked.old }
+    requires rows_are { checked.old.rows ≡ rows_after (setting_of journal.now.setting) (history_of journal.now)
         (length (history_of journal.now)) }
     requires each { length named.now ≡ length (history_of journal.now) }
     requires counted { length (history_of journal.now) ≡ entries }
     ensures { (logs : List FeedLog) → AreFlagged (all_items logs) named.now
-        → RestOn (setting_of journal.now.day) (history_of journal.now) logs lines.old lines.new result }
+        → RestOn (setting_of journal.now.setting) (history_of journal.now) logs lines.old lines.new result }
 {
     let notes = match boards_told(lines, named) {
         Ok(notes) => notes,
         Err(fault) => return Err(Stop::Fault(fault)),
     };
-    match all_notes(journal.day.alloc, lines, entries as usize, notes) {
+    match all_notes(journal.setting.alloc, lines, entries as usize, notes) {
         Ok(()) => (),
         Err(stop) => return Err(stop),
     }

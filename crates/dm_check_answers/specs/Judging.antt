@@ -14,14 +14,14 @@ use Rattle.dm_cert.specs.Logs.{kind_of, line_of, number_after}
 use Rattle.dm_cert.specs.PlanTexts.{IsVersion}
 use Rattle.dm_check_rows.specs.Claims.{AreCheckedRowsOf, CheckedRowsValue, Tells}
 use Rattle.dm_check_answers.specs.Claims.{IsKnown}
-use Rattle.dm_check_answers.specs.declared.journal.Day.{Day}
+use Rattle.dm_check_answers.specs.declared.journal.RunSetting.{RunSetting}
 use Rattle.dm_check_answers.specs.declared.journal.Journal.{Journal}
 use Rattle.dm_check_answers.specs.declared.known.Known.{Known}
 use Rattle.dm_check_answers.specs.declared.past.Past.{Past}
 
 -- ---- what answers are judged by
 
-abbrev pub setting_of : Day → Setting
+abbrev pub setting_of : RunSetting → Setting
 setting_of d =
     record { net = d.net.now; start = d.start.now; penalty = d.penalty; plans = d.plans; version = d.version }
 
@@ -29,7 +29,7 @@ abbrev pub history_of : Journal → List Entry
 history_of j = j.entries.now
 
 -- the rows at the start are of the network, the penalty is not too large, nor the number of plans, and there is such a version
-pub record IsDay (d : Day) : Type 0 where
+pub record IsRunSetting (d : RunSetting) : Type 0 where
   pub sized : IsSized d.net.now d.start.now
   pub penalty : d.penalty ≤ PENALTY
   pub plans : d.plans ≤ PLANS
@@ -41,7 +41,7 @@ pub record JournalValue : Type 0 where
   pub history : List Entry
 
 abbrev pub value_of : Journal → JournalValue
-value_of j = record { setting = setting_of j.day; history = history_of j }
+value_of j = record { setting = setting_of j.setting; history = history_of j }
 
 -- a replay is seen as its journal, and after how many entries its rows are
 pub record ReplayValue : Type 0 where
@@ -50,11 +50,11 @@ pub record ReplayValue : Type 0 where
 
 -- these are the rows after so many entries of a journal, and what is known of claims is right
 pub record IsReplay (j : Journal) (checked : CheckedRowsValue) (entry : ℕ) (known : Known) : Type 0 where
-  pub day : IsDay j.day
-  pub rows_are : checked.rows ≡ rows_after (setting_of j.day) (history_of j) entry
+  pub setting : IsRunSetting j.setting
+  pub rows_are : checked.rows ≡ rows_after (setting_of j.setting) (history_of j) entry
   pub within : entry ≤ length (history_of j)
-  pub stands : AreCheckedRowsOf j.day.net.now checked
-  pub knows : IsKnown (setting_of j.day) (history_of j) known
+  pub stands : AreCheckedRowsOf j.setting.net.now checked
+  pub knows : IsKnown (setting_of j.setting) (history_of j) known
 
 -- ---- what stands before an item of a log
 

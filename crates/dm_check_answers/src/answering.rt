@@ -57,7 +57,8 @@ impl<'a> Replay<'a> {
 /// Whether the answer to the question for the number of entries is true.
 fn is_true_of_read(journal: &Journal<'_>, answer: &Answer) -> bool
     ensures { (feed line : ℕ) (before : List LogItem)
-        → Tells (IsTrueReply (setting_of journal.now.day) (history_of journal.now) feed before line AskRead (reply_of answer.now)) result }
+        → Tells (IsTrueReply (setting_of journal.now.setting) (history_of journal.now) feed before line AskRead
+        (reply_of answer.now)) result }
 {
     match answer {
         Answer::Read(n) => *n as usize <= journal.entries.len(),

@@ -1,16 +1,16 @@
 //! What the answers of a run are judged by.
 ghost use Rattle.std.specs.Prelude.{◌≡◌, IfOk};
 ghost use Rattle.dm_check_rows.specs.Claims.{AreCheckedRowsOf};
-ghost use Rattle.dm_check_answers.specs.Judging.{IsDay};
+ghost use Rattle.dm_check_answers.specs.Judging.{IsRunSetting};
 
 use dm_check_rows::CheckedRows;
 use dm_network::Network;
 use dm_rows::{Entry, Rows};
 use std::alloc::{AllocError, Global};
 
-/// The day of a run: what it is judged by besides its entries.
+/// What a run is judged by besides its entries.
 #[derive(Clone, Copy)]
-pub struct Day<'a> {
+pub struct RunSetting<'a> {
     /// Where the judging takes memory.
     pub alloc: Global,
 
@@ -29,10 +29,10 @@ pub struct Day<'a> {
     pub version: u32,
 }
 
-impl<'a> Day<'a> {
+impl<'a> RunSetting<'a> {
     /// The rows before the first entry. `Err` is want of memory alone.
     pub fn rows(&self) -> Result<CheckedRows, AllocError>
-        requires { IsDay self.now }
+        requires { IsRunSetting self.now }
         ensures stands { IfOk result (AreCheckedRowsOf self.now.net.now) }
         ensures rows { IfOk result (λ d. d.rows ≡ self.now.start.now) }
     {
@@ -46,9 +46,9 @@ impl<'a> Day<'a> {
     }
 }
 
-/// The accepted messages of a run, in order, with its day.
+/// The accepted messages of a run, in order, with its setting.
 #[derive(Clone, Copy)]
 pub struct Journal<'a> {
-    pub day: Day<'a>,
+    pub setting: RunSetting<'a>,
     pub entries: &'a [Entry],
 }

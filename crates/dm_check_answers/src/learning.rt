@@ -21,7 +21,7 @@ impl<'a> Replay<'a> {
         requires { All IsSpelledAnswer claims.items }
         ensures same { self.new.journal ≡ self.old.journal }
     {
-        let alloc = self.journal.day.alloc;
+        let alloc = self.journal.setting.alloc;
         let turns = turns_of(alloc, &claims)?;
         let verdicts = no_verdicts(alloc, claims.len())?;
         let mut known = Known {

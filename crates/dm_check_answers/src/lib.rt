@@ -1,7 +1,7 @@
 //! Whether the answers of a log are true.
 //!
 //! It stands on dm_check_rows for what is claimed of rows, and on dm_records for what a text says. A [`Journal`] is what answers
-//! are judged by: the entries, and the [`Day`] that they began with. A [`Replay`] goes over it, so that the rows at rising
+//! are judged by: the entries, and the [`RunSetting`] that they began with. A [`Replay`] goes over it, so that the rows at rising
 //! entry numbers cost one walk; it knows the verdicts on claims that were judged before. [`Past`] is what the next answer of a
 //! feed needs of the items before it, and [`Asked`] is the line that is answered, with that.
 //!
@@ -30,7 +30,7 @@ mod timing;
 
 pub use asked::Asked;
 pub use claims::Answered;
-pub use journal::{Day, Journal};
+pub use journal::{Journal, RunSetting};
 pub use past::Past;
 pub use planning::is_budget;
 pub use replay::Replay;

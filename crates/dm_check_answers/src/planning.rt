@@ -17,10 +17,10 @@ const FIRST_BUDGET: u64 = 4_096;
 
 /// Whether a plan may be asked to have so many nodes.
 pub fn is_budget(journal: &Journal<'_>, budget: u64) -> bool
-    ensures within { result ≡ true → IsBudget (setting_of journal.now.day) budget }
-    ensures beyond { result ≡ false → IsOutOfRange (setting_of journal.now.day) budget }
+    ensures within { result ≡ true → IsBudget (setting_of journal.now.setting) budget }
+    ensures beyond { result ≡ false → IsOutOfRange (setting_of journal.now.setting) budget }
 {
-    let most = if journal.day.version == 1 {
+    let most = if journal.setting.version == 1 {
         FIRST_BUDGET
     } else {
         BUDGET
@@ -36,13 +36,13 @@ pub(crate) fn is_true_of_plan(
     answer: &Answer,
 ) -> bool
     ensures { (before : List LogItem) → IsPast before asked.now.past.now
-        → Tells (IsTrueReply (setting_of journal.now.day) (history_of journal.now) asked.now.feed before asked.now.line (AskPlan budget)
+        → Tells (IsTrueReply (setting_of journal.now.setting) (history_of journal.now) asked.now.feed before asked.now.line (AskPlan budget)
         (reply_of answer.now)) result }
 {
     let is_budget = is_budget(journal, budget);
     match answer {
         Answer::Range(said) => !is_budget && *said == budget as u128,
-        Answer::Plans => is_budget && asked.past.plans == journal.day.plans as usize,
+        Answer::Plans => is_budget && asked.past.plans == journal.setting.plans as usize,
         _ => false,
     }
 }

@@ -3,7 +3,7 @@ ghost use Rattle.std.specs.Prelude.{◌≡◌, ◌+◌, ◌<◌, ◌≤◌, true
 ghost use Rattle.dm_rows.specs.Rows.{IsSized};
 ghost use Rattle.dm_cert.specs.Answers.{rows_after};
 ghost use Rattle.dm_check_rows.specs.Claims.{AreCheckedRowsOf};
-ghost use Rattle.dm_check_answers.specs.Judging.{IsDay, setting_of, history_of, value_of};
+ghost use Rattle.dm_check_answers.specs.Judging.{IsRunSetting, setting_of, history_of, value_of};
 
 use crate::journal::Journal;
 use crate::known::Known;
@@ -44,10 +44,10 @@ impl<'a> Model for Replay<'a> {
 impl<'a> Replay<'a> {
     /// The rows before the first entry. `Err` is want of memory alone.
     pub fn new(journal: Journal<'a>) -> Result<Replay<'a>, AllocError>
-        requires { IsDay journal.day }
+        requires { IsRunSetting journal.setting }
         ensures { IfOk result (λ r. r.journal ≡ value_of journal.entry) }
     {
-        let checked = match journal.day.rows() {
+        let checked = match journal.setting.rows() {
             Ok(checked) => checked,
             Err(AllocError) => return Err(AllocError),
         };
@@ -55,15 +55,15 @@ impl<'a> Replay<'a> {
             journal,
             checked,
             entry: 0,
-            known: Known::none(journal.day.alloc),
+            known: Known::none(journal.setting.alloc),
         })
     }
 
     /// The journal that it goes over.
     pub fn journal(&self) -> Journal<'a>
         ensures value { value_of result ≡ self.now.journal }
-        ensures version { result.day.version ≡ self.now.journal.setting.version }
-        ensures day { IsDay result.day }
+        ensures version { result.setting.version ≡ self.now.journal.setting.version }
+        ensures setting { IsRunSetting result.setting }
     {
         self.journal
     }
@@ -101,7 +101,7 @@ impl<'a> Replay<'a> {
         ensures there { self.new.entry ≡ 0 }
     {
         self.checked
-            .go_to(self.journal.day.net, self.journal.day.start);
+            .go_to(self.journal.setting.net, self.journal.setting.start);
         self.entry = 0;
     }
 
@@ -143,16 +143,16 @@ fn enter_next(
     checked: &mut CheckedRows,
     entry: usize,
 ) -> Result<(), AllocError>
-    requires stands { AreCheckedRowsOf journal.now.day.net.now checked.old }
-    requires rows_are { checked.old.rows ≡ rows_after (setting_of journal.now.day) (history_of journal.now) entry }
+    requires stands { AreCheckedRowsOf journal.now.setting.net.now checked.old }
+    requires rows_are { checked.old.rows ≡ rows_after (setting_of journal.now.setting) (history_of journal.now) entry }
     requires more { entry < length (history_of journal.now) }
-    ensures stands { AreCheckedRowsOf journal.now.day.net.now checked.new }
-    ensures on { OnOk result (checked.new.rows ≡ rows_after (setting_of journal.now.day) (history_of journal.now) (entry + 1)) }
+    ensures stands { AreCheckedRowsOf journal.now.setting.net.now checked.new }
+    ensures on { OnOk result (checked.new.rows ≡ rows_after (setting_of journal.now.setting) (history_of journal.now) (entry + 1)) }
     ensures same { OnErr result (checked.new.rows ≡ checked.old.rows) }
 {
     match checked.enter(
-        journal.day.alloc,
-        journal.day.net,
+        journal.setting.alloc,
+        journal.setting.net,
         &journal.entries[entry].message,
     ) {
         Ok(()) => Ok(()),

@@ -62,8 +62,8 @@ impl<'a> Replay<'a> {
     {
         match self.reach(number) {
             Ok(true) => is_refused(
-                self.journal.day.alloc,
-                self.journal.day.net,
+                self.journal.setting.alloc,
+                self.journal.setting.net,
                 &self.checked,
                 number,
                 message,
@@ -80,7 +80,7 @@ impl<'a> Replay<'a> {
         ensures same { self.new.journal ≡ self.old.journal }
     {
         match self.reach(number) {
-            Ok(true) => Ok(is_time(self.journal.day.net, &mut self.checked, event, time)),
+            Ok(true) => Ok(is_time(self.journal.setting.net, &mut self.checked, event, time)),
             Ok(false) => Ok(false),
             Err(AllocError) => Err(AllocError),
         }
@@ -91,9 +91,9 @@ impl<'a> Replay<'a> {
         ensures tells { IfOk result (Tells (IsCostAt self.old.journal.setting self.old.journal.history number cost)) }
         ensures same { self.new.journal ≡ self.old.journal }
     {
-        let penalty = self.journal.day.penalty;
+        let penalty = self.journal.setting.penalty;
         match self.reach(number) {
-            Ok(true) => Ok(is_cost(self.journal.day.net, penalty, &mut self.checked, cost)),
+            Ok(true) => Ok(is_cost(self.journal.setting.net, penalty, &mut self.checked, cost)),
             Ok(false) => Ok(false),
             Err(AllocError) => Err(AllocError),
         }
@@ -111,7 +111,7 @@ fn is_time(net: &Network, checked: &mut CheckedRows, event: EventId, time: u128)
     let Some(place) = net.place_of(event) else {
         return false;
     };
-    net.sound();
+    net.reveal();
     match checked.settle_times(net) {
         Ok(()) => checked.is_time(place, time),
         Err(HeldCycle) => false,
@@ -127,7 +127,7 @@ fn is_cost(net: &Network, penalty: u64, checked: &mut CheckedRows, cost: Cost) -
     ensures stands { AreCheckedRowsOf net.now checked.new }
     ensures rows { checked.new.rows ≡ checked.old.rows }
 {
-    net.sound();
+    net.reveal();
     match checked.settle(net) {
         Ok(()) => checked.is_cost(net, penalty, cost),
         Err(HeldCycle) => false,
@@ -141,12 +141,12 @@ pub(crate) fn is_unknown_at(
     event: EventId,
     why: &Reason,
 ) -> bool
-    ensures { Tells (IsUnknownAt (setting_of journal.now.day) (history_of journal.now) number event (reason_of why.now)) result }
+    ensures { Tells (IsUnknownAt (setting_of journal.now.setting) (history_of journal.now) number event (reason_of why.now)) result }
 {
     if number as usize > journal.entries.len() {
         return false;
     }
-    if let Some(_place) = journal.day.net.place_of(event) {
+    if let Some(_place) = journal.setting.net.place_of(event) {
         return false;
     }
     match why {

@@ -62,7 +62,7 @@ impl HeldTimetable {
         ensures rows { IfOk result (AreOfRows net.now rows.now) }
         ensures held { IfOk result (λ t. t.kept.held ≡ held.items) }
     {
-        net.sound();
+        net.reveal();
         rows.is_within_limits();
         let kept = KeptTimetable::holding(alloc, net, rows, held)?;
         let first = Known::new(alloc, net.activities(), kept.floors())?;
@@ -118,7 +118,7 @@ impl HeldTimetable {
         ensures cyclic { (holds : ℕ → Bool) → AreFlags net.now holds self.old.kept.held → OnErr result (HasNoCycleOf net.now holds → ⊥) }
         ensures early { OnOk result (AreBelowLimit self.new.kept.times) }
     {
-        net.sound();
+        net.reveal();
         rows.is_within_limits();
         match self.follow(net, moved) {
             Ok(()) => {

@@ -24,7 +24,7 @@ impl Grounds<'_> {
         ensures { IfOk result (λ b. (budget : ℕ)
             → Tells (AreTrueNodes (task_of self.now budget) self.now.plan ([] ∷ []) nodes.now) b) }
     {
-        self.net.sound();
+        self.net.reveal();
         let mut problem = match RelaxedProblem::new(alloc, self.net, self.rows) {
             Ok(problem) => problem,
             Err(full) => return Err(full),
@@ -85,7 +85,7 @@ impl Grounds<'_> {
         ensures path { problem.new.path ≡ problem.old.path }
         ensures tells { (budget : ℕ) → Tells (IsTrueNode (task_of self.now budget) self.now.plan problem.old.path node) result }
     {
-        self.net.sound();
+        self.net.reveal();
         match problem.solve(self.net, self.rows) {
             Ok(()) => self.is_true_solved(problem, node),
             Err(HeldCycle) => is_cycle(node),
@@ -115,7 +115,7 @@ impl Grounds<'_> {
         requires solved { IsSolved self.now.net.now self.now.rows.now problem.now }
         ensures { (budget : ℕ) → Tells (IsTrueInner (task_of self.now budget) problem.now.path choice) result }
     {
-        self.net.sound();
+        self.net.reveal();
         let Some(own) = self.own else {
             return false;
         };

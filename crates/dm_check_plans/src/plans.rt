@@ -152,7 +152,7 @@ fn own_cost(
     requires as_many_moved { length moved.old.flags ≡ length net.now.events }
     ensures { IsOwnCost net.now rows.now penalty result }
 {
-    net.sound();
+    net.reveal();
     match timetable.fill(net, rows, moved) {
         Ok(()) => Some(cost_of(net, rows, timetable.times(), penalty)),
         Err(HeldCycle) => None,

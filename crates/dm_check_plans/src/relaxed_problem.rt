@@ -156,7 +156,7 @@ impl RelaxedProblem {
         ensures problem { OnOk result (IsRelaxedProblemOf net.now rows.now self.new) }
         ensures path { OnOk result (self.new.path ≡ self.old.path ++ decision ∷ []) }
     {
-        net.sound();
+        net.reveal();
         let flip = flip_of(net, rows, decision);
         turn(net, flip, true, &mut self.timetable, &mut self.charged);
         weigh(net, rows, flip, &self.charged, &mut self.kept_cost);
@@ -177,7 +177,7 @@ impl RelaxedProblem {
         ensures none { IfNone result (self.old.path ≡ []) }
         ensures same { IfNone result (self.new ≡ self.old) }
     {
-        net.sound();
+        net.reveal();
         match self.path.pop() {
             Some(decision) => {
                 let flip = flip_of(net, rows, decision);

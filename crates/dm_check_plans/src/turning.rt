@@ -116,7 +116,7 @@ fn first_event(net: &Network, pair: usize, small: bool) -> usize
     ensures first { result ≡ first_event net.now pair small }
     ensures is_event { result < length net.now.events }
 {
-    net.sound();
+    net.reveal();
     let pair = net.pair(pair);
     if small { pair.small } else { pair.large }
 }

@@ -70,7 +70,7 @@ impl TimedRows<'_> {
             → AreUndecidedBy self.now path undecided.now.changes.items undecided.now.pairs.items
             → IsTrue result ↔ IsViolated self.now.net.now self.now.rows.now path self.now.times.now choice }
     {
-        self.net.sound();
+        self.net.reveal();
         let Some(place) = place_of_choice(self.net, choice) else {
             return false;
         };
@@ -94,7 +94,7 @@ impl TimedRows<'_> {
         requires is_pair { p < length self.now.net.now.pairs }
         ensures { result ≡ is_unmet_pair self.now.net.now self.now.rows.now self.now.times.now p }
     {
-        self.net.sound();
+        self.net.reveal();
         let pair = self.net.pair(p);
         self.has_unmet_from(p, pair.small) && self.has_unmet_from(p, pair.large)
     }

@@ -15,7 +15,7 @@ pub fn shows_cycle(net: &Network, rows: &Rows, ids: &[ActId]) -> bool
     requires { IsSized net.now rows.now }
     ensures { Tells (ShowsCycle net.now rows.now ids.now) result }
 {
-    net.sound();
+    net.reveal();
     let Some(start) = first_tail(net, ids) else {
         return false;
     };
@@ -33,7 +33,7 @@ pub fn shows_cycle(net: &Network, rows: &Rows, ids: &[ActId]) -> bool
 fn first_tail(net: &Network, ids: &[ActId]) -> Option<usize>
     ensures { IsFirstTail net.now ids.now result }
 {
-    net.sound();
+    net.reveal();
     let [first, ..] = ids else {
         return None;
     };
@@ -48,7 +48,7 @@ fn follow(net: &Network, rows: &Rows, at: usize, id: ActId) -> Option<usize>
     requires { IsSized net.now rows.now }
     ensures { FollowsOn net.now rows.now at id result }
 {
-    net.sound();
+    net.reveal();
     let Some(act) = net.act_place(id) else {
         return None;
     };

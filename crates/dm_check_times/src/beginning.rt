@@ -40,7 +40,7 @@ fn mark_one(
     requires due { length due.old ≡ length net.now.events }
     ensures { MarksHead net.now before.now now.now a stale.old stale.new due.old due.new }
 {
-    net.sound();
+    net.reveal();
     if before[a] == now[a] {
         return;
     }

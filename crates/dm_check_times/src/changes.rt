@@ -36,7 +36,7 @@ fn is_change(net: &Network, a: usize) -> bool
     requires { a < length net.now.activities }
     ensures { result ≡ is_change (activity_at net.now a).kind }
 {
-    net.sound();
+    net.reveal();
     matches!(net.activity(a).kind, ActKind::Change)
 }
 

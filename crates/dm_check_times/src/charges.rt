@@ -48,7 +48,7 @@ fn charged_weight(net: &Network, rows: &Rows, charges: &Charges<'_>, a: usize) -
     ensures weight { result ≡ charged_weight net.now (charges_of net.now rows.now charges.now) a }
     ensures limit { result ≤ WEIGHT }
 {
-    net.sound();
+    net.reveal();
     if is_charged(net, rows, charges, a) {
         net.activity(a).weight
     } else {
@@ -75,7 +75,7 @@ fn is_dropped_change(net: &Network, rows: &Rows, a: usize) -> bool
     requires is_activity { a < length net.now.activities }
     ensures { result ≡ is_dropped_change net.now rows.now a }
 {
-    net.sound();
+    net.reveal();
     let activity = net.activity(a);
     matches!(activity.kind, ActKind::Change)
         && !rows.kept(a)

@@ -62,7 +62,7 @@ pub(crate) fn event_cost(net: &Network, times: &[Secs], i: usize) -> Cost
     ensures cost { result ≡ event_cost net.now times.now i }
     ensures limit { result ≤ WEIGHT * 2 ^ 38 }
 {
-    net.sound();
+    net.reveal();
     let event = net.event(i);
     match event.kind {
         EventKind::Departure => 0,
@@ -82,7 +82,7 @@ pub(crate) fn missed_weight(net: &Network, rows: &Rows, times: &[Secs], a: usize
     ensures weight { result ≡ missed_weight net.now rows.now times.now a }
     ensures limit { result ≤ WEIGHT }
 {
-    net.sound();
+    net.reveal();
     let activity = net.activity(a);
     if matches!(activity.kind, ActKind::Change)
         && rows.passed(activity.head).is_some()
@@ -102,7 +102,7 @@ pub fn comes_too_early(net: &Network, rows: &Rows, times: &[Secs], a: usize) -> 
     requires is_activity { a < length net.now.activities }
     ensures { result ≡ comes_too_early net.now rows.now times.now a }
 {
-    net.sound();
+    net.reveal();
     let activity = net.activity(a);
     times[activity.head] < times[activity.tail] + span_of(net, rows, a)
 }

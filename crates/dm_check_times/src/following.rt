@@ -89,7 +89,7 @@ impl Bindings<'_> {
         ensures as_many_stale { length stale.new ≡ length self.now.net.now.events }
         ensures as_many_due { length due.new ≡ length self.now.net.now.events }
     {
-        self.net.sound();
+        self.net.reveal();
         let mut start = 0;
         while let Some(event) = due.first_from(start) {
             due.clear(event);
@@ -107,7 +107,7 @@ impl Bindings<'_> {
         requires early { AreWithin times.now (2 ^ 38) }
         ensures { SpreadsFrom self.now.net.now self.now.held.now self.now.spans.now times.now event stale.old stale.new due.old due.new }
     {
-        self.net.sound();
+        self.net.reveal();
         let from = times[event];
         let row = row_out_of(self.net, event);
         for a in row {
@@ -124,7 +124,7 @@ impl Bindings<'_> {
         requires early { from ≤ 2 ^ 38 }
         ensures { SpreadsAlong self.now.net.now self.now.held.now self.now.spans.now times.now from a stale.old stale.new due.old due.new }
     {
-        self.net.sound();
+        self.net.reveal();
         if !self.held[a] {
             return;
         }
@@ -157,7 +157,7 @@ impl Bindings<'_> {
         ensures as_many_due { length due.new ≡ length self.now.net.now.events }
         ensures notes { NotesMoves times.old times.new moved.old.flags moved.new.flags }
     {
-        self.net.sound();
+        self.net.reveal();
         let mut start = 0;
         while let Some(event) = stale.first_from(start) {
             stale.clear(event);
@@ -175,7 +175,7 @@ impl Bindings<'_> {
         requires as_many { length due.old ≡ length self.now.net.now.events }
         ensures { HasMarkedTails self.now.net.now self.now.held.now event due.old due.new }
     {
-        self.net.sound();
+        self.net.reveal();
         let row = row_into(self.net, event);
         for a in row {
             self.mark_tail(*a, due);
@@ -188,7 +188,7 @@ impl Bindings<'_> {
         requires as_many { length due.old ≡ length self.now.net.now.events }
         ensures { MarksTail self.now.net.now self.now.held.now a due.old due.new }
     {
-        self.net.sound();
+        self.net.reveal();
         if !self.held[a] {
             return;
         }

@@ -32,7 +32,7 @@ pub fn keep_up(
         → AgreesWith net.now before timetable.old → AgreesWith net.now rows.now timetable.new }
     ensures times { timetable.new.times ≡ timetable.old.times }
 {
-    net.sound();
+    net.reveal();
     if is_adopted(change) {
         return false;
     }
@@ -109,7 +109,7 @@ fn renew_pair(timetable: &mut KeptTimetable, net: &Network, rows: &Rows, pair: u
     ensures timetable { IsTimetableOf net.now timetable.new }
     ensures renews { (small : Bool) → Renews net.now rows.now Nowhere (IsDecided net.now (First pair small)) timetable.old timetable.new }
 {
-    net.sound();
+    net.reveal();
     let pair = net.pair(pair);
     let (small, large) = (pair.small, pair.large);
     renew_row(timetable, net, rows, row_out_of(net, small));

@@ -56,7 +56,7 @@ impl KeptCost {
     pub fn new(alloc: Global, net: &Network) -> Result<KeptCost, AllocError>
         ensures { IfOk result (IsKeptCostOf net.now) }
     {
-        net.sound();
+        net.reveal();
         let times = vec![in alloc; 0; net.events()]?;
         let lateness = lateness_cost(net, &times);
         Ok(KeptCost {
@@ -92,7 +92,7 @@ impl KeptCost {
         ensures as_many_moved { length moved.new.flags ≡ length net.now.events }
     {
         if is_noted {
-            moved.sound();
+            moved.reveal();
             self.follow(net, rows, charges, times, moved.places());
         } else {
             self.take(net, rows, charges, times);
@@ -203,7 +203,7 @@ impl KeptCost {
         ensures times { self.new.times ≡ slice_set self.old.times i time }
         ensures weights { self.new.weights ≡ self.old.weights }
     {
-        net.sound();
+        net.reveal();
         let was = event_cost(net, &self.times, i);
         self.times[i] = time;
         let now = event_cost(net, &self.times, i);
@@ -240,7 +240,7 @@ impl KeptCost {
         ensures kept { IsKeptCostOf net.now self.new }
         ensures renews { RenewsWeight net.now rows.now (charges_of net.now rows.now charges.now) a self.old self.new }
     {
-        net.sound();
+        net.reveal();
         let weight = priced_weight(net, rows, charges, &self.times, a);
         self.set(net, a, weight);
     }
@@ -254,7 +254,7 @@ impl KeptCost {
         ensures weights { self.new.weights ≡ slice_set self.old.weights a weight }
         ensures times { self.new.times ≡ self.old.times }
     {
-        net.sound();
+        net.reveal();
         let was = self.weight(a);
         self.weights[a] = weight;
         self.penalized = self.penalized + weight as u128 - was as u128;
@@ -275,7 +275,7 @@ impl KeptCost {
         ensures { (rows : RowsValue) (charges : ℕ → Bool) → IsPricedFor net.now rows charges self.now
             → result ≡ cost_charging net.now rows charges self.now.times penalty }
     {
-        net.sound();
+        net.reveal();
         self.lateness + penalty as u128 * self.penalized
     }
 }

@@ -100,7 +100,7 @@ impl KeptTimetable {
         ensures rows { IfOk result (AreOfRows net.now rows.now) }
         ensures held { IfOk result (λ t. t.held ≡ held.items) }
     {
-        net.sound();
+        net.reveal();
         let mut spans = vec![in alloc; 0; net.activities()]?;
         fill_spans(net, rows, &mut spans);
         let mut floors = vec![in alloc; 0; net.events()]?;
@@ -192,7 +192,7 @@ impl KeptTimetable {
         ensures settled { OnOk result (IsSettledFor net.now rows.now self.new) }
         ensures cyclic { OnErr result (HasNoCycle net.now rows.now → ⊥) }
     {
-        net.sound();
+        net.reveal();
         rows.is_within_limits();
         self.clock = rows.clock();
         flag_active(net, rows, &mut self.held);
@@ -226,7 +226,7 @@ impl KeptTimetable {
         ensures settled { OnOk result (IsSettledFor net.now rows.now self.new) }
         ensures cyclic { OnErr result (HasNoCycle net.now rows.now → ⊥) }
     {
-        net.sound();
+        net.reveal();
         rows.is_within_limits();
         self.follow(net, moved)
     }
@@ -291,7 +291,7 @@ impl KeptTimetable {
         ensures timetable { IsTimetableOf net.now self.new }
         ensures renews { RenewsEvent net.now rows.now event self.old self.new }
     {
-        net.sound();
+        net.reveal();
         rows.is_within_limits();
         let floor = floor_of(net, rows, event);
         let was = self.floor(event);
@@ -335,7 +335,7 @@ impl KeptTimetable {
         ensures timetable { IsTimetableOf net.now self.new }
         ensures binds { BindsActivity a held span self.old self.new }
     {
-        net.sound();
+        net.reveal();
         let activity = net.activity(a);
         let was_held = self.is_held(a);
         let was = self.span(a);

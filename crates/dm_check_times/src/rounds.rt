@@ -67,7 +67,7 @@ impl Bindings<'_> {
         ensures as_many_due { length due.new ≡ length due.old }
         ensures notes { NotesMoves times.old times.new moved.old.flags moved.new.flags }
     {
-        self.net.sound();
+        self.net.reveal();
         let mut start = 0;
         while let Some(event) = due.first_from(start) {
             due.clear(event);
@@ -86,7 +86,7 @@ impl Bindings<'_> {
         ensures notes { NotesMoves times.old times.new moved.old.flags moved.new.flags }
         ensures relaxes { (floor : ℕ → ℕ) → Relaxes (graph_over self.now floor) event times.old times.new due.old due.new }
     {
-        self.net.sound();
+        self.net.reveal();
         let from = times[event];
         let row = row_out_of(self.net, event);
         for a in row {

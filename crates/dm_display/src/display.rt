@@ -47,7 +47,7 @@ impl<'n> Display<'n> {
         requires fits { IsFor table.now.network (vec_len boards.old) self.old }
         ensures { Shows place times faults is_sound table.now self.old self.new boards.old.items boards.new.items }
     {
-        table.sound();
+        table.reveal();
         if boards.is_empty() {
             return;
         }
@@ -67,7 +67,7 @@ impl<'n> Display<'n> {
         ensures same { table.new ≡ table.old }
         ensures shows { Shows place times faults is_sound table.old self.old self.new boards.old.items boards.new.items }
     {
-        table.sound();
+        table.reveal();
         if boards.is_empty() {
             return;
         }

@@ -82,7 +82,7 @@ impl Evaluator {
         ensures no_cycle { OnOk result (HasNoRelaxedCycle net.now rows []) }
         ensures refused { IfErr result (RefusesHolding net.now (is_relaxed_active net.now rows [])) }
     {
-        net.sound();
+        net.reveal();
         let undecided = all_undecided(alloc, net, &rows)?;
         let path = Vec::with_capacity(alloc, undecided.changes.len() + undecided.pairs.len())?;
         let marks = ViolationMarks::all(alloc, net)?;
@@ -117,7 +117,7 @@ impl Evaluator {
         ensures unchanged { OnErr result ((self.new.path ≡ self.old.path) × (times_of self.new ≡ times_of self.old)) }
         ensures cycle { OnErr result (IsRelaxedCycle net.now self.old.rows (self.old.path ++ decision ∷ []) (cycle_of self.new)) }
     {
-        net.sound();
+        net.reveal();
         let flip = flip_of(net, &self.rows, decision);
         match turn_on(&mut self.priced, &mut self.marks, net, flip, steps) {
             Ok(()) => {
@@ -140,7 +140,7 @@ impl Evaluator {
         ensures path { self.new.path ≡ path_without choice self.old.path }
         ensures least { IsRelaxedLeast net.now self.new.rows self.new.path (times_of self.new) }
     {
-        net.sound();
+        net.reveal();
         let place = place_of(&self.path, choice);
         let flip = flip_of(net, &self.rows, self.path[place]);
         turn_off(&mut self.priced, &mut self.marks, net, flip, steps);
@@ -177,7 +177,7 @@ impl Evaluator {
         ensures cost { result ≡ relaxed_cost_of net.now self.now.rows self.now.path (times_of self.now) penalty }
         ensures limit { result < 2 ^ 100 }
     {
-        net.sound();
+        net.reveal();
         self.priced.cost(penalty)
     }
 
@@ -186,7 +186,7 @@ impl Evaluator {
         requires { IsEvaluatorOf net.now self.now }
         ensures { IsTrue result ↔ IsOpen net.now self.now.rows self.now.path choice }
     {
-        net.sound();
+        net.reveal();
         match place_of_choice(net, choice) {
             Some(place) => self.undecided.is(place),
             None => false,
@@ -210,7 +210,7 @@ impl Evaluator {
         ensures first { result ≡ first_violated net.now self.old.rows self.old.path (times_of self.old) }
         ensures open { IfSome result (IsOpen net.now self.old.rows self.old.path) }
     {
-        net.sound();
+        net.reveal();
         let times = self.priced.live().times();
         let marks = &mut self.marks;
         first_violated(net, &self.rows, &self.undecided, times, marks, steps)

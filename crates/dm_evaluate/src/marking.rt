@@ -65,7 +65,7 @@ fn mark_pair_of(pairs: &mut Marks, net: &Network, to: &Move<'_>, a: usize)
     requires is_activity { a < length net.now.activities }
     ensures { MarksWhere (IsEarlyBothWays net.now to.now.constraints.now.spans (times_after to.now) to.now.into.now a) pairs.old pairs.new }
 {
-    net.sound();
+    net.reveal();
     let Some(p) = net.activity(a).pair else {
         return;
     };
@@ -98,7 +98,7 @@ fn is_early_after(net: &Network, to: &Move<'_>, a: usize) -> bool
     requires is_activity { a < length net.now.activities }
     ensures { result ≡ comes_too_early net.now to.now.constraints.now.spans (times_after to.now) a }
 {
-    net.sound();
+    net.reveal();
     let activity = net.activity(a);
     let tail = to.times.time_where(to.event, to.time, activity.tail);
     let head = to.times.time_where(to.event, to.time, activity.head);

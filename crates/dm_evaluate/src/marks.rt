@@ -64,7 +64,7 @@ impl Watcher for ViolationMarks {
     ghost flags = { λ m. [] };
 
     fn moves(&mut self, net: &Network, to: &Move<'_>) {
-        net.sound();
+        net.reveal();
         mark_early(&mut self.changes, net, to, to.into);
         mark_early(&mut self.changes, net, to, to.out_of);
         mark_unmet(&mut self.pairs, net, to);

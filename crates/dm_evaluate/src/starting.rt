@@ -56,7 +56,7 @@ fn live_for(alloc: Global, net: &Network, rows: &Rows) -> Result<LiveTimetable, 
 fn start_order(alloc: Global, net: &Network) -> Result<Order, AllocError>
     ensures { IfOk result (IsOrderOf net.now) }
 {
-    net.sound();
+    net.reveal();
     // No delays are refused for want of memory alone.
     let Ok(rows) = start_rows(alloc, net, &[], &[]) else {
         return Err(AllocError);

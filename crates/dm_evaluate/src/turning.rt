@@ -42,7 +42,7 @@ pub fn turn_on<L: Ledger>(
     ensures cycle { OnErr result (IsCycleOf net.now (set_where (is_held_by net.now flip) true (is_held priced.old.live.given.held))
         priced.new.live.order.cycle) }
 {
-    net.sound();
+    net.reveal();
     match flip {
         Flip::Keep { act } => match priced.hold(net, act) {
             Ok(()) => {
@@ -81,7 +81,7 @@ pub fn turn_off<L: Ledger>(
         (record { changes = marks.new.changes; pairs = marks.new.pairs }) }
     ensures turns { Turns net.now flip false priced.old priced.new }
 {
-    net.sound();
+    net.reveal();
     match flip {
         Flip::Keep { act } => {
             priced.release(net, act);
@@ -101,7 +101,7 @@ fn first_event(net: &Network, pair: usize, small: bool) -> usize
     ensures first { result ≡ first_event net.now pair small }
     ensures is_event { result < length net.now.events }
 {
-    net.sound();
+    net.reveal();
     let pair = net.pair(pair);
     if small { pair.small } else { pair.large }
 }

@@ -85,7 +85,7 @@ pub fn is_violated<L: Ledger>(
     ensures { (path : List Decision) → LeavesUndecided net.now rows.now path undecided.now
         → IsTrue result ↔ IsViolated net.now rows.now path times.now choice }
 {
-    net.sound();
+    net.reveal();
     let Some(place) = place_of_choice(net, choice) else {
         return false;
     };
@@ -192,7 +192,7 @@ fn is_unmet<L: Ledger>(
     requires is_pair { p < length net.now.pairs }
     ensures { result ≡ is_unmet_pair net.now rows.now times.now p }
 {
-    net.sound();
+    net.reveal();
     let pair = net.pair(p);
     has_unmet_from(net, rows, times, p, pair.small, steps)
         && has_unmet_from(net, rows, times, p, pair.large, steps)

@@ -32,7 +32,7 @@ pub fn stage_behind(
     ensures advances { IfOk result (Advances table.old table.new stage line.now) }
     ensures kept { OnErr result (KeepsEntries table.old table.new) }
 {
-    table.sound();
+    table.reveal();
     match stage {
         Stage::Journal { feeds, entries } => journal_behind(alloc, table, feeds, entries, line),
         _ => Ok(header_stage(stage, table.penalty(), line)),
@@ -86,7 +86,7 @@ fn entry_behind(
         → IfOk result (Advances table.old table.new (Stage.Journal feeds entries) line) }
     ensures kept { OnErr result (KeepsEntries table.old table.new) }
 {
-    table.sound();
+    table.reveal();
     let entered = table.len();
     let said = match said {
         Some(said) => said,
@@ -162,7 +162,7 @@ fn post_with<L: Ledger>(
     ensures posts { IfOk result (Posts table.old table.new entry) }
     ensures kept { OnErr result (KeepsEntries table.old table.new) }
 {
-    table.sound();
+    table.reveal();
     let mut steps = Steps::<L>::new(blank);
     let posted = table.post(entry, &mut steps);
     is_entered(posted)

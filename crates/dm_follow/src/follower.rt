@@ -97,7 +97,7 @@ impl<'n> Follower<'n> {
             Err(fault) => return Err(fault),
         }
         let answer = feed_lines(self, piece);
-        self.table.sound();
+        self.table.reveal();
         answer
     }
 

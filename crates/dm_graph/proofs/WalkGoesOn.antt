@@ -8,8 +8,8 @@ use Rattle.std.proofs.lemmas.List.Elements.{All-from_get_or}
 use Rattle.dm_graph.specs.Arrays.{InRow, AreRows, AreEnds}
 use Rattle.dm_graph.specs.declared.walk.Walk.{Walk}
 use Rattle.dm_graph.specs.declared.walk.ArcsByHead.{ArcsByHead}
-use Rattle.dm_graph.specs.Inside.Walk.{IsHeldAt, tail_at, AreMarks, LeadsTo, AreLooks, IsWalk, KeepsMet, GoesOnTop, Places, Passes, GoesOn}
-use Rattle.dm_graph.proofs.WalkSteps.{not_met, other, same, enter_marks, enter_looks, place_marks, place_looks, pass_looks, v_is_event, on_path}
+use Rattle.dm_graph.specs.Inside.Walk.{IsHeldAt, tail_at, AreMarks, LeadsTo, AreLooks, IsWalk, KeepsMet, GoesOnTop, Places, SkipsArc, GoesOn}
+use Rattle.dm_graph.proofs.WalkSteps.{not_met, other, same, enter_marks, enter_looks, place_marks, place_looks, skip_looks, v_is_event, on_path}
 
 -- the rows together have at most as many places as each event times all places
 next_sum : (by_head : ArcsByHead) (n arcs : ℕ) (order rank next : List ℕ) (placed top : ℕ) →
@@ -103,11 +103,11 @@ module _ (by_head : ArcsByHead) (old new : Walk) (w : IsWalk by_head old) where
         | inr ne ↦ let o = other old.rank.items v old.placed k ne in omega arith
       ])
 
-  pub passed_on : (v : ℕ) → old.top < length old.order.items → slice_index old.order.items old.top ≡ v →
+  pub skipped_on : (v : ℕ) → old.top < length old.order.items → slice_index old.order.items old.top ≡ v →
       slice_index old.next.items v < slice_index by_head.offsets.now (v + 1) →
       (IsHeldAt by_head (slice_index old.next.items v) → slice_index old.rank.items (tail_at by_head (slice_index old.next.items v)) < old.placed) →
-      Passes old v new → GoesOn by_head old new
-  passed_on v short is_v not_over free e =
+      SkipsArc old v new → GoesOn by_head old new
+  skipped_on v short is_v not_over free e =
       let as_many : length new.order.items ≡ length old.order.items = ap length e.order in
       let counts = w.looks.next_count in
       let ve = v_is_event (length old.order.items) old.order.items old.rank.items old.placed old.top w.marks v short is_v in
@@ -117,7 +117,7 @@ module _ (by_head : ArcsByHead) (old new : Walk) (w : IsWalk by_head old) where
       let p = e.placed in
       goes_on as_many (rw (e.order, e.rank, e.placed, e.top) w.marks)
       (rw (e.order, e.rank, e.next, e.placed, e.top)
-      (pass_looks (length old.order.items) old.order.items old.rank.items old.placed old.top w.marks v short is_v
+      (skip_looks (length old.order.items) old.order.items old.rank.items old.placed old.top w.marks v short is_v
       by_head old.next.items w.looks not_over free))
       (omega arith)
       (λ k below known.

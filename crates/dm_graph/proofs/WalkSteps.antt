@@ -317,10 +317,10 @@ module _ (n : ℕ) (order rank : List ℕ) (placed top : ℕ) (m : AreMarks n or
                 rw (o, q) (l.path place (omega arith) within);
           }
 
-      pub pass_looks : slice_index next v < slice_index by_head.offsets.now (v + 1) →
+      pub skip_looks : slice_index next v < slice_index by_head.offsets.now (v + 1) →
           (IsHeldAt by_head (slice_index next v) → slice_index rank (tail_at by_head (slice_index next v)) < placed) →
           AreLooks by_head n order rank (set next v (slice_index next v + 1)) placed top
-      pass_looks not_over free =
+      skip_looks not_over free =
           let nc = l.next_count in
           let ve = v_is_event in
           record {

@@ -1,7 +1,7 @@
 //! The walk that searches for an order, depth first against the arcs, with its path kept in an array.
 
 ghost use Rattle.std.specs.Prelude.{◌≡◌, ℕ, ◌+◌, ◌^◌, ◌<◌, ◌≤◌, length, take, slice_index, vec_len, IfErr, IfOk, OnOk};
-ghost use Rattle.dm_graph.specs.Inside.Walk.{IsWalk, Closes, Finds, steps_left, KeepsMet, GoesOnTop, Places, Passes, GoesOn, Returns, HasEvenLists, Starts, Visits, PlacesAll, HasPathArcs, ListsPathArcs};
+ghost use Rattle.dm_graph.specs.Inside.Walk.{IsWalk, Closes, Finds, steps_left, KeepsMet, GoesOnTop, Places, SkipsArc, GoesOn, Returns, HasEvenLists, Starts, Visits, PlacesAll, HasPathArcs, ListsPathArcs};
 ghost use Rattle.dm_graph.specs.Arrays.{AreRows, AreEnds};
 
 use std::alloc::{AllocError, Global};
@@ -123,11 +123,11 @@ impl Walk {
         self.top += 1;
     }
 
-    /// Passes over the next arc into the event.
-    fn pass(&mut self, event: usize)
+    /// Skips the next arc into the event.
+    fn skip_arc(&mut self, event: usize)
         requires event { event < vec_len self.old.next }
         requires more { slice_index self.old.next.items event + 1 < 2 ^ 64 }
-        ensures { Passes self.old event self.new }
+        ensures { SkipsArc self.old event self.new }
     {
         self.next[event] += 1;
     }
@@ -146,7 +146,7 @@ impl Walk {
                 Ok(())
             }
             Look::Free => {
-                self.pass(event);
+                self.skip_arc(event);
                 Ok(())
             }
             Look::Unmet(tail) => {

@@ -67,20 +67,20 @@ pub fn try_both(scout: &mut Scout<'_>, i: usize) -> Gains {
 
 /// The gains of each choice that was tried.
 #[derive(Drop)]
-pub struct Table {
+pub struct TriedGains {
     gains: Vec<Gains>,
 }
 
-impl Table {
-    /// A table of so many choices, of which none was tried.
-    pub fn new(alloc: Global, choices: usize) -> Result<Table, AllocError> {
-        Ok(Table {
+impl TriedGains {
+    /// Gains of so many choices, of which none was tried.
+    pub fn new(alloc: Global, choices: usize) -> Result<TriedGains, AllocError> {
+        Ok(TriedGains {
             gains: vec![in alloc; UNTRIED; choices]?,
         })
     }
 
-    pub fn copy(&self, alloc: Global) -> Result<Table, AllocError> {
-        Ok(Table {
+    pub fn copy(&self, alloc: Global) -> Result<TriedGains, AllocError> {
+        Ok(TriedGains {
             gains: Vec::from_slice(alloc, &self.gains)?,
         })
     }
@@ -167,19 +167,23 @@ impl Scores {
     }
 
     /// Looks again at the choices that have become violated, or are so no more.
-    pub fn follow(&mut self, scout: &mut Scout<'_>, table: &Table) -> Result<(), AllocError> {
+    pub fn follow(
+        &mut self,
+        scout: &mut Scout<'_>,
+        tried_gains: &TriedGains,
+    ) -> Result<(), AllocError> {
         for i in &scout.take_changed()? {
-            self.look_at(scout, table, *i);
+            self.look_at(scout, tried_gains, *i);
         }
         Ok(())
     }
 
     /// Scores a choice anew.
-    pub fn look_at(&mut self, scout: &Scout<'_>, table: &Table, i: usize) {
+    pub fn look_at(&mut self, scout: &Scout<'_>, tried_gains: &TriedGains, i: usize) {
         let score = if !scout.is_violated(i) {
             0
         } else {
-            match (table.get(i), self.by) {
+            match (tried_gains.get(i), self.by) {
                 (None, _) => u64::MAX,
                 (Some(gains), By::Promise) => gains.promise(LIMIT).saturating_add(1),
                 (Some(gains), By::Regret) => gains.regret().saturating_add(1),

@@ -2,7 +2,7 @@
 ghost use Rattle.std.specs.Prelude.{◌≤◌, length};
 
 use crate::choices::Side;
-use crate::gaining::{By, Gains, Scores, Table, gain, try_both};
+use crate::gaining::{By, Gains, Scores, TriedGains, gain, try_both};
 use crate::places::{NOWHERE, Place};
 use crate::scouting::Scout;
 use crate::tree::{Found, Guide, Hint};
@@ -46,7 +46,7 @@ pub struct Change {
 pub struct Tree {
     pub alloc: Global,
     pub nodes: Vec<Grown>,
-    pub table: Table,
+    pub tried_gains: TriedGains,
     scores: Scores,
     pub best: Found,
 
@@ -70,7 +70,7 @@ impl Drop for Tree {
         let Tree {
             alloc: _,
             nodes: _,
-            table: _,
+            tried_gains: _,
             scores: _,
             best: _,
             here: _,
@@ -97,7 +97,7 @@ impl Tree {
             alloc,
             nodes,
             scores: Scores::new(alloc, By::Promise, choices)?,
-            table: Table::new(alloc, choices)?,
+            tried_gains: TriedGains::new(alloc, choices)?,
             best: Found {
                 path: Vec::new(alloc),
                 cost: 0,
@@ -372,12 +372,12 @@ impl Tree {
 
     /// The violated choice that promises most where the scout stands, the first of those that promise the same.
     fn choice_here(&mut self, scout: &mut Scout<'_>) -> Result<Option<usize>, AllocError> {
-        self.scores.follow(scout, &self.table)?;
+        self.scores.follow(scout, &self.tried_gains)?;
         for _ in 0..scout.choices().len().saturating_add(1) {
             let Some(i) = self.scores.top() else {
                 return Ok(None);
             };
-            if let Some(gains) = self.table.get(i) {
+            if let Some(gains) = self.tried_gains.get(i) {
                 let cap = gain(self.best.cost.saturating_sub(scout.cost()));
                 return if gains.larger() > cap {
                     self.most_under(scout, cap)
@@ -386,7 +386,7 @@ impl Tree {
                 };
             }
             let gains = try_both(scout, i);
-            self.scores.follow(scout, &self.table)?;
+            self.scores.follow(scout, &self.tried_gains)?;
             self.learn(scout, i, gains)?;
         }
         Ok(None)
@@ -399,8 +399,8 @@ impl Tree {
         number: usize,
         gains: Gains,
     ) -> Result<(), AllocError> {
-        let before = self.table.set(number, gains);
-        self.scores.look_at(scout, &self.table, number);
+        let before = self.tried_gains.set(number, gains);
+        self.scores.look_at(scout, &self.tried_gains, number);
         self.changes.push(Change {
             number,
             gains,
@@ -413,8 +413,8 @@ impl Tree {
     pub fn forget(&mut self, scout: &Scout<'_>, many: usize) {
         for _ in many..self.changes.len() {
             if let Some(change) = self.changes.pop() {
-                let _after = self.table.set(change.number, change.before);
-                self.scores.look_at(scout, &self.table, change.number);
+                let _after = self.tried_gains.set(change.number, change.before);
+                self.scores.look_at(scout, &self.tried_gains, change.number);
             }
         }
     }
@@ -423,7 +423,7 @@ impl Tree {
     fn most_under(&self, scout: &mut Scout<'_>, cap: u64) -> Result<Option<usize>, AllocError> {
         let mut most = None;
         for i in scout.violated()? {
-            let promise = match self.table.get(*i) {
+            let promise = match self.tried_gains.get(*i) {
                 Some(gains) => gains.promise(cap),
                 None => 0,
             };

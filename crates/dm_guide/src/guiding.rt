@@ -84,7 +84,7 @@ fn find<'t, F: Fn(&Round, &mut Searcher<'t>, &mut [Searcher<'t>])>(
 
 /// Dives, or takes over the choices of the start where those that are met so cost no less.
 fn begin(first: &mut Searcher<'_>, start: Start<'_>) -> Result<(), AllocError> {
-    let dived = dive(first.alloc, &mut first.scout, &first.tree.table)?;
+    let dived = dive(first.alloc, &mut first.scout, &first.tree.tried_gains)?;
     if !dived || first.scout.cost() >= start.cost {
         go_back(&mut first.scout)?;
         take_over(&mut first.scout, start.choices)?;

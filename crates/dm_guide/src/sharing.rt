@@ -169,8 +169,8 @@ impl Tree {
     fn note_table(&mut self) -> Result<(), AllocError> {
         if self.tells {
             self.changes.clear();
-            for number in 0..self.table.len() {
-                if let Some(gains) = self.table.get(number) {
+            for number in 0..self.tried_gains.len() {
+                if let Some(gains) = self.tried_gains.get(number) {
                     self.changes.push(Change {
                         number,
                         gains,

@@ -70,7 +70,7 @@ pub fn order_of(alloc: Global, net: &Network, usable: &[bool]) -> Result<Search,
     ensures order { IfOk result (λ s. IsOrder (arcs_of net.now (is_held usable.now)) s.order) }
     ensures ranks { IfOk result (λ s. AreRanks (length net.now.events) s.order s.ranks) }
 {
-    net.sound();
+    net.reveal();
     let mut search = Search::new(alloc, net.events())?;
     match net.search(usable, &mut search) {
         Ok(()) => Ok(search),
@@ -141,7 +141,7 @@ fn reach_along(
     ensures comes { IsFromRow net.now usable.now at_first reached.now into.now (length into.now) result }
     ensures along { IsReachedAlong net.now usable.now most at_first reached.now into.now (length into.now) result }
 {
-    net.sound();
+    net.reveal();
     let _event = event;
     let mut best = at_first;
     for a in into {
@@ -160,7 +160,7 @@ fn reach_by(net: &Network, reached: &[Option<Reach>], most: u32, a: usize) -> Op
     ensures counted { IfSome result (λ r. IsOneOn net.now reached.now a r.changes) }
     ensures reaches { ReachesAlong net.now reached.now most a result }
 {
-    net.sound();
+    net.reveal();
     let activity = net.activity(a);
     let before = reached[activity.tail]?;
     let changes = match activity.kind {

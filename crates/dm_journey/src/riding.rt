@@ -37,7 +37,7 @@ fn is_usable(net: &Network, rows: &Rows, times: &Times, a: usize) -> bool
     requires is_activity { a < length net.now.activities }
     ensures { result ≡ is_usable net.now rows.now times.now a }
 {
-    net.sound();
+    net.reveal();
     let activity = net.activity(a);
     if times.time(activity.head) < times.time(activity.tail) {
         return false;

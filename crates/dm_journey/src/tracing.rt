@@ -22,7 +22,7 @@ pub fn walk_to(
         AreReached net.now begins usable search.now.ranks reached.now →
         IfOk result (λ v. IsTraced net.now begins usable last v.items n) }
 {
-    net.sound();
+    net.reveal();
     let ranks = search.ranks();
     let mut walk = Vec::new(alloc);
     let mut event = last;

@@ -96,7 +96,7 @@ pub fn is_usable(net: &Network, rows: &Rows, times: &Times, a: usize) -> bool
     requires as_many { length times.now ≡ length net.now.events }
     requires is_activity { a < length net.now.activities }
 {
-    net.sound();
+    net.reveal();
     let activity = net.activity(a);
     let tail = times.time(activity.tail);
     let head = times.time(activity.head);

@@ -23,7 +23,7 @@ pub fn mark_heads<L: Ledger>(
     ensures marks { MarksHeads (arcs_given net.now constraints.now) event marks.old marks.new }
     ensures counted { steps.new ≡ steps.old + 1 }
 {
-    net.sound();
+    net.reveal();
     for a in net.out_row(event, steps) {
         if constraints.is_held(*a) {
             marks.mark(net.activity(*a).head);

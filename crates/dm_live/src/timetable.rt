@@ -128,7 +128,7 @@ impl LiveTimetable {
         ensures flags { W.flags watcher.new ≡ W.flags watcher.old }
         ensures other_knows { V.knows other.new net.now self.new.given self.new.times }
     {
-        net.sound();
+        net.reveal();
         place_marks(
             &mut self.marks,
             &self.fixed,
@@ -233,7 +233,7 @@ impl LiveTimetable {
         ensures live { IsLive net.now self.new }
         ensures span { self.new ≡ record self.old { given = with_span self.old.given a span; marks = with_head net.now self.old.marks a } }
     {
-        net.sound();
+        net.reveal();
         self.constraints.set_span(a, span);
         self.marks.mark(net.activity(a).head);
     }
@@ -249,7 +249,7 @@ impl LiveTimetable {
         ensures cycle_stays { self.new.order.cycle ≡ self.old.order.cycle }
         ensures fixed_stay { self.new.fixed ≡ self.old.fixed }
     {
-        net.sound();
+        net.reveal();
         self.order.remove(&[a]);
         self.constraints.hold(a, false);
         self.marks.mark(net.activity(a).head);
@@ -272,7 +272,7 @@ impl LiveTimetable {
         ensures unchanged { OnErr result (self.new ≡ record self.old { order = record self.old.order { cycle = self.new.order.cycle } }) }
         ensures cycle { OnErr result (IsCycleOf net.now (is_held (with_held self.old.given a true).held) self.new.order.cycle) }
     {
-        net.sound();
+        net.reveal();
         let fixed = self.is_fixed(net.activity(a).tail);
         match add_unless_fixed(&mut self.order, net, a, fixed) {
             Ok(()) => {

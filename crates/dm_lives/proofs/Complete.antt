@@ -14,7 +14,7 @@ use Rattle.dm_book.specs.Books.{Book, IsSafe}
 use Rattle.dm_rounds.proofs.Places.{mapped_at, some_is}
 use Rattle.dm_tail.specs.declared.tail.Tail.{Tail}
 use Rattle.dm_watch.specs.Settled.{all_items}
-use Rattle.dm_catch_up.specs.Feeds.{AnswersFront, IsChanged}
+use Rattle.dm_catch_up.specs.Feeds.{AnswersFront, DiffersAt}
 use Rattle.dm_serve.specs.Ends.{IsFeedRefusal}
 use Rattle.dm_serve.proofs.Answering.{as_many}
 use Rattle.dm_serve.specs.Lives.{IsTakenUp}
@@ -62,7 +62,7 @@ module _ {S T : Type 0} (tells : S → Type 0) (seen : S → List ℕ) (shown : 
         gave = gave;
         log = log;
         stands = r.stands;
-        cause = if_some (given r.tail.feed) (λ now. IsChanged now items r.at_line) (λ now. HasNotGrown bytes now items r.at_line) (λ now changed. not_grown bytes now items all r.at_line longer answers changed)
+        cause = if_some (given r.tail.feed) (λ now. DiffersAt now items r.at_line) (λ now. HasNotGrown bytes now items r.at_line) (λ now changed. not_grown bytes now items all r.at_line longer answers changed)
             (r.changed safe.contents safe.book items (taken n many) log);
         line = r.line;
       }

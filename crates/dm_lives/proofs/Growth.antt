@@ -10,7 +10,7 @@ use Rattle.dm_feed.proofs.Ahead.{due_items, same_items}
 use Rattle.dm_feed.proofs.Joining.{items_joined, lines_joined}
 use Rattle.dm_cert.specs.declared.replies.LogItem.{LogItem}
 use Rattle.dm_cert.specs.Logs.{due_of}
-use Rattle.dm_catch_up.specs.Feeds.{AnswersFront, HasNoLine, IsChanged, IsOtherLine}
+use Rattle.dm_catch_up.specs.Feeds.{AnswersFront, HasNoLine, DiffersAt, IsOtherLine}
 use Rattle.dm_lives.specs.Growth.{HasNotGrown}
 
 -- ---- fronts
@@ -121,7 +121,7 @@ module _ (had now : List ℕ) (items all : List LogItem) (line : ℕ) (longer : 
       beyond
       (either_front n.front answers.front now here there)
 
-  pub not_grown : IsChanged now items line → HasNotGrown had now items line
+  pub not_grown : DiffersAt now items line → HasNotGrown had now items line
   not_grown c = record {
     less = λ was. ⊎_elim (not_other now was ([], append-nil now) c.same c.next c.later c.split) (not_missing was c.same c.next c.later c.split) c.cause;
     out = λ is.

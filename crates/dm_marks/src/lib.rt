@@ -9,7 +9,7 @@
 //!
 //! `Marks`: `first_from` finds the first mark from a place on, or tells that there is none; `mark`, `clear`, `mark_all` and
 //! `clear_all` change exactly what they name. `PlaceSet`: `insert` puts one place in, `clear` takes all out, and `places`
-//! lists exactly those that are in, in no more entries than there are places (`sound`). Memory is taken by `new` and `all`
+//! lists exactly those that are in, in no more entries than there are places (`reveal`). Memory is taken by `new` and `all`
 //! alone.
 #![tactic(auto)]
 

@@ -67,7 +67,7 @@ impl PlaceSet {
 
     /// What is known of a set.
     #[tactic(auto, using(crate::proofs::Listing::is_place_set))]
-    pub fn sound(&self)
+    pub fn reveal(&self)
         ensures { IsPlaceSet self.now }
     {
         let _read = self.flags.len();

@@ -107,7 +107,7 @@ impl Case for CarriesOver {
 fn carries_over(alloc: Global, net: &Network, day: &Snapshot) -> Result<(), Failure>
     requires sized { IsSized net.now day.now.rows }
 {
-    net.sound();
+    net.reveal();
     let _times = times_of(alloc, net, &day.rows)?;
     let plan = window_plan(alloc, net, PENALTY, day, &with_both(alloc), NODES)?;
     match rebase(alloc, net, PENALTY, day, &plan) {

@@ -7,7 +7,7 @@
 //!
 //! `Network::build`: `built` (a network, made of exactly the records, within the limits) or `refused` (the first fault in
 //! the order of the faults, want of memory aside). Its readers answer exactly and take no memory; `in_row` and `out_row`
-//! list exactly the activities with that head or tail, and count one step. `sound` tells what holds of every network, and
+//! list exactly the activities with that head or tail, and count one step. `reveal` tells what holds of every network, and
 //! that the ids of its events are below 2^32.
 //!
 //! `Network::search` finds an order of all events in which the held activities go forward, or a cycle of them, over the

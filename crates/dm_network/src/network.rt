@@ -112,7 +112,7 @@ fn id_fits(event: &Event)
 
 impl Network {
     /// What holds of every network, for a caller's proof. It does nothing.
-    pub fn sound(&self)
+    pub fn reveal(&self)
         ensures network { IsNetwork self.now }
         ensures within { IsWithinLimits self.now }
         ensures ids { EventIdsFit self.now }

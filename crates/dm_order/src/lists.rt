@@ -43,7 +43,7 @@ impl Lists {
         ensures forward { IfOk result (λ lists. GoForward net.now held.now lists.places.ranks.items) }
         ensures refused { IfErr result (RefusesLists net.now held.now) }
     {
-        net.sound();
+        net.reveal();
         let mut search = Search::new(alloc, net.events())?;
         let reach = Reach::new(alloc, net.events())?;
         let way = Way::new(alloc, net.events())?;
@@ -125,7 +125,7 @@ impl Lists {
         requires is_activity { a < length net.now.activities }
         ensures { IsTrue result ↔ GoesForward net.now self.now.places.ranks.items a }
     {
-        net.sound();
+        net.reveal();
         let activity = net.activity(a);
         self.places.ranks[activity.tail] < self.places.ranks[activity.head]
     }
@@ -147,7 +147,7 @@ impl Lists {
         ensures cycle { OnErr result (IsCycleOf net.now (is_held held.now) (cycle_in self.new)) }
         ensures cycle_stays { OnOk result (cycle_in self.new ≡ cycle_in self.old) }
     {
-        net.sound();
+        net.reveal();
         let _few = net.events();
         let low = self.places.ranks[net.activity(first).head];
         let high = self.places.ranks[net.activity(first).tail];
@@ -186,7 +186,7 @@ impl Lists {
         ensures same_ranks { OnErr result (self.new.places.ranks.items ≡ self.old.places.ranks.items) }
         ensures cycle { OnErr result (IsCycleOf net.now (is_held held.now) (cycle_in self.new)) }
     {
-        net.sound();
+        net.reveal();
         self.by_search = true;
         match net.search(held, &mut self.search) {
             Ok(()) => {

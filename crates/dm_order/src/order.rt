@@ -162,7 +162,7 @@ fn is_ordered(net: &Network, rows: &Rows, a: usize) -> bool
     requires is_activity { a < length net.now.activities }
     ensures { result ≡ is_ordered net.now rows.now a }
 {
-    net.sound();
+    net.reveal();
     if rows.passed(net.activity(a).tail).is_some() {
         return false;
     }

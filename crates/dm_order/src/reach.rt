@@ -44,7 +44,7 @@ impl Reach {
         requires within { high < length net.now.events }
         ensures { HasReached net.now held.now ranks.now low high high self.new.causes.items }
     {
-        net.sound();
+        net.reveal();
         self.clear(low, high, first);
         for place in low..high {
             if self.causes[place].is_some() {
@@ -96,7 +96,7 @@ impl Reach {
         ensures as_many { length self.new.causes.items ≡ length self.old.causes.items }
     {
         let mut steps = Steps::<L>::new(blank);
-        net.sound();
+        net.reveal();
         for a in net.out_row(event, &mut steps) {
             self.follow(net, held, ranks, at, high, *a);
         }
@@ -119,7 +119,7 @@ impl Reach {
         ensures causes { self.new.causes.items ≡ followed net.now held.now ranks.now at high self.old.causes.items a }
         ensures as_many { length self.new.causes.items ≡ length self.old.causes.items }
     {
-        net.sound();
+        net.reveal();
         let place = ranks[net.activity(a).head];
         if held[a] && at < place && place <= high {
             self.causes[place] = Some(a);

@@ -48,7 +48,7 @@ impl Way {
         ensures as_many { length self.new.arcs.items ≡ length self.old.arcs.items }
         ensures within { self.new.start ≤ length self.new.arcs.items }
     {
-        net.sound();
+        net.reveal();
         self.start = self.arcs.len();
         let low = ranks[net.activity(first).head];
         let mut event = net.activity(first).tail;

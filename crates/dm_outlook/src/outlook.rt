@@ -87,10 +87,10 @@ fn outlook_now(
     requires budget { (1 ≤ budget) × (budget ≤ BUDGET) }
     ensures { IfOk result (IsOutlook table.now.network table.now.start table.now.penalty table.now.history window.now budget None most) }
 {
-    table.sound();
+    table.reveal();
     let net = table.network();
     let penalty = table.penalty();
-    net.sound();
+    net.reveal();
     let now = table.copy()?;
     let plan = window_plan(alloc, net, penalty, &now, window, budget)?;
     let minimal = thinned(alloc, net, penalty, &now.rows, &plan, most)?;
@@ -116,10 +116,10 @@ fn outlook_then(
     ensures { IfOk result (IsOutlook table.now.network table.now.start table.now.penalty table.now.history window.now budget (Some at)
         most) }
 {
-    table.sound();
+    table.reveal();
     let net = table.network();
     let penalty = table.penalty();
-    net.sound();
+    net.reveal();
     let then = rows_then(alloc, table, at)?;
     let plan = window_plan(alloc, net, penalty, &then, window, budget)?;
     let minimal = thinned(alloc, net, penalty, &then.rows, &plan, most)?;
@@ -185,7 +185,7 @@ fn rows_behind(alloc: Global, table: &Table<'_>, entries: &[Entry]) -> Result<Ro
     ensures rows { IfOk result (λ rows. rows ≡ rows_at table.now.network table.now.start entries.now (length entries.now)) }
     ensures sized { IfOk result (IsSized table.now.network) }
 {
-    table.sound();
+    table.reveal();
     // The front of a legal history is one, so that only memory may be missing.
     let Ok(rows) = replay(alloc, table.network(), table.start(), entries) else {
         return Err(AllocError);

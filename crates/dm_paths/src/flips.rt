@@ -17,7 +17,7 @@ pub fn flip_of(net: &Network, rows: &Rows, decision: Decision) -> Flip
     ensures named { flip_named net.now decision ≡ Some result }
     ensures reaches { ReachesNet net.now result }
 {
-    net.sound();
+    net.reveal();
     let Some(flip) = flip_named(net, decision) else {
         unreachable!();
     };

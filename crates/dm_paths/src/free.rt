@@ -52,7 +52,7 @@ fn is_of_free(net: &Network, rows: &Rows, a: usize) -> bool
     requires is_activity { a < length net.now.activities }
     ensures { result ≡ is_of_undecided net.now rows.now [] a (activity_at net.now a).pair }
 {
-    net.sound();
+    net.reveal();
     match net.activity(a).pair {
         None => is_free_change(net, rows, a),
         Some(p) => is_free_pair(net, rows, p),

@@ -32,7 +32,7 @@ fn place_of_change(net: &Network, a: ActId) -> Option<ChoicePlace>
     ensures some { IfSome result (IsPlaceOf net.now (Choice.Change a)) }
     ensures none { IfNone result (HasNoPlace net.now (Choice.Change a)) }
 {
-    net.sound();
+    net.reveal();
     match net.act_place(a) {
         Some(place) => Some(ChoicePlace::Change(place)),
         None => None,
@@ -44,7 +44,7 @@ fn place_of_pair(net: &Network, i: EventId, j: EventId) -> Option<ChoicePlace>
     ensures some { IfSome result (IsPlaceOf net.now (Choice.Pair i j)) }
     ensures none { IfNone result (HasNoPlace net.now (Choice.Pair i j)) }
 {
-    net.sound();
+    net.reveal();
     let Some(x) = net.place_of(i) else {
         return None;
     };

@@ -241,7 +241,7 @@ fn activity_lines(
 fn pair_lines(alloc: Global, net: &Network, rows: &Rows) -> Result<Vec<PairLine>, AllocError>
     requires { IsSized net.now rows.now }
 {
-    net.sound();
+    net.reveal();
     let mut lines = Vec::new(alloc);
     for p in 0..net.pairs() {
         let pair = net.pair(p);

@@ -160,7 +160,7 @@ fn carried_over(
     requires newer { IsSized net.now newer.now.rows }
     requires penalty { penalty ≤ PENALTY }
 {
-    net.sound();
+    net.reveal();
     let _times = least(alloc, net, &older.rows)?;
     let open = opened(alloc, window);
     let plan = window_plan(alloc, net, penalty, older, &open, 100)?;

@@ -18,7 +18,7 @@ pub fn cost_at(net: &Network, i: usize, time: Secs) -> Cost
     ensures cost { result ≡ cost_at net.now i time }
     ensures limit { result ≤ WEIGHT * 2 ^ 38 }
 {
-    net.sound();
+    net.reveal();
     let event = net.event(i);
     match event.kind {
         EventKind::Departure => 0,
@@ -35,7 +35,7 @@ fn missed_at(net: &Network, passed: &[bool], a: usize, tail: Secs, head: Secs, s
     ensures weight { result ≡ missed_at net.now passed.now a tail head span }
     ensures limit { result ≤ WEIGHT }
 {
-    net.sound();
+    net.reveal();
     let activity = net.activity(a);
     if matches!(activity.kind, ActKind::Change) && passed[activity.head] && head < tail + span {
         activity.weight
@@ -54,7 +54,7 @@ pub fn missed_with(net: &Network, passed: &[bool], times: &Times, a: usize, span
         (slice_index times.now (activity_at net.now a).head) span }
     ensures limit { result ≤ WEIGHT }
 {
-    net.sound();
+    net.reveal();
     let activity = net.activity(a);
     let tail = times.time(activity.tail);
     let head = times.time(activity.head);
@@ -76,7 +76,7 @@ fn missed_after(net: &Network, passed: &[bool], to: &Move<'_>, a: usize) -> Mill
     ensures weight { result ≡ missed_weight net.now passed.now to.now.constraints.now.spans (times_after to.now) a }
     ensures limit { result ≤ WEIGHT }
 {
-    net.sound();
+    net.reveal();
     let activity = net.activity(a);
     let tail = to.times.time_where(to.event, to.time, activity.tail);
     let head = to.times.time_where(to.event, to.time, activity.head);
@@ -89,7 +89,7 @@ fn is_change_to_passed(net: &Network, passed: &[bool], a: usize) -> bool
     requires as_many { length passed.now ≡ length net.now.events }
     ensures { result ≡ is_change (activity_at net.now a).kind && is_flagged passed.now (activity_at net.now a).head }
 {
-    net.sound();
+    net.reveal();
     let activity = net.activity(a);
     matches!(activity.kind, ActKind::Change) && passed[activity.head]
 }

@@ -79,7 +79,7 @@ impl PricedTimetable {
         ensures passed { IfOk result (λ priced. priced.passed ≡ replicate (length net.now.events) false) }
         ensures charged { IfOk result (λ priced. priced.charged ≡ replicate (length net.now.activities) false) }
     {
-        net.sound();
+        net.reveal();
         live.times().is_early();
         let passed = vec![in alloc; false; net.events()]?;
         let charged = vec![in alloc; false; net.activities()]?;
@@ -130,7 +130,7 @@ impl PricedTimetable {
         ensures few_reads { ReadsFew (arcs_given net.now self.old.live.given) self.old.live self.new.live steps.old steps.new }
         ensures knows { W.knows watcher.new net.now self.new.live.given self.new.live.times }
     {
-        net.sound();
+        net.reveal();
         let mut watch = Watch {
             passed: &self.passed,
             lateness: self.lateness,
@@ -186,7 +186,7 @@ impl PricedTimetable {
         ensures cycle_stays { self.new.live.order.cycle ≡ self.old.live.order.cycle }
         ensures others { self.new ≡ record self.old { live = self.new.live; sums = self.new.sums } }
     {
-        net.sound();
+        net.reveal();
         let mut watch = Watch {
             passed: &self.passed,
             lateness: self.lateness,
@@ -235,7 +235,7 @@ impl PricedTimetable {
           sums = self.new.sums;
         } }
     {
-        net.sound();
+        net.reveal();
         let earlier = self.live.span(a);
         let before = missed_with(net, &self.passed, self.live.times(), a, earlier);
         let after = missed_with(net, &self.passed, self.live.times(), a, span);
@@ -310,7 +310,7 @@ impl PricedTimetable {
         ensures priced { IsPriced net.now self.new }
         ensures passed { self.new ≡ record self.old { passed = slice_set self.old.passed i passed; sums = self.new.sums } }
     {
-        net.sound();
+        net.reveal();
         let constraints = self.live.constraints();
         let times = self.live.times();
         let before = missed_along(net, constraints, &self.passed, times, into);
@@ -326,7 +326,7 @@ impl PricedTimetable {
         ensures priced { IsPriced net.now self.new }
         ensures charged { self.new ≡ record self.old { charged = slice_set self.old.charged a charged; sums = self.new.sums } }
     {
-        net.sound();
+        net.reveal();
         let weight = net.activity(a).weight;
         let before = weight_if(self.is_charged(a), weight);
         let after = weight_if(charged, weight);

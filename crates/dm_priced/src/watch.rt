@@ -24,7 +24,7 @@ impl Watcher for Watch<'_> {
     ghost flags = { λ w. w.passed.now };
 
     fn moves(&mut self, net: &Network, to: &Move<'_>) {
-        net.sound();
+        net.reveal();
         to.times.is_early();
         let earlier = to.times.time(to.event);
         let cost = cost_at(net, to.event, to.time);

@@ -30,7 +30,7 @@ fn put_state<K: Sink>(follower: &Follower<'_>, out: &mut K) -> Result<(), WriteF
     ensures { Puts K.taken K.faults out.old out.new result (state_of follower.now) }
 {
     let table = follower.table();
-    table.sound();
+    table.reveal();
     let (net, times) = (table.network(), table.times());
     put_parts(
         out,

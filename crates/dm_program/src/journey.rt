@@ -25,7 +25,7 @@ pub fn end_journeys<K: Sink>(
     ensures ends { EndsTravelled K.taken K.faults asked table.now out.old out.new result }
     ensures later { K.faults out.old ≤ K.faults out.new }
 {
-    table.sound();
+    table.reveal();
     let found = journeys(
         alloc,
         table.network(),

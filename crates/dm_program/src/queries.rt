@@ -66,7 +66,7 @@ fn ask_text<R: Threads + Wait + Sync, H: Shelf, K: Sink, G: Hold + Sync>(
     ensures kept { IsKept H.files H.is_sound shelf.old shelf.new }
     ensures later { K.faults out.old ≤ K.faults out.new }
 {
-    net.sound();
+    net.reveal();
     let penalty = words.files.penalty;
     match read_journal(means.alloc, shelf, words.text, net, rows, penalty) {
         Ok(journal) => answer_journal(means, &journal, &words.query, out),

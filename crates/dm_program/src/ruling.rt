@@ -31,7 +31,7 @@ pub fn end_rules<R: Threads + Wait + Sync, K: Sink, G: Hold + Sync>(
     ensures ends { EndsCompared K.taken K.faults asked table.now out.old out.new result }
     ensures later { K.faults out.old ≤ K.faults out.new }
 {
-    table.sound();
+    table.reveal();
     match comparison_of(means, table, asked) {
         Ok(compared) => end_compared(rule_named(asked.rule), &compared, out),
         Err(AllocError) => Status::NoMemory,
@@ -47,7 +47,7 @@ fn comparison_of<R: Threads + Wait + Sync, G: Hold + Sync>(
     requires within { AreRulesWithin asked }
     ensures { IfOk result (Compares table.now.network table.now.rows table.now.penalty asked.budget (rule_named asked.rule)) }
 {
-    table.sound();
+    table.reveal();
     let (net, penalty) = (table.network(), table.penalty());
     let snapshot = table.copy()?;
     let plan = search(

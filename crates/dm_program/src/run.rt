@@ -105,7 +105,7 @@ pub fn answer_run<'n, R: Threads + Wait + Sync, S: Source + Send + Drop, H: Hold
         net.now day.table.times (length day.table.history) day.publisher.notes boards.old.items boards.new.items) }
     ensures stops { map place boards.new.items ≡ map place boards.old.items }
 {
-    net.sound();
+    net.reveal();
     let planner = |snapshot: &Snapshot, budget: u64| -> Result<Plan, AllocError>
         requires { IsSync R.row × IsSync H.row × (penalty ≤ PENALTY) × (1 ≤ workers) × (workers ≤ WORKERS) × (1 ≤ budget)
             × (budget ≤ BUDGET) × IsSized net.now snapshot.now.rows × HasNoCycle net.now snapshot.now.rows }

@@ -30,7 +30,7 @@ pub fn end_window<K: Sink>(
     ensures ends { EndsOutlook K.taken K.faults asked.now table.now out.old out.new result }
     ensures later { K.faults out.old ≤ K.faults out.new }
 {
-    table.sound();
+    table.reveal();
     if let Some(at) = asked.at {
         if at > table.len() {
             return end_unknown_entry(at, out);

@@ -77,7 +77,7 @@ pub fn is_dropped_change(day: &Day<'_>, a: usize) -> bool
     requires is_activity { a < length day.now.net.now.activities }
     ensures { result ≡ is_dropped_change day.now.net.now day.now.rows.now a }
 {
-    day.net.sound();
+    day.net.reveal();
     let activity = day.net.activity(a);
     matches!(activity.kind, ActKind::Change)
         && !day.rows.kept(a)

@@ -84,7 +84,7 @@ impl Engine {
         ensures moved { IfOk result (λ engine. engine.moved ≡ record { flags = replicate (length net.now.events) false; places = [] }) }
         ensures refused { IfErr result (RefusesTimes net.now rows) }
     {
-        net.sound();
+        net.reveal();
         let priced = match priced_for(alloc, net, &rows) {
             Ok(priced) => priced,
             Err(no_times) => return Err(no_times),
@@ -205,7 +205,7 @@ impl Engine {
             → ReadsFew net.now (after_change self.old.rows (change_in what.now)) (change_in what.now) (times_of self.old) (times_of self.new)
             steps.old steps.new }
     {
-        net.sound();
+        net.reveal();
         what.make(&mut self.twin);
         match move_to(
             &mut self.priced,
@@ -280,7 +280,7 @@ impl Engine {
         ensures cost { result ≡ cost_of net.now self.now.rows (times_of self.now) penalty }
         ensures limit { result < 2 ^ 100 }
     {
-        net.sound();
+        net.reveal();
         self.priced.cost(penalty)
     }
 

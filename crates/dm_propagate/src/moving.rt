@@ -88,7 +88,7 @@ pub fn move_to<L: Ledger>(
         → ReadsFew net.now other.now (change_in what.now) priced.old.live.times priced.new.live.times steps.old steps.new }
     ensures moved { TakesInMoved moved.old.flags moved.new.flags priced.old.live.times priced.new.live.times }
 {
-    net.sound();
+    net.reveal();
     let (day, next) = (Day { net, rows }, Day { net, rows: other });
     match turn_to(priced, &next, what, schedule, rows.clock(), steps) {
         Ok(()) => {
@@ -131,7 +131,7 @@ pub fn try_rows<L: Ledger>(
     ensures no_cycle { OnOk result (HasNoCycle net.now other.now) }
     ensures cycle { OnErr result (IsCycle net.now other.now priced.new.live.order.cycle) }
 {
-    net.sound();
+    net.reveal();
     let (day, next) = (Day { net, rows }, Day { net, rows: other });
     let outcome = turn_to(priced, &next, what, schedule, rows.clock(), steps);
     come_back(priced, &day, what, schedule, other.clock(), steps);
@@ -162,7 +162,7 @@ fn come_back<L: Ledger>(
     ensures least { IsLeast day.now.net.now day.now.rows.now priced.new.live.times }
     ensures cycle_stays { priced.new.live.order.cycle ≡ priced.old.live.order.cycle }
 {
-    day.net.sound();
+    day.net.reveal();
     let Ok(()) = turn_to(priced, day, what, schedule, earlier, steps) else {
         unreachable!();
     };

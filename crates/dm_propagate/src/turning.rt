@@ -171,7 +171,7 @@ fn rows_of_pair<'d, L: Ledger>(
     ensures of_small { All (λ a. a < length day.now.net.now.activities) result.0.now }
     ensures of_large { All (λ a. a < length day.now.net.now.activities) result.1.now }
 {
-    day.net.sound();
+    day.net.reveal();
     let Pair { small, large } = *day.net.pair(pair);
     (day.net.out_row(small, steps), day.net.out_row(large, steps))
 }

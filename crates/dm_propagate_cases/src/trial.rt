@@ -126,7 +126,7 @@ fn bring(shown: &mut Times, times: &Times, moved: &PlaceSet)
     requires places { length moved.now.flags ≡ length times.now }
     ensures { length shown.new ≡ length shown.old }
 {
-    moved.sound();
+    moved.reveal();
     for place in moved.places() {
         shown.set(*place, times.time(*place));
     }

@@ -29,7 +29,7 @@ pub(crate) fn refresh(
         → Refreshes place times faults is_sound net.now last timetable.now board.old board.new result }
     ensures room { vec_capacity changes.old ≤ vec_capacity changes.new }
 {
-    net.sound();
+    net.reveal();
     changes.clear();
     let part = part_at(listed, stop_of(board));
     gather(net, timetable, part, board, changes);
@@ -67,7 +67,7 @@ fn gather(
     ensures gathered { Gathers net.now timetable.now (place board.now) (times board.now) part.now (length part.now) changes.new.items }
     ensures room { vec_capacity changes.old ≤ vec_capacity changes.new }
 {
-    net.sound();
+    net.reveal();
     for listed in part {
         let id = net.event(listed.place).id.0;
         let time = timetable.time(listed.place);

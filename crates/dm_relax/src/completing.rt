@@ -72,7 +72,7 @@ fn differing_change(relaxation: &Relaxation, a: usize) -> Option<Decision>
     requires is_activity { a < length relaxation.now.net.now.activities }
     ensures { result ≡ differing_change relaxation.now.net.now relaxation.now.rows.now relaxation.now.path.now a }
 {
-    relaxation.net.sound();
+    relaxation.net.reveal();
     if !is_free_change(relaxation.net, relaxation.rows, a) {
         return None;
     }
@@ -90,7 +90,7 @@ fn differing_pair(relaxation: &Relaxation, times: &Times, p: usize) -> Option<De
     requires is_pair { p < length relaxation.now.net.now.pairs }
     ensures { result ≡ differing_pair relaxation.now.net.now relaxation.now.rows.now relaxation.now.path.now times.now p }
 {
-    relaxation.net.sound();
+    relaxation.net.reveal();
     if !is_free_pair(relaxation.net, relaxation.rows, p) {
         return None;
     }
@@ -115,7 +115,7 @@ fn goes_small_first(relaxation: &Relaxation, times: &Times, p: usize) -> bool
     requires is_pair { p < length relaxation.now.net.now.pairs }
     ensures { result ≡ completed_small_first relaxation.now.net.now relaxation.now.rows.now relaxation.now.path.now times.now p }
 {
-    relaxation.net.sound();
+    relaxation.net.reveal();
     if relaxation.undecided.pairs[p] {
         let pair = relaxation.net.pair(p);
         times.time(pair.small) < times.time(pair.large)

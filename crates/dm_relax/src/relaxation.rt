@@ -40,7 +40,7 @@ impl<'a> Relaxation<'a> {
         ensures rows { IfOk result (λ r. r.rows.now ≡ rows.now) }
         ensures path { IfOk result (λ r. r.path.now ≡ path.now) }
     {
-        net.sound();
+        net.reveal();
         let mut undecided = all_undecided(alloc, net, rows)?;
         for decision in path {
             undecided.set(flip_of(net, rows, *decision), false);
@@ -59,7 +59,7 @@ impl<'a> Relaxation<'a> {
         requires { a < length self.now.net.now.activities }
         ensures { result ≡ is_of_undecided self.now.net.now self.now.rows.now self.now.path.now a (activity_at self.now.net.now a).pair }
     {
-        self.net.sound();
+        self.net.reveal();
         match self.net.activity(a).pair {
             None => self.undecided.changes[a],
             Some(p) => self.undecided.pairs[p],

@@ -24,7 +24,7 @@ pub fn unmet_from(
     ensures { IfOk result (λ flags. AreFlags (λ p. has_unmet_from net.now rows.now times.now p (end_of net.now small p))
         (length net.now.pairs) flags.items) }
 {
-    net.sound();
+    net.reveal();
     let mut flags = vec![in alloc; false; net.pairs()]?;
     for a in 0..net.activities() {
         if let Some(p) = net.activity(a).pair {

@@ -31,7 +31,7 @@ pub(crate) fn put_run<K: Sink>(
     ensures puts { Puts K.taken K.faults out.old out.new result (run_text 2 (run_of table.now logs.now)) }
     ensures fits { FitsRun (run_of table.now logs.now) }
 {
-    table.sound();
+    table.reveal();
     let run = Run {
         net: table.network(),
         penalty: table.penalty(),
@@ -88,8 +88,8 @@ pub(crate) fn judge(
     ensures stops { IfErr result (StopsJudging desk.now.plans desk.now.table logs.now) }
 {
     let table = &desk.table;
-    table.sound();
-    table.network().sound();
+    table.reveal();
+    table.network().reveal();
     logs_are_held(logs);
     let Ok(text) = run_text(alloc, table, logs) else {
         return Err(RestoreStop::OutOfMemory);

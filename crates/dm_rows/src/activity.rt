@@ -14,7 +14,7 @@ pub fn is_active(net: &Network, rows: &Rows, a: usize) -> bool
     requires is_activity { a < length net.now.activities }
     ensures { result ≡ is_active net.now rows.now a }
 {
-    net.sound();
+    net.reveal();
     if head_has_passed(net, rows, a) {
         return false;
     }
@@ -33,7 +33,7 @@ pub(crate) fn head_has_passed(net: &Network, rows: &Rows, a: usize) -> bool
     requires is_activity { a < length net.now.activities }
     ensures { result ≡ has_passed rows.now (activity_at net.now a).head }
 {
-    net.sound();
+    net.reveal();
     rows.passed(net.activity(a).head).is_some()
 }
 

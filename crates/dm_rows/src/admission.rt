@@ -129,7 +129,7 @@ fn passed_head(net: &Network, rows: &Rows, act: usize) -> Option<(EventId, Secs)
     ensures passed { IfSome result (λ p. HeadHasPassed net.now rows.now act p.0 p.1) }
     ensures free { IfNone result (passed_at rows.now (activity_at net.now act).head ≡ None) }
 {
-    net.sound();
+    net.reveal();
     let head = net.activity(act).head;
     let time = rows.passed(head)?;
     Some((net.event(head).id, time))

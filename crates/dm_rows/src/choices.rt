@@ -67,7 +67,7 @@ pub fn is_free_pair(net: &Network, rows: &Rows, p: usize) -> bool
     requires is_pair { p < length net.now.pairs }
     ensures { result ≡ is_free_pair net.now rows.now p }
 {
-    net.sound();
+    net.reveal();
     let pair = net.pair(p);
     rows.passed(pair.small).is_none() && rows.passed(pair.large).is_none()
 }
@@ -77,7 +77,7 @@ pub fn choice_of_pair(net: &Network, p: usize) -> Choice
     requires { p < length net.now.pairs }
     ensures { result ≡ pair_choice net.now p }
 {
-    net.sound();
+    net.reveal();
     let pair = net.pair(p);
     Choice::Pair(net.event(pair.small).id, net.event(pair.large).id)
 }

@@ -15,7 +15,7 @@ pub fn floor_of(net: &Network, rows: &Rows, i: usize) -> Secs
     ensures value { result ≡ floor_of net.now rows.now i }
     ensures limit { result ≤ PASSED_TIME }
 {
-    net.sound();
+    net.reveal();
     match rows.passed(i) {
         Some(time) => time,
         None => {
@@ -32,6 +32,6 @@ pub fn span_of(net: &Network, rows: &Rows, a: usize) -> Secs
     ensures value { result ≡ span_of net.now rows.now a }
     ensures limit { result ≤ BOUND + DELAY }
 {
-    net.sound();
+    net.reveal();
     net.activity(a).lower + rows.act_delay(a)
 }

@@ -88,7 +88,7 @@ fn delays_of(
     ensures known { OnOk result (AllAreKnown (place_numbered net.now delayed) records.now) }
     ensures refused { IfErr result (RefusesDelays net.now delayed records.now) }
 {
-    net.sound();
+    net.reveal();
     let count = delayed.count(net);
     let Ok(mut delays) = vec![in alloc; 0; count] else {
         return Err(StartFault::OutOfMemory);
@@ -106,7 +106,7 @@ fn delays_of(
 pub fn first_events(alloc: Global, net: &Network) -> Result<Vec<bool>, AllocError>
     ensures { IfOk result (λ small_first. small_first.items ≡ map (starts_small_first net.now) (range_with_len 0 (length net.now.pairs))) }
 {
-    net.sound();
+    net.reveal();
     let mut small_first = Vec::with_capacity(alloc, net.pairs())?;
     for p in 0..net.pairs() {
         let pair = net.pair(p);

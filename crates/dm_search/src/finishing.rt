@@ -145,7 +145,7 @@ fn standing_at_hole(task: &Task<'_>, own: Cost) -> Result<Standing, AllocError>
     requires own { Costs task.now.net.now task.now.rows.now task.now.penalty own }
     ensures { IfOk result (IsStanding (task_of task.now)) }
 {
-    task.net.sound();
+    task.net.reveal();
     // No leaves are those of a tree, so that only memory may be missing.
     let Ok(unsearched) = assemble(task.alloc, Vec::new(task.alloc)) else {
         return Err(AllocError);
@@ -193,7 +193,7 @@ fn standing_at(
     ensures cost { IfOk result (λ s. (c : ℕ) → CostsWith (task_of task.now) best.items c → s.best.cost ≤ c) }
     ensures nodes { IfOk result (λ s. s.nodes.items ≡ partial) }
 {
-    task.net.sound();
+    task.net.reveal();
     let cost = cost_with(task, &best)?;
     standing_with(task, partial, best, cost)
 }
@@ -212,7 +212,7 @@ fn standing_with(
     ensures cost { IfOk result (λ s. s.best.cost ≡ cost) }
     ensures nodes { IfOk result (λ s. s.nodes.items ≡ partial) }
 {
-    task.net.sound();
+    task.net.reveal();
     let choices = Items::from_vec(best);
     let nodes = Vec::from_slice(task.alloc, partial.as_slice())?;
     let best = Best { choices, cost };
@@ -249,7 +249,7 @@ fn finish_standing(
     ensures cost { IfOk result (λ plan. plan.cost ≤ standing.best.cost) }
     ensures goes_on { IfOk result (λ plan. GoesOnFrom standing.nodes.items plan.tree) }
 {
-    task.net.sound();
+    task.net.reveal();
     let mut walker = Walker {
         task: *task,
         evaluator,
@@ -400,7 +400,7 @@ fn solved_at(task: &Task<'_>, evaluator: &Evaluator, best: Best) -> Result<Best,
     ensures best { IfOk result (λ b. AreBest (task_of task.now) b.choices b.cost) }
     ensures no_dearer { IfOk result (λ b. b.cost ≤ best.cost) }
 {
-    task.net.sound();
+    task.net.reveal();
     let outcome = outcome_here(task, evaluator, best.cost)?;
     match outcome {
         Outcome::Solved(cost, choices) => Ok(Best { choices, cost }),

@@ -190,7 +190,7 @@ impl Walker<'_> {
         ensures kept { IfOk result (λ s. Keeps standing.nodes.items s.nodes.items) }
         ensures same { self.new ≡ self.old }
     {
-        self.sound();
+        self.reveal();
         let alloc = self.task.alloc;
         let mut hints = Hints {
             guide,
@@ -246,7 +246,7 @@ impl Walker<'_> {
             (search.new.nodes.items ++ reverse search.new.due.items)) }
         ensures same { self.new ≡ self.old }
     {
-        self.sound();
+        self.reveal();
         let hint = hints.next();
         if let Some(choice) = node.choice() {
             hints.branch(hint, choice)?;
@@ -285,7 +285,7 @@ impl Walker<'_> {
         ensures kept { IfOk result (λ b. Keeps (search.old.nodes.items ++ leaf ∷ reverse search.old.due.items)
             (search.new.nodes.items ++ reverse search.new.due.items)) }
     {
-        self.sound();
+        self.reveal();
         match found {
             Found::Settled(leaf) => {
                 search.leave(leaf)?;
@@ -303,11 +303,11 @@ impl Walker<'_> {
     }
 
     /// What is true of every walker's task.
-    fn sound(&self)
+    fn reveal(&self)
         ensures network { IsNetwork self.now.net }
         ensures base { IsChoiceList self.now.net self.now.rows self.now.base }
     {
-        self.task.net.sound();
+        self.task.net.reveal();
     }
 
     /// What a search does with a path, branching on the choice that it is hinted at where that one is violated.
@@ -363,7 +363,7 @@ impl Walker<'_> {
         ensures found { IfOk result (IsFound self.old path.now best ceiling) }
         ensures same { self.new ≡ self.old }
     {
-        self.task.net.sound();
+        self.task.net.reveal();
         match self.step_there(path, best, hint)? {
             Outcome::Cycle => Ok(Found::Settled(Node::Cycle)),
             Outcome::Pruned(cost) => Ok(Found::Settled(Node::Bound(cost))),

@@ -42,7 +42,7 @@ pub(crate) fn step_there(
     ensures evaluator { IsOver (task_of task.now) evaluator.new }
 {
     let net = task.net;
-    net.sound();
+    net.reveal();
     let Ok(()) = walk(task, evaluator, path) else {
         return Ok(Outcome::Cycle);
     };
@@ -253,7 +253,7 @@ pub(crate) fn make_all(
     ensures there { OnOk result (evaluator.new.path ≡ evaluator.old.path ++ decisions.now) }
     ensures cycle { OnErr result (HasRelaxedCycle net.now evaluator.old.rows (evaluator.old.path ++ decisions.now)) }
 {
-    net.sound();
+    net.reveal();
     for i in 0..decisions.len() {
         match decide_with::<Brand>(net, evaluator, decisions[i], Blank::new(1)) {
             Ok(()) => {}

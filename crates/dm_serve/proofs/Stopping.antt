@@ -16,7 +16,7 @@ use Rattle.dm_store.specs.declared.journal.Journal.{Journal}
 use Rattle.dm_book.specs.Books.{Book}
 use Rattle.dm_tail.specs.declared.tail.Tail.{Tail}
 use Rattle.dm_tail.specs.declared.watched.Watched.{Watched}
-use Rattle.dm_catch_up.specs.Feeds.{IsChanged}
+use Rattle.dm_catch_up.specs.Feeds.{DiffersAt}
 use Rattle.dm_input.specs.declared.flaws.InputStop.{InputStop}
 use Rattle.dm_input.specs.declared.flaws.InputStop.TheVariants as files
 use Rattle.dm_words.specs.Serving.{ServerAsked}
@@ -246,7 +246,7 @@ module _ {K S T : Type 0} (taken : K → Option (List ℕ)) (sink_faults : K →
           changed = λ contents first items t at.
               let is : book ≡ first = (back.finds contents first t).0 in
               let same : why.items ≡ items = some_same (sym why.of ∙ (ap (λ (b : Book). slice_get b.logs why.place) is ∙ at)) in
-              subst (λ (l : List LogItem). IfSome (given why.watched.tail.feed) (λ bytes. IsChanged bytes l line)) same why.changed;
+              subst (λ (l : List LogItem). IfSome (given why.watched.tail.feed) (λ bytes. DiffersAt bytes l line)) same why.changed;
           left = λ told. (back.looks.0 told).1;
           line = ap (λ (n : ℕ). feed_line n line) why.number_is;
         })))) h

@@ -21,7 +21,7 @@ use Rattle.dm_tail.specs.declared.tail.Tail.{Tail}
 use Rattle.dm_tail.specs.declared.watched.Watched.{Watched}
 use Rattle.dm_watch.specs.Rounds.{IsWatching, book_of}
 use Rattle.dm_watch.specs.Stops.{IsTooLong}
-use Rattle.dm_catch_up.specs.Feeds.{IsChanged}
+use Rattle.dm_catch_up.specs.Feeds.{DiffersAt}
 use Rattle.dm_store_text.specs.Files.{IsOfFiles, IsOver}
 use Rattle.dm_store_text.specs.Lines.{feed_line, refusal_line, reply_line, store_line, unread_line}
 use Rattle.dm_store_text.specs.Written.{FailsToWrite, Writes}
@@ -62,7 +62,7 @@ pub record IsFeedRefusal {S T : Type 0} (tells : S → Type 0) (seen : S → Lis
   pub tail : Tail T
   pub stands : slice_get tails place ≡ Some tail
   pub changed : (contents : List (List ℕ)) (first : Book) (items : List LogItem) → IsTakenUp tells seen shown may_leave s feeds old.store contents first
-      → slice_get first.logs place ≡ Some items → IfSome (given tail.feed) (λ bytes. IsChanged bytes items at_line)
+      → slice_get first.logs place ≡ Some items → IfSome (given tail.feed) (λ bytes. DiffersAt bytes items at_line)
   pub left : tells old.store → IsLeft seen shown may_leave old.store new.store
   pub line : text ≡ feed_line (place + 1) at_line
 

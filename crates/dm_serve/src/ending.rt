@@ -111,7 +111,7 @@ fn end_feeds<T: Growing + Drop, K: Sink>(
     ensures table { IsTable table.now }
     ensures later { K.faults out.old ≤ K.faults out.new }
 {
-    table.sound();
+    table.reveal();
     let Ok(split) = apart(alloc, feeds) else {
         return no_day(alloc, Status::NoMemory);
     };

@@ -163,7 +163,7 @@ fn serve_files<
         Err(stop) => return no_day(means.alloc, end_files(&words.run.files, &stop, out)),
     };
     let Opened { net, rows } = opened;
-    net.sound();
+    net.reveal();
     serve_over(means, &words, &net, rows, feeds, journal, boards, pace, out)
 }
 
@@ -405,7 +405,7 @@ fn serve_watch<
     ensures store_later { S.faults journal.old.store ≤ S.faults journal.new.store }
     ensures stays { map place boards.new.items ≡ map place boards.old.items }
 {
-    net.sound();
+    net.reveal();
     let Ok(mut display) = Display::new(means.alloc, net, boards.len()) else {
         return no_day(means.alloc, Status::NoMemory);
     };

@@ -21,11 +21,11 @@ use std::sync::ledger::{Blank, Ledger};
 
 impl<'n> Kept<'n> {
     /// What holds of every table, for a caller's proof. It does nothing.
-    pub(crate) fn sound(&self)
+    pub(crate) fn reveal(&self)
         ensures table { IsTable self.now.table.value }
         ensures sized { IsSized self.now.table.value.network self.now.table.value.rows }
     {
-        self.table.sound();
+        self.table.reveal();
     }
 
     /// How many entries there are.
@@ -49,7 +49,7 @@ impl<'n> Kept<'n> {
         ensures stays { OnErr result (Stays self.old.table.value self.new.table.value) }
         ensures refused { IfErr result (RefusesAfter (base_of self.old.table.value) self.old.table.value.history entry.message) }
     {
-        self.sound();
+        self.reveal();
         match self.table.reserve(&entry.message) {
             Ok(()) => self.post_with::<Brand>(entry, Blank::new(1)),
             Err(AllocError) => Err(Refusal::OutOfMemory),
@@ -85,7 +85,7 @@ impl<'n> Kept<'n> {
         ensures stays { OnErr result (Stays self.old.table.value self.new.table.value) }
         ensures refused { IfErr result (RefusesAdopt plan.now self.old.table.value.history) }
     {
-        self.table.network().sound();
+        self.table.network().reveal();
         let now = self.table.len();
         if plan.entry < now {
             return Err(AdoptRefusal::Old { now });
@@ -112,7 +112,7 @@ impl<'n> Kept<'n> {
         ensures time { IfOk result (ShowsTime (base_of self.now.table.value) self.now.table.value.history id) }
         ensures refused { IfErr result (RefusesTime self.now.table.value.network id) }
     {
-        self.sound();
+        self.reveal();
         self.table.time(id)
     }
 
@@ -120,7 +120,7 @@ impl<'n> Kept<'n> {
     pub(crate) fn cost(&self) -> Cost
         ensures { CostsAfter (base_of self.now.table.value) self.now.table.value.history result }
     {
-        self.sound();
+        self.reveal();
         self.table.cost_now()
     }
 
@@ -129,7 +129,7 @@ impl<'n> Kept<'n> {
         requires { length into.old ≡ length self.now.table.value.network.events }
         ensures { AreTimesAfter (base_of self.now.table.value) self.now.table.value.history into.new }
     {
-        self.sound();
+        self.reveal();
         into.copy_from(self.table.times());
     }
 
@@ -145,7 +145,7 @@ impl<'n> Kept<'n> {
         ensures listed { ListsMoved into.old into.new listed.new.items }
         ensures room { vec_capacity listed.old ≤ vec_capacity listed.new }
     {
-        self.sound();
+        self.reveal();
         self.table.follow_times(into, shown, listed);
     }
 }

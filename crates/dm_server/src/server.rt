@@ -130,7 +130,7 @@ impl<'n> Server<'n> {
         ensures refused { IfErr result (λ at. IsSomeAnd pass.new.base (λ base. RefusesAfter base pass.new.seen entry.message at.why)) }
     {
         let mut held = self.turn.take(rt, pass);
-        held.state.sound();
+        held.state.reveal();
         let answer = held.state.enter(entry);
         match answer {
             Ok(n) => {
@@ -164,7 +164,7 @@ impl<'n> Server<'n> {
         ensures refused { IfErr result (λ at. IsSomeAnd pass.new.base (λ base. RefusesTime base.network id at.why)) }
     {
         let held = self.turn.take(rt, pass);
-        held.state.sound();
+        held.state.reveal();
         let entry = held.state.length();
         let answer = held.state.time(id);
         self.turn.give(pass, held);
@@ -184,7 +184,7 @@ impl<'n> Server<'n> {
         ensures cost { IsSomeAnd pass.new.base (λ base. CostsAfter base pass.new.seen result.0) }
     {
         let held = self.turn.take(rt, pass);
-        held.state.sound();
+        held.state.reveal();
         let entry = held.state.length();
         let cost = held.state.cost();
         self.turn.give(pass, held);
@@ -200,7 +200,7 @@ impl<'n> Server<'n> {
         ensures number { result ≡ length pass.new.seen }
     {
         let held = self.turn.take(rt, pass);
-        held.state.sound();
+        held.state.reveal();
         let entry = held.state.length();
         self.turn.give(pass, held);
         entry
@@ -217,7 +217,7 @@ impl<'n> Server<'n> {
         ensures times { IsSomeAnd pass.new.base (λ base. AreTimesAfter base pass.new.seen into.new) }
     {
         let held = self.turn.take(rt, pass);
-        held.state.sound();
+        held.state.reveal();
         let entry = held.state.length();
         held.state.copy_times(into);
         self.turn.give(pass, held);
@@ -249,7 +249,7 @@ impl<'n> Server<'n> {
         ensures room { vec_capacity listed.old ≤ vec_capacity listed.new }
     {
         let mut held = self.turn.take(rt, pass);
-        held.state.sound();
+        held.state.reveal();
         let entry = held.state.length();
         held.state.follow_times(into, shown, listed);
         self.turn.give(pass, held);
@@ -272,7 +272,7 @@ impl<'n> Server<'n> {
         ensures no_cycle { IfOk result (λ snapshot. IsSomeAnd pass.new.base (λ base. HasNoCycle base.network snapshot.rows)) }
     {
         let held = self.turn.take(rt, pass);
-        held.state.sound();
+        held.state.reveal();
         let copied = held.state.copy();
         self.turn.give(pass, held);
         copied
@@ -299,7 +299,7 @@ impl<'n> Server<'n> {
         ensures refused { IfErr result (RefusesAdopt plan.now pass.new.seen) }
     {
         let mut held = self.turn.take(rt, pass);
-        held.state.sound();
+        held.state.reveal();
         let answer = held.state.adopt(self.alloc, plan, feed, line);
         match answer {
             Ok(n) => {
@@ -328,7 +328,7 @@ impl<'n> Server<'n> {
         let Self { alloc: _, turn } = self;
         let Kept { table } = turn.close(pass);
         let table = Box::into_inner(table);
-        table.sound();
+        table.reveal();
         table
     }
 }

@@ -51,7 +51,7 @@ pub fn settle_watched<L: Ledger, W: Watcher, V: Watcher>(
     ensures flags { W.flags watcher.new ≡ W.flags watcher.old }
     ensures other_knows { V.knows other.new net.now constraints.now times.new }
 {
-    net.sound();
+    net.reveal();
     constraints.within_limits();
     let mut place = 0;
     while let Some(next) = marks.first_from(place) {
@@ -138,7 +138,7 @@ fn mark_heads(
     requires ranks { (e : ℕ) → e < length net.now.events → slice_index ranks.now e < length marks.old }
     ensures { MarksHeads (arcs_given net.now constraints.now) (slice_index ranks.now) event marks.old marks.new }
 {
-    net.sound();
+    net.reveal();
     let _event = event;
     for a in out_of {
         if constraints.is_held(*a) {
@@ -154,6 +154,6 @@ fn mark_head(marks: &mut Marks, net: &Network, ranks: &[usize], a: usize)
     requires ranks { (e : ℕ) → e < length net.now.events → slice_index ranks.now e < length marks.old }
     ensures { marks.new ≡ slice_set marks.old (slice_index ranks.now (activity_at net.now a).head) true }
 {
-    net.sound();
+    net.reveal();
     marks.mark(ranks[net.activity(a).head]);
 }

@@ -27,7 +27,7 @@ pub fn time_of(
     ensures join { IsJoin (graph_given net.now constraints.now) (slice_index times.now) event result }
     ensures early { result < 2 ^ 38 }
 {
-    net.sound();
+    net.reveal();
     constraints.within_limits();
     let mut time = constraints.floor(event);
     for a in into {
@@ -45,6 +45,6 @@ fn time_along(net: &Network, constraints: &Constraints, times: &Times, a: usize)
     requires is_activity { a < length net.now.activities }
     ensures { result ≡ time_along (graph_given net.now constraints.now) times.now a }
 {
-    net.sound();
+    net.reveal();
     times.time(net.activity(a).tail) + constraints.span(a)
 }

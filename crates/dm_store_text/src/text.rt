@@ -76,7 +76,7 @@ fn text_by_words<H: Shelf, K: Sink>(
         Err(stop) => return end_files(&words.run.files, &stop, out),
     };
     let Opened { net, rows } = opened;
-    net.sound();
+    net.reveal();
     text_over(alloc, words, &net, rows, shelf, out)
 }
 
@@ -141,7 +141,7 @@ fn end_restored<K: Sink>(restored: &Restored<'_>, out: &mut K) -> Status
     ensures table { IsTable restored.now.desk.table }
     ensures later { K.faults out.old ≤ K.faults out.new }
 {
-    restored.desk.table.sound();
+    restored.desk.table.reveal();
     end_run(&restored.desk.table, &restored.logs, &[], out)
 }
 

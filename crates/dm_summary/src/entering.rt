@@ -56,7 +56,7 @@ fn post_with<L: Ledger>(table: &mut Table<'_>, entry: Entry, blank: Blank)
     requires has_a_part { 0 < blank.parts }
     ensures { Gains (Line.Say entry.message) table.old table.new }
 {
-    table.sound();
+    table.reveal();
     let mut steps = Steps::<L>::new(blank);
     match table.post(entry, &mut steps) {
         Ok(_) => {}

@@ -61,7 +61,7 @@ pub fn table_of<'n>(
     requires penalty { penalty ≤ PENALTY }
     ensures { IfOk result (IsOpened net.now penalty) }
 {
-    net.sound();
+    net.reveal();
     match Table::new(alloc, net, rows, penalty) {
         Ok(table) => Ok(table),
         Err(fault) => {

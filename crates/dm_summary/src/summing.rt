@@ -68,7 +68,7 @@ fn summary_after(
     ensures { IfOk result (IsSummaryAfter table.old lines.now) }
 {
     enter_lines(table, lines)?;
-    table.sound();
+    table.reveal();
     summary_of(alloc, table)
 }
 
@@ -76,7 +76,7 @@ fn summary_after(
 fn summary_of(alloc: Global, table: &Table<'_>) -> Result<Summary, AllocError>
     ensures { IfOk result (IsSummaryIn table.now) }
 {
-    table.sound();
+    table.reveal();
     let net = table.network();
     let choices = free_choices(alloc, net, table.rows())?;
     Ok(Summary {

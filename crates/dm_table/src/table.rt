@@ -124,11 +124,11 @@ impl<'n> Table<'n> {
     }
 
     /// What holds of every table, for a caller's proof. It does nothing.
-    pub fn sound(&self)
+    pub fn reveal(&self)
         ensures table { IsTable self.now }
         ensures sized { IsSized self.now.network self.now.rows }
     {
-        self.net.sound();
+        self.net.reveal();
     }
 
     /// Makes room for an entry with this message. Where there is not enough memory, all is as before.
@@ -163,7 +163,7 @@ impl<'n> Table<'n> {
         ensures unchanged { OnErr result (self.new ≡ self.old) }
         ensures refused { IfErr result (RefusesPost self.old.network self.old.rows (length self.old.history) entry.message) }
     {
-        self.net.sound();
+        self.net.reveal();
         let entries = self.history.len();
         let entered = enter(
             self.alloc,
@@ -229,8 +229,8 @@ impl<'n> Table<'n> {
         ensures listed { ListsMoved into.old into.new listed.new.items }
         ensures room { vec_capacity listed.old ≤ vec_capacity listed.new }
     {
-        self.net.sound();
-        self.engine.moved().sound();
+        self.net.reveal();
+        self.engine.moved().reveal();
         listed.clear();
         follow(
             self.engine.times(),

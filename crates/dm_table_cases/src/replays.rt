@@ -126,6 +126,6 @@ fn copy_has_times(alloc: Global, net: &Network, table: &Table<'_>) -> Result<(),
     if copy.entry != 2 || table.times().as_slice() != TIMES.as_slice() {
         return Err(Failure::Differs(2));
     }
-    table.sound();
+    table.reveal();
     has_times(alloc, net, &copy.rows)
 }

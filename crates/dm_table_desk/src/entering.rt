@@ -22,7 +22,7 @@ pub(crate) fn enter(table: &mut Table<'_>, entry: Entry) -> Result<u32, Refusal>
     ensures stays { OnErr result (IsSameDesk table.old table.new) }
     ensures refused { IfErr result (IsRefusedAfter table.old entry.message) }
 {
-    table.sound();
+    table.reveal();
     match table.reserve(&entry.message) {
         Ok(()) => post_with::<Brand>(table, entry, Blank::new(1)),
         Err(AllocError) => Err(Refusal::OutOfMemory),
@@ -54,8 +54,8 @@ pub(crate) fn adopt(
     requires { IsTrueAt table.old plan.now }
     ensures { (plans : ℕ) → AdoptsPlan (desk_of plans table.old) (desk_of plans table.new) plan.now feed line result }
 {
-    table.sound();
-    table.network().sound();
+    table.reveal();
+    table.network().reveal();
     let now = table.len();
     if plan.entry < now {
         return Err(AdoptRefusal::Old { now });

@@ -31,7 +31,7 @@ impl Desk for TableDesk<'_> {
     }
 
     fn post(&mut self, entry: Entry) -> Result<u32, At<Refusal>> {
-        self.table.sound();
+        self.table.reveal();
         let here = self.table.len();
         match enter(&mut self.table, entry) {
             Ok(number) => Ok(number),
@@ -40,7 +40,7 @@ impl Desk for TableDesk<'_> {
     }
 
     fn time(&mut self, event: EventId) -> Result<(Secs, u32), At<Refusal>> {
-        self.table.sound();
+        self.table.reveal();
         let here = self.table.len();
         match self.table.time(event) {
             Ok(time) => Ok((time, here)),
@@ -49,17 +49,17 @@ impl Desk for TableDesk<'_> {
     }
 
     fn cost(&mut self) -> (Cost, u32) {
-        self.table.sound();
+        self.table.reveal();
         (self.table.cost_now(), self.table.len())
     }
 
     fn length(&mut self) -> u32 {
-        self.table.sound();
+        self.table.reveal();
         self.table.len()
     }
 
     fn snapshot(&mut self) -> Result<Snapshot, AllocError> {
-        self.table.sound();
+        self.table.reveal();
         self.table.copy()
     }
 

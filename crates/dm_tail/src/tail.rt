@@ -91,8 +91,8 @@ impl<T: Growing + Drop> Tail<T> {
         Ok(())
     }
 
-    /// Passes the first bytes that are pending.
-    pub fn pass(&mut self, alloc: Global, count: usize) -> Result<(), AllocError>
+    /// Skips the first bytes that are pending.
+    pub fn skip(&mut self, alloc: Global, count: usize) -> Result<(), AllocError>
         requires { count ≤ length self.old.pending.items }
         ensures pending { OnOk result (self.new.pending.items ≡ drop count self.old.pending.items) }
         ensures feed { self.new.feed ≡ self.old.feed }

@@ -93,6 +93,6 @@ impl<T: Growing + Drop> Watched<T> {
         )?;
         self.lines = lines;
         self.tail.has_line = self.log.len() - before == batch as usize;
-        self.tail.pass(alloc, passed)
+        self.tail.skip(alloc, passed)
     }
 }

@@ -44,7 +44,7 @@ pub fn log_of(
         Err(NoTimes::OutOfMemory) => return Err(Failure::OutOfMemory),
         Err(NoTimes::Cycle(_)) => return Err(Failure::NoDay),
     };
-    table.sound();
+    table.reveal();
     let mut desk = TableDesk {
         alloc,
         table,

@@ -94,7 +94,7 @@ fn event_cost(net: &Network, times: &Times, i: usize) -> Cost
     ensures cost { result ≡ event_cost net.now times.now i }
     ensures limit { result ≤ WEIGHT * 2 ^ 38 }
 {
-    net.sound();
+    net.reveal();
     let event = net.event(i);
     match event.kind {
         EventKind::Departure => 0,
@@ -112,7 +112,7 @@ fn charged_weight<C: Charging>(net: &Network, charging: &C, a: usize) -> Milli
     ensures weight { result ≡ charged_weight net.now (C.charged charging.now) a }
     ensures limit { result ≤ WEIGHT }
 {
-    net.sound();
+    net.reveal();
     if charging.is_charged(a) {
         net.activity(a).weight
     } else {
@@ -128,7 +128,7 @@ fn missed_weight(net: &Network, rows: &Rows, times: &Times, a: usize) -> Milli
     ensures weight { result ≡ missed_weight net.now rows.now times.now a }
     ensures limit { result ≤ WEIGHT }
 {
-    net.sound();
+    net.reveal();
     let activity = net.activity(a);
     if matches!(activity.kind, ActKind::Change)
         && rows.passed(activity.head).is_some()
@@ -147,7 +147,7 @@ pub fn comes_too_early(net: &Network, rows: &Rows, times: &Times, a: usize) -> b
     requires is_activity { a < length net.now.activities }
     ensures { result ≡ comes_too_early net.now rows.now times.now a }
 {
-    net.sound();
+    net.reveal();
     let activity = net.activity(a);
     times.time(activity.head) < times.time(activity.tail) + span_of(net, rows, a)
 }

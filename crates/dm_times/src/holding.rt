@@ -65,7 +65,7 @@ impl Charging for AsRowsSay<'_> {
     ghost charged = { λ d. is_dropped_change d.net.now d.rows.now };
 
     fn is_charged(&self, a: usize) -> bool {
-        self.net.sound();
+        self.net.reveal();
         let activity = self.net.activity(a);
         matches!(activity.kind, ActKind::Change)
             && !self.rows.kept(a)

@@ -41,7 +41,7 @@ pub fn least_holding<H: Holding>(
     ensures no_cycle { OnOk result (HasNoCycleOf net.now (H.held holding.now)) }
     ensures refused { IfErr result (RefusesHolding net.now (H.held holding.now)) }
 {
-    net.sound();
+    net.reveal();
     let constraints = constraints_holding(alloc, net, rows, holding)?;
     least_times(alloc, net, &constraints)
 }

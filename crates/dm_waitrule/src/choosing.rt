@@ -36,7 +36,7 @@ pub fn wait_choices(
     ensures choices { IfOk result (λ choices. AreRuleChoices net.now rows.now rule choices.items) }
     ensures no_cycle { IfOk result (λ choices. HasNoCycle net.now (with_decisions net.now rows.now choices.items)) }
 {
-    net.sound();
+    net.reveal();
     let ruled = ruled(alloc, net, rows, rule)?;
     differences_to(alloc, net, rows, ruled.rows())
 }
@@ -125,7 +125,7 @@ fn decide(net: &Network, engine: &mut Engine, act: usize, rule: WaitRule)
     ensures engine { IsEngineOf net.now engine.new }
     ensures decides { Decides net.now (limit_of rule) engine.old.rows act engine.new.rows }
 {
-    net.sound();
+    net.reveal();
     if is_in_time(net, engine, act, rule) {
         keep::<Brand>(net, engine, act, Blank::new(1));
     }
@@ -166,7 +166,7 @@ fn is_within(net: &Network, engine: &Engine, act: usize, limit: u64) -> bool
     requires is_activity { act < length net.now.activities }
     ensures { IsTrue result ↔ IsInTime net.now engine.now.rows (Some limit) act (times_of engine.now) }
 {
-    net.sound();
+    net.reveal();
     let activity = net.activity(act);
     let times = engine.times();
     let ready = times.time(activity.tail) + span_of(net, engine.rows(), act);

@@ -44,7 +44,7 @@ pub fn compare(
         → IfOk result (Compares net.now snapshot.now.rows penalty budget rule) }
     ensures plan { IfOk result (λ compared. compared.plan ≡ plan) }
 {
-    net.sound();
+    net.reveal();
     let engine = ruled(alloc, net, &snapshot.rows, rule)?;
     let cost = engine.cost(net, penalty);
     let choices = differences_to(alloc, net, &snapshot.rows, engine.rows())?;

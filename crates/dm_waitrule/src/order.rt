@@ -27,7 +27,7 @@ pub fn rule_order(alloc: Global, net: &Network, rows: &Rows) -> Result<Vec<usize
     requires { IsSized net.now rows.now }
     ensures { IfOk result (λ order. IsRuleOrder net.now rows.now order.items) }
 {
-    net.sound();
+    net.reveal();
     let mut changes = free_changes(alloc, net, rows)?;
     sort(&mut changes);
     places_of(alloc, &changes)
@@ -60,7 +60,7 @@ fn keyed(net: &Network, act: usize) -> FreeChange
     requires { act < length net.now.activities }
     ensures { result ≡ keyed net.now act }
 {
-    net.sound();
+    net.reveal();
     let activity = net.activity(act);
     let head = net.event(activity.head);
     FreeChange {

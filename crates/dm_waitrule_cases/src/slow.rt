@@ -92,7 +92,7 @@ impl<'n> Ruling<'n> {
 fn key_of(net: &Network, act: usize) -> Key
     requires { act < length net.now.activities }
 {
-    net.sound();
+    net.reveal();
     let activity = net.activity(act);
     let head = net.event(activity.head);
     (head.time, head.id.0, activity.id.0)
@@ -114,7 +114,7 @@ fn wait_in(net: &Network, rows: &Rows, times: &Times, act: usize) -> Secs
     requires is_activity { act < length net.now.activities }
     requires times { length times.now ≡ length net.now.events }
 {
-    net.sound();
+    net.reveal();
     let activity = net.activity(act);
     let ready = times
         .time(activity.tail)

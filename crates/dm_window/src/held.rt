@@ -50,7 +50,7 @@ fn choice_at(net: &Network, a: usize) -> Option<Choice>
     requires { a < length net.now.activities }
     ensures { result ≡ choice_at net.now a }
 {
-    net.sound();
+    net.reveal();
     let activity = net.activity(a);
     if activity.kind == ActKind::Change {
         return Some(Choice::Change(activity.id));

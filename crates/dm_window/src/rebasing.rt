@@ -111,7 +111,7 @@ fn is_free(net: &Network, rows: &Rows, choice: Choice) -> bool
     requires { IsSized net.now rows.now }
     ensures { IsTrue result ↔ Contains (free_choices_of net.now rows.now) choice }
 {
-    net.sound();
+    net.reveal();
     match place_of_choice(net, choice) {
         Some(place) => is_free_at(net, rows, place),
         None => false,

@@ -110,7 +110,7 @@ fn is_change_within(net: &Network, window: &Window, a: usize) -> bool
     requires { a < length net.now.activities }
     ensures { result ≡ is_change_within net.now window.now a }
 {
-    net.sound();
+    net.reveal();
     let activity = net.activity(a);
     is_within(window, net.event(activity.head).time)
         && !is_held(window, Choice::Change(activity.id))
@@ -121,7 +121,7 @@ fn is_pair_within(net: &Network, window: &Window, p: usize) -> bool
     requires { p < length net.now.pairs }
     ensures { result ≡ is_pair_within net.now window.now p }
 {
-    net.sound();
+    net.reveal();
     let pair = net.pair(p);
     is_within(window, net.event(pair.small).time)
         && is_within(window, net.event(pair.large).time)

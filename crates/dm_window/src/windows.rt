@@ -41,7 +41,7 @@ pub fn window_plan(
     ensures plan { IfOk result (IsTrueWindowPlan net.now snapshot.now.rows penalty window.now budget) }
     ensures entry { IfOk result (λ plan. plan.entry ≡ snapshot.now.entry) }
 {
-    net.sound();
+    net.reveal();
     let rows = &snapshot.rows;
     let base = window_base(alloc, net, rows, window)?;
     let task = Task {

@@ -70,7 +70,7 @@ pub fn find<F: Grown<Path> + Send + Sync, R: Threads + Wait + Sync, H: Hold + Sy
     ensures evaluator { IfOk result (λ found. IfSome found.evaluator (IsOver (task_of task.now))) }
 {
     let alloc = task.alloc;
-    task.net.sound();
+    task.net.reveal();
     let Beginning {
         own,
         best,

@@ -144,7 +144,7 @@ fn choices_of(
     ensures evaluator { IsOver (task_of task.now) evaluator.new }
     ensures kept { IfOk result (λ best. AreKept (task_of task.now) own best.choices best.cost) }
 {
-    task.net.sound();
+    task.net.reveal();
     let path = behind(guide.path.as_slice(), task.base.len());
     let outcome = step_along(task, evaluator, path, own)?;
     match outcome {
@@ -224,7 +224,7 @@ fn begun(
     ensures start { IfOk result (λ t. IsStart (task_of task.now) t best.now.choices) }
     ensures begins { IfOk result (BeginsFrom task.now.budget leaves.items) }
 {
-    task.net.sound();
+    task.net.reveal();
     let tree = tree_of(task, guide, own, best, leaves)?;
     if tree.as_slice().len() as u64 <= task.budget {
         return Ok(tree);
@@ -245,7 +245,7 @@ fn tree_of(
     requires found { IsFound (guided_by task.now guide.now) own leaves.items best.now.choices best.now.cost }
     ensures { IfOk result (Assembles leaves.items) }
 {
-    task.net.sound();
+    task.net.reveal();
     match assemble(task.alloc, leaves) {
         Ok(tree) => Ok(tree),
         Err(AssembleFault::NotATree) => unreachable!(),

@@ -175,7 +175,7 @@ impl<F: Grown<Path>> Worker<F> {
             → WorksIn team.now start given nothing self.new) }
     {
         let task = team.task;
-        task.net.sound();
+        task.net.reveal();
         let hint = branching(team.guide, path.as_slice());
         let (seen, outcome) = expand_with(
             task,

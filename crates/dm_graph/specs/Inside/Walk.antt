@@ -106,7 +106,7 @@ pub record Places (old : Walk) (e : ℕ) (new : Walk) : Type 0 where
   pub next : new.next.items ≡ old.next.items
 
 -- the next arc into an event is passed over
-pub record Passes (old : Walk) (e : ℕ) (new : Walk) : Type 0 where
+pub record SkipsArc (old : Walk) (e : ℕ) (new : Walk) : Type 0 where
   pub top : new.top ≡ old.top
   pub placed : new.placed ≡ old.placed
   pub order : new.order.items ≡ old.order.items

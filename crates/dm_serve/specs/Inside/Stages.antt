@@ -35,7 +35,7 @@ use Rattle.dm_store_text.specs.Written.{EndsAs, run_in}
 use Rattle.dm_store_text.specs.Lines.{feed_line, refusal_line, reply_line, store_line, unread_line}
 use Rattle.dm_store_text.specs.declared.status.Status.{Status}
 use Rattle.dm_store_text.specs.declared.status.Status.TheVariants.{Ok as Well, Refused, ReadFault, WriteFault, NoMemory}
-use Rattle.dm_catch_up.specs.Feeds.{IsChanged}
+use Rattle.dm_catch_up.specs.Feeds.{DiffersAt}
 use Rattle.dm_restore.specs.Restoring.{IsRestored, RefusesBook}
 use Rattle.dm_restore.specs.declared.heads.Head.{Head}
 use Rattle.dm_restore.specs.declared.stops.RestoreStop.TheVariants as why
@@ -144,7 +144,7 @@ pub record IsChangedAt {T : Type 0} (given : T → Option (List ℕ)) (logs : Li
   pub number_is : number ≡ place + 1
   pub of : slice_get logs place ≡ Some items
   pub stands : slice_get feeds place ≡ Some watched
-  pub changed : IfSome (given watched.tail.feed) (λ bytes. IsChanged bytes items line)
+  pub changed : IfSome (given watched.tail.feed) (λ bytes. DiffersAt bytes items line)
 
 pub record HasFailedAt {T : Type 0} (faults : T → ℕ) (before now : List (Watched T)) (place : ℕ) : Type 0 where
   pub one : Watched T

@@ -6,10 +6,10 @@ use Rattle.dm_check.proofs.told_rest.ending_told.Goals as goal
 
 pub returns-in-Ok : goal.returns-in-Ok
 returns-in-Ok c = λ logs notes.
-    subst (λ (rows : RowsValue). EndingOn (setting_of c.args.journal.now.day) (history_of c.args.journal.now) logs notes rows c.args.lines.now c.priced_told.new.lines c.priced_told.result) c.settle.ensures.rows
+    subst (λ (rows : RowsValue). EndingOn (setting_of c.args.journal.now.setting) (history_of c.args.journal.now) logs notes rows c.args.lines.now c.priced_told.new.lines c.priced_told.result) c.settle.ensures.rows
     (c.priced_told.ensures logs notes)
 
 pub returns-in-Err : goal.returns-in-Err
 returns-in-Err c = λ logs notes.
-    subst (λ (rows : RowsValue). EndingOn (setting_of c.args.journal.now.day) (history_of c.args.journal.now) logs notes rows c.args.lines.now c.untimed_told.new.lines c.untimed_told.result) (c.rows.ensures ∙ c.settle.ensures.rows)
+    subst (λ (rows : RowsValue). EndingOn (setting_of c.args.journal.now.setting) (history_of c.args.journal.now) logs notes rows c.args.lines.now c.untimed_told.new.lines c.untimed_told.result) (c.rows.ensures ∙ c.settle.ensures.rows)
     (c.untimed_told.ensures logs notes)

@@ -8,4 +8,4 @@ returns-in-Err c = λ cost costs.
     let net = c.args.net.now in
     let rows = c.args.rows.now in
     c.in-Err.ensures.cyclic
-    ((held_is_met_exactly_without_cycle net rows (is_active net rows) c.sound.ensures.network (active_enter_no_passed net rows)).0 (costs.times, costs.least.meets))
+    ((held_is_met_exactly_without_cycle net rows (is_active net rows) c.reveal.ensures.network (active_enter_no_passed net rows)).0 (costs.times, costs.least.meets))

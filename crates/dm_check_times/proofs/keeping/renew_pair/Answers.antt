@@ -22,8 +22,8 @@ renew_row-requires-2-clause-row c = λ k below. (leads_out c.args.net.now _ k _ 
 
 pub row_out_of-requires : goal.row_out_of-requires
 row_out_of-requires c =
-    subst (λ (p : Pair). p.small < length c.args.net.now.events) (sym c.pair-pair.ensures) (small_is_event c.args.net.now c.sound.ensures.network c.args.pair c.requires.is_pair)
+    subst (λ (p : Pair). p.small < length c.args.net.now.events) (sym c.pair-pair.ensures) (small_is_event c.args.net.now c.reveal.ensures.network c.args.pair c.requires.is_pair)
 
 pub row_out_of-requires-2 : goal.row_out_of-requires-2
 row_out_of-requires-2 c =
-    subst (λ (p : Pair). p.large < length c.args.net.now.events) (sym c.pair-pair.ensures) (large_is_event c.args.net.now c.sound.ensures.network c.args.pair c.requires.is_pair)
+    subst (λ (p : Pair). p.large < length c.args.net.now.events) (sym c.pair-pair.ensures) (large_is_event c.args.net.now c.reveal.ensures.network c.args.pair c.requires.is_pair)

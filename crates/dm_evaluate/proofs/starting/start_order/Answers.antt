@@ -9,5 +9,5 @@ pub unreachable-requires : goal.unreachable-requires
 unreachable-requires c =
     let net = c.args.net.now in
     let refused = subst (RefusesOrder net c.in-Ok.rows) c.in-Err-Cyclic.field-0-is c.in-Err-Cyclic.ensures.refused in
-    start_has_no_cycle net [] [] c.sound.ensures.network refused.cycle
+    start_has_no_cycle net [] [] c.reveal.ensures.network refused.cycle
     (subst (λ (r : RowsValue). IsCycle net r refused.cycle) c.in-Ok.ensures.rows refused.is_cycle)

@@ -26,7 +26,7 @@ loop-a-preserved g c =
     λ now. HasMarked (arcs_given c.args.net.now c.args.constraints.now) (λ e. e) c.args.event c.out_row-a-items.result.now (c.loop-a.a-index + 1) c.args.marks.now now in
     elim c.if-is_held.branch [
       | then-is_held w ↦
-          let known = c.sound.ensures.network.formed.ends_are_known in
+          let known = c.reveal.ensures.network.formed.ends_are_known in
           let leads = leads_out c.args.net.now c.args.event c.loop-a.a-index c.out_row-a-items.result.now c.out_row-a-items.ensures.places (omega arith) in
           let head = known.heads _ leads.is_activity in
           let same = c.loop-a.invariant.as_many in

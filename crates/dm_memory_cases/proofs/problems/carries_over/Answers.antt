@@ -4,4 +4,4 @@ use Rattle.dm_memory_cases.proofs.problems.carries_over.Goals as goal
 pub rebase-requires-clause-once : goal.rebase-requires-clause-once
 rebase-requires-clause-once c =
     window_plans_decide_once _ _ _ c.with_both.result _ _
-    (record { network = c.sound.ensures.network; sized = c.requires.sized; is = c.in_ok-plan.ensures.plan })
+    (record { network = c.reveal.ensures.network; sized = c.requires.sized; is = c.in_ok-plan.ensures.plan })

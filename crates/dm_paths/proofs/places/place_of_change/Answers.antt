@@ -6,4 +6,4 @@ pub returns-in-Some-clause-some : goal.returns-in-Some-clause-some
 returns-in-Some-clause-some c = change_named c.args.net.now c.args.a c.in-Some.place (sym c.act_place.ensures ∙ c.in-Some.is)
 
 pub returns-in-None-clause-none : goal.returns-in-None-clause-none
-returns-in-None-clause-none c = no_change_named c.args.net.now c.sound.ensures.network c.args.a (sym c.act_place.ensures ∙ c.in-None.is)
+returns-in-None-clause-none c = no_change_named c.args.net.now c.reveal.ensures.network c.args.a (sym c.act_place.ensures ∙ c.in-None.is)

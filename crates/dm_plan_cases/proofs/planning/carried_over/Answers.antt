@@ -4,4 +4,4 @@ use Rattle.dm_plan_cases.proofs.planning.carried_over.Goals as goal
 pub rebase-requires-clause-once : goal.rebase-requires-clause-once
 rebase-requires-clause-once c =
     window_plans_decide_once _ _ _ c.opened-open.result _ _
-    (record { network = c.sound.ensures.network; sized = c.requires.older; is = c.in_ok-plan.ensures.plan })
+    (record { network = c.reveal.ensures.network; sized = c.requires.older; is = c.in_ok-plan.ensures.plan })

@@ -3,7 +3,7 @@ use Rattle.dm_program.proofs.Asked.{start_has_none}
 use Rattle.dm_program.proofs.queries.ask_text.Goals as goal
 
 pub read_journal-requires-clause-free : goal.read_journal-requires-clause-free
-read_journal-requires-clause-free g c = λ lifetimes bounds. start_has_none c.args.net.now c.args.rows c.sound.ensures.network c.requires.start
+read_journal-requires-clause-free g c = λ lifetimes bounds. start_has_none c.args.net.now c.args.rows c.reveal.ensures.network c.requires.start
 
 pub returns-in-Ok-clause-ends : goal.returns-in-Ok-clause-ends
 returns-in-Ok-clause-ends g c =

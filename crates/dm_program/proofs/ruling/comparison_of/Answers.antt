@@ -1,7 +1,7 @@
 use Rattle.dm_program.proofs.ruling.comparison_of.Goals as goal
 
 pub compare-requires-clause-no_cycle : goal.compare-requires-clause-no_cycle
-compare-requires-clause-no_cycle g c = rw (c.network-net.ensures, c.in_ok-snapshot.ensures.rows) c.sound.ensures.table.no_cycle
+compare-requires-clause-no_cycle g c = rw (c.network-net.ensures, c.in_ok-snapshot.ensures.rows) c.reveal.ensures.table.no_cycle
 
 pub returns : goal.returns
 returns g c =

@@ -8,7 +8,7 @@ pub returns-in-Ok-outlook_of-clause-ends : goal.returns-in-Ok-outlook_of-clause-
 returns-in-Ok-outlook_of-clause-ends g c =
     let among : IfSome c.args.asked.now.at (λ (n : ℕ). n ≤ length c.args.table.now.history) = search rules in
     inl (record {
-      is_table = c.sound.ensures.table;
+      is_table = c.reveal.ensures.table;
       among = among;
       window = c.in-Ok.window;
       is_asked = search rules;

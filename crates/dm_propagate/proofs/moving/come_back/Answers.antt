@@ -10,7 +10,7 @@ pub returns-clause-least : goal.returns-clause-least
 returns-clause-least g c =
     let net = c.args.day.now.net.now in
     let rows = c.args.day.now.rows.now in
-    follows_least net rows c.settle.new.self.live c.sound.ensures.network.formed.ends_are_known c.settle.ensures.priced.live c.settle.ensures.at_rest
+    follows_least net rows c.settle.new.self.live c.reveal.ensures.network.formed.ends_are_known c.settle.ensures.priced.live c.settle.ensures.at_rest
     (subst (λ (given : ConstraintsValue). FollowsRows net rows given) (sym (ap (λ (p : PricedValue). p.live.given) c.settle.ensures.unchanged)) c.in-Ok.ensures.follows)
 
 pub returns-clause-flags : goal.returns-clause-flags

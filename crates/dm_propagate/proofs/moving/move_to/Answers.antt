@@ -24,11 +24,11 @@ turn_to-requires-clause-reaches g c =
 pub turn_to-requires-clause-follows : goal.turn_to-requires-clause-follows
 turn_to-requires-clause-follows g c =
     subst (λ (rows : RowsValue). FollowsBut c.args.net.now rows (change_in c.args.what.now) c.args.priced.now.live.given) (sym c.requires.other)
-    (follows_but_after c.args.net.now c.sound.ensures.network.formed.is_paired c.args.rows.now (change_in c.args.what.now) c.args.priced.now.live.given c.requires.follows)
+    (follows_but_after c.args.net.now c.reveal.ensures.network.formed.is_paired c.args.rows.now (change_in c.args.what.now) c.args.priced.now.live.given c.requires.follows)
 
 pub come_back-requires-clause-follows : goal.come_back-requires-clause-follows
 come_back-requires-clause-follows g c =
-    follows_but_before c.args.net.now c.sound.ensures.network.formed.is_paired c.args.rows.now (change_in c.args.what.now) c.turn_to.new.priced.live.given
+    follows_but_before c.args.net.now c.reveal.ensures.network.formed.is_paired c.args.rows.now (change_in c.args.what.now) c.turn_to.new.priced.live.given
     (subst (λ (rows : RowsValue). FollowsBut c.args.net.now rows (change_in c.args.what.now) c.turn_to.new.priced.live.given) c.requires.other c.in-Err.ensures.followed)
 
 pub come_back-requires-clause-no_cycle : goal.come_back-requires-clause-no_cycle
@@ -38,12 +38,12 @@ come_back-requires-clause-no_cycle g c =
 pub returns-in-Err-clause-times : goal.returns-in-Err-clause-times
 returns-in-Err-clause-times g c =
     one_least c.args.net.now c.args.rows.now c.come_back.new.priced.live.times c.args.priced.now.live.times c.come_back.ensures.least
-    (follows_least c.args.net.now c.args.rows.now c.args.priced.now.live c.sound.ensures.network.formed.ends_are_known c.requires.priced.live c.requires.at_rest c.requires.follows)
+    (follows_least c.args.net.now c.args.rows.now c.args.priced.now.live c.reveal.ensures.network.formed.ends_are_known c.requires.priced.live c.requires.at_rest c.requires.follows)
 
 pub returns-in-Ok-clause-few_reads : goal.returns-in-Ok-clause-few_reads
 returns-in-Ok-clause-few_reads g c = λ kind on.
     let net = c.args.net.now in
-    let known = c.sound.ensures.network.formed.ends_are_known in
+    let known = c.reveal.ensures.network.formed.ends_are_known in
     let settled : FollowsRows net c.args.other.now c.settle_noted.new.priced.live.given =
     subst (λ (given : ConstraintsValue). FollowsRows net c.args.other.now given) (sym (ap (λ (p : PricedValue). p.live.given) c.settle_noted.ensures.settled.unchanged)) c.in-Ok.ensures.follows in
     few_read_for net c.args.rows.now c.args.priced.now.live c.turn_to.new.priced.live c.settle_noted.new.priced.live c.args.steps.now c.turn_to.new.steps c.settle_noted.new.steps

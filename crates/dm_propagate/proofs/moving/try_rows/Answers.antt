@@ -18,11 +18,11 @@ turn_to-outcome-requires-clause-reaches g c =
 pub turn_to-outcome-requires-clause-follows : goal.turn_to-outcome-requires-clause-follows
 turn_to-outcome-requires-clause-follows g c =
     subst (λ (rows : RowsValue). FollowsBut c.args.net.now rows (change_in c.args.what.now) c.args.priced.now.live.given) (sym c.requires.other)
-    (follows_but_after c.args.net.now c.sound.ensures.network.formed.is_paired c.args.rows.now (change_in c.args.what.now) c.args.priced.now.live.given c.requires.follows)
+    (follows_but_after c.args.net.now c.reveal.ensures.network.formed.is_paired c.args.rows.now (change_in c.args.what.now) c.args.priced.now.live.given c.requires.follows)
 
 pub come_back-requires-clause-follows : goal.come_back-requires-clause-follows
 come_back-requires-clause-follows g c =
-    follows_but_before c.args.net.now c.sound.ensures.network.formed.is_paired c.args.rows.now (change_in c.args.what.now) c.turn_to-outcome.new.priced.live.given
+    follows_but_before c.args.net.now c.reveal.ensures.network.formed.is_paired c.args.rows.now (change_in c.args.what.now) c.turn_to-outcome.new.priced.live.given
     (subst (λ (rows : RowsValue). FollowsBut c.args.net.now rows (change_in c.args.what.now) c.turn_to-outcome.new.priced.live.given) c.requires.other
     c.turn_to-outcome.ensures.followed)
 
@@ -33,7 +33,7 @@ come_back-requires-clause-no_cycle g c =
 pub returns-clause-times : goal.returns-clause-times
 returns-clause-times g c =
     one_least c.args.net.now c.args.rows.now c.come_back.new.priced.live.times c.args.priced.now.live.times c.come_back.ensures.least
-    (follows_least c.args.net.now c.args.rows.now c.args.priced.now.live c.sound.ensures.network.formed.ends_are_known c.requires.priced.live c.requires.at_rest c.requires.follows)
+    (follows_least c.args.net.now c.args.rows.now c.args.priced.now.live c.reveal.ensures.network.formed.ends_are_known c.requires.priced.live c.requires.at_rest c.requires.follows)
 
 pub returns-clause-no_cycle : goal.returns-clause-no_cycle
 returns-clause-no_cycle g c =

@@ -5,10 +5,10 @@ use Rattle.dm_propagate.proofs.Around.{out_row_below, small_below, large_below}
 use Rattle.dm_propagate.proofs.turning.rows_of_pair.Goals as goal
 
 pub out_row-requires : goal.out_row-requires
-out_row-requires g c = small_below c.args.day.now.net.now c.sound.ensures.network c.args.pair c.requires c.pair.result.now c.pair.ensures
+out_row-requires g c = small_below c.args.day.now.net.now c.reveal.ensures.network c.args.pair c.requires c.pair.result.now c.pair.ensures
 
 pub out_row-requires-2 : goal.out_row-requires-2
-out_row-requires-2 g c = large_below c.args.day.now.net.now c.sound.ensures.network c.args.pair c.requires c.pair.result.now c.pair.ensures
+out_row-requires-2 g c = large_below c.args.day.now.net.now c.reveal.ensures.network c.args.pair c.requires c.pair.result.now c.pair.ensures
 
 pub returns-clause-small : goal.returns-clause-small
 returns-clause-small g c = c.out_row.ensures.places ∙ ap (λ (p : Pair). places_out_of c.args.day.now.net.now p.small) c.pair.ensures

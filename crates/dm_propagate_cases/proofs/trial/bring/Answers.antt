@@ -17,5 +17,5 @@ set-requires-clause-is_event c =
     let index : ℕ = c.loop-place.place-index in
     let below : index < length c.args.moved.now.places = subst (λ (places : List ℕ). index < length places) c.places-place-items.ensures c.loop-place-test.true in
     let is_in : is_marked flags (get_or c.places-place-items.result.now index 0) ≡ true =
-    subst (λ (places : List ℕ). is_marked flags (get_or places index 0) ≡ true) (sym c.places-place-items.ensures) (c.sound.ensures.within index 0 below) in
+    subst (λ (places : List ℕ). is_marked flags (get_or places index 0) ≡ true) (sym c.places-place-items.ensures) (c.reveal.ensures.within index 0 below) in
     omega (arith, is_below flags (get_or c.places-place-items.result.now index 0) is_in, c.loop-place.invariant)

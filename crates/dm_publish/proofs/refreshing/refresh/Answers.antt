@@ -20,8 +20,8 @@ returns-then-is_empty-clause-refreshed g c =
     let part = subst (λ (stop : ℕ). IsPartOf c.args.listed.now stop c.part_at-part.result.now) (ap (λ (s : _). s.0) c.stop_of.ensures.stop) c.part_at-part.ensures in
     λ last changes.
     let covers = part_covers c.args.net.now _ c.args.listed.now c.part_at-part.result.now c.requires.grouped part last c.args.timetable.now c.requires.size changes in
-    let all = gathered_all c.args.net.now c.args.timetable.now c.sound.ensures.network _ last _ c.part_at-part.result.now covers c.gather.new.changes.items c.gather.ensures.gathered in
-    refreshed_quietly _ _ _ _ c.args.net.now last c.args.timetable.now c.sound.ensures.network c.args.board.now c.gather.new.changes.items all empty _
+    let all = gathered_all c.args.net.now c.args.timetable.now c.reveal.ensures.network _ last _ c.part_at-part.result.now covers c.gather.new.changes.items c.gather.ensures.gathered in
+    refreshed_quietly _ _ _ _ c.args.net.now last c.args.timetable.now c.reveal.ensures.network c.args.board.now c.gather.new.changes.items all empty _
 
 pub returns-clause-refreshed : goal.returns-clause-refreshed
 returns-clause-refreshed g c =
@@ -33,8 +33,8 @@ returns-clause-refreshed g c =
     let part = subst (λ (stop : ℕ). IsPartOf c.args.listed.now stop c.part_at-part.result.now) (ap (λ (s : _). s.0) c.stop_of.ensures.stop) c.part_at-part.ensures in
     λ last changes.
     let covers = part_covers c.args.net.now _ c.args.listed.now c.part_at-part.result.now c.requires.grouped part last c.args.timetable.now c.requires.size changes in
-    let all = gathered_all c.args.net.now c.args.timetable.now c.sound.ensures.network _ last _ c.part_at-part.result.now covers c.gather.new.changes.items c.gather.ensures.gathered in
-    refreshed_by_show _ _ _ _ c.args.net.now last c.args.timetable.now c.sound.ensures.network c.args.board.now c.gather.new.changes.items all
+    let all = gathered_all c.args.net.now c.args.timetable.now c.reveal.ensures.network _ last _ c.part_at-part.result.now covers c.gather.new.changes.items c.gather.ensures.gathered in
+    refreshed_by_show _ _ _ _ c.args.net.now last c.args.timetable.now c.reveal.ensures.network c.args.board.now c.gather.new.changes.items all
     _ _ some (rw (← c.deref.ensures.value) (record {
       same_stop = c.show_on.ensures.same_stop;
       sets = c.show_on.ensures.sets;

@@ -11,7 +11,7 @@ returns-then-kept c =
     let r = c.args.relaxation.now in
     let kept : Bool = completed_kept r.net.now r.rows.now r.path.now c.args.a in
     there_already r.net.now r.rows.now (change_decision r.net.now c.args.a kept) (is_free_change r.net.now r.rows.now c.args.a)
-    (kept_has r.net.now c.sound.ensures.network r.rows.now c.args.a kept c.requires.is_activity
+    (kept_has r.net.now c.reveal.ensures.network r.rows.now c.args.a kept c.requires.is_activity
     (sym (sym c.is_kept-kept.ensures ∙ same_flags c.is_kept-kept.result c.kept.result c.if-kept.true ∙ c.kept.ensures)))
 
 pub returns : goal.returns
@@ -22,4 +22,4 @@ returns c =
     ∙ is_new r.net.now r.rows.now (change_decision r.net.now c.args.a kept) (is_free_change r.net.now r.rows.now c.args.a)
     (sym c.is_free_change.ensures ∙ c.if-not-is_free_change.false)
     (λ h. other_flags c.is_kept-kept.result c.kept.result c.if-kept.false
-    (c.is_kept-kept.ensures ∙ sym (has_kept r.net.now c.sound.ensures.network r.rows.now c.args.a kept c.requires.is_activity h) ∙ sym c.kept.ensures))
+    (c.is_kept-kept.ensures ∙ sym (has_kept r.net.now c.reveal.ensures.network r.rows.now c.args.a kept c.requires.is_activity h) ∙ sym c.kept.ensures))

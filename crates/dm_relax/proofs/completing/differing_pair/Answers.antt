@@ -11,7 +11,7 @@ returns-then-small-small_first c =
     let r = c.args.relaxation.now in
     let small : Bool = completed_small_first r.net.now r.rows.now r.path.now c.args.times.now c.args.p in
     there_already r.net.now r.rows.now (pair_decision r.net.now c.args.p small) (is_free_pair r.net.now r.rows.now c.args.p)
-    (first_has r.net.now c.sound.ensures.network r.rows.now c.args.p small c.requires.is_pair
+    (first_has r.net.now c.reveal.ensures.network r.rows.now c.args.p small c.requires.is_pair
     (sym (sym c.goes_small_first-small.ensures
     ∙ same_flags c.goes_small_first-small.result c.small_first.result c.if-small-small_first.true ∙ c.small_first.ensures)))
 
@@ -23,5 +23,5 @@ returns c =
     ∙ is_new r.net.now r.rows.now (pair_decision r.net.now c.args.p small) (is_free_pair r.net.now r.rows.now c.args.p)
     (sym c.is_free_pair.ensures ∙ c.if-not-is_free_pair.false)
     (λ h. other_flags c.goes_small_first-small.result c.small_first.result c.if-small-small_first.false
-    (c.goes_small_first-small.ensures ∙ sym (has_first r.net.now c.sound.ensures.network r.rows.now c.args.p small c.requires.is_pair h)
+    (c.goes_small_first-small.ensures ∙ sym (has_first r.net.now c.reveal.ensures.network r.rows.now c.args.p small c.requires.is_pair h)
     ∙ sym c.small_first.ensures))

@@ -14,7 +14,7 @@ loop-a-preserved c =
           let own = ap (λ (x : Activity). x.pair) (sym c.activity.ensures) ∙ w.in-Some.is in
           rw w.flags-is
           (unmet_marked net c.args.rows.now c.args.times.now c.args.small c.loop-a.a w.in-Some.p c.loop-a.flags.items
-          (pair_joins net c.sound.ensures.network c.loop-a.a w.in-Some.p below own).is_pair own (sym w.goes_out_of.ensures ∙ w.if-goes_out_of.true)
+          (pair_joins net c.reveal.ensures.network c.loop-a.a w.in-Some.p below own).is_pair own (sym w.goes_out_of.ensures ∙ w.if-goes_out_of.true)
           (sym w.comes_too_early.ensures ∙ w.if-comes_too_early.true) c.loop-a.invariant)
       | in-Some+else-goes_out_of w ↦
           let own = ap (λ (x : Activity). x.pair) (sym c.activity.ensures) ∙ w.in-Some.is in

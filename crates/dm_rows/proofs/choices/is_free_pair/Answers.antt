@@ -5,11 +5,11 @@ use Rattle.dm_rows.proofs.choices.is_free_pair.Goals as goal
 pub passed-requires : goal.passed-requires
 passed-requires c =
     rw c.pair-pair.ensures
-    (let below = small_is_event c.args.net.now c.sound.ensures.network c.args.p c.requires.is_pair in
+    (let below = small_is_event c.args.net.now c.reveal.ensures.network c.args.p c.requires.is_pair in
     let size = c.requires.sized.passed in omega arith)
 
 pub passed-requires-then-is_none : goal.passed-requires-then-is_none
 passed-requires-then-is_none c =
     rw c.pair-pair.ensures
-    (let below = large_is_event c.args.net.now c.sound.ensures.network c.args.p c.requires.is_pair in
+    (let below = large_is_event c.args.net.now c.reveal.ensures.network c.args.p c.requires.is_pair in
     let size = c.requires.sized.passed in omega arith)

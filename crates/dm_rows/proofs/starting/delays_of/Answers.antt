@@ -8,7 +8,7 @@ loop-record-preserved c =
     one_more_delay _ _ _ c.args.records.now c.loop-record.record-index c.loop-record.delays.items _ c.in-Some.place c.requires
     c.loop-record.invariant c.loop-record-test.true
     (get_or_default c.args.records.now c.loop-record.record-index _ _ c.loop-record-test.true)
-    (sym c.in-Some.ensures) (delayed_alone c.args.net.now c.sound.ensures.network c.args.delayed _ c.in-Some.place (sym c.in-Some.ensures))
+    (sym c.in-Some.ensures) (delayed_alone c.args.net.now c.reveal.ensures.network c.args.delayed _ c.in-Some.place (sym c.in-Some.ensures))
 
 pub returns-clause-delays : goal.returns-clause-delays
 returns-clause-delays c = all_delays _ _ _ c.args.records.now c.loop-record.record-index _ (omega arith) c.loop-record.invariant

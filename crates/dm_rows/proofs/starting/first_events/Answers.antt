@@ -5,10 +5,10 @@ use Rattle.dm_rows.proofs.StartDelays.{one_more_item}
 use Rattle.dm_rows.proofs.starting.first_events.Goals as goal
 
 pub event-requires : goal.event-requires
-event-requires c = rw c.pair-pair.ensures (small_is_event c.args.net.now c.sound.ensures.network c.loop-p.p (omega arith))
+event-requires c = rw c.pair-pair.ensures (small_is_event c.args.net.now c.reveal.ensures.network c.loop-p.p (omega arith))
 
 pub event-requires-in-loop-p : goal.event-requires-in-loop-p
-event-requires-in-loop-p c = rw c.pair-pair.ensures (large_is_event c.args.net.now c.sound.ensures.network c.loop-p.p (omega arith))
+event-requires-in-loop-p c = rw c.pair-pair.ensures (large_is_event c.args.net.now c.reveal.ensures.network c.loop-p.p (omega arith))
 
 pub loop-p-preserved : goal.loop-p-preserved
 loop-p-preserved c =

@@ -9,7 +9,7 @@ use Rattle.dm_search.proofs.finishing.finish_standing.Goals as goal
 
 pub returns-clause-plan : goal.returns-clause-plan
 returns-clause-plan c =
-    IfOk-weaker _ _ _ (λ p of. plan_is_true _ (beside_is_task _ _ _ _ _ c.sound.ensures.network c.requires.posed) _ _ _ _ _ p
+    IfOk-weaker _ _ _ (λ p of. plan_is_true _ (beside_is_task _ _ _ _ _ c.reveal.ensures.network c.requires.posed) _ _ _ _ _ p
     c.in_ok-searched.ensures.stands c.in_ok-searched.ensures.used (at_most_itself _) of) c.plan_of.ensures
 
 pub returns-clause-entry : goal.returns-clause-entry

@@ -3,10 +3,10 @@ use Rattle.dm_search.proofs.finishing.solved_at.Goals as goal
 
 pub returns-in-Solved-clause-best : goal.returns-in-Solved-clause-best
 returns-in-Solved-clause-best c =
-    (better_here _ c.sound.ensures.network _ _ _ _ c.requires.posed _ c.requires.evaluator _ _ _ _
+    (better_here _ c.reveal.ensures.network _ _ _ _ c.requires.posed _ c.requires.evaluator _ _ _ _
     (rw c.in-Solved.is at c.in_ok-outcome.ensures) c.requires.best).are_best
 
 pub returns-in-Solved-clause-no_dearer : goal.returns-in-Solved-clause-no_dearer
 returns-in-Solved-clause-no_dearer c =
-    (better_here _ c.sound.ensures.network _ _ _ _ c.requires.posed _ c.requires.evaluator _ _ _ _
+    (better_here _ c.reveal.ensures.network _ _ _ _ c.requires.posed _ c.requires.evaluator _ _ _ _
     (rw c.in-Solved.is at c.in_ok-outcome.ensures) c.requires.best).less

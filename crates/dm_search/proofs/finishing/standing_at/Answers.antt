@@ -9,7 +9,7 @@ use Rattle.dm_search.proofs.finishing.standing_at.Goals as goal
 pub cost_with-requires-clause-list : goal.cost_with-requires-clause-list
 cost_with-requires-clause-list c =
     rw c.deref.ensures.value
-    (chosen _ (beside_is_task _ _ _ _ _ c.sound.ensures.network c.requires.posed) _ c.requires.start.choices).0
+    (chosen _ (beside_is_task _ _ _ _ _ c.reveal.ensures.network c.requires.posed) _ c.requires.start.choices).0
 
 pub standing_with-requires-clause-costs : goal.standing_with-requires-clause-costs
 standing_with-requires-clause-costs c =

@@ -11,7 +11,7 @@ pub returns : goal.returns
 returns c =
     let task = task_of c.args.task.now in
     let tree = subst (λ (leaves : List Leaf). Assembles leaves c.in-Ok.unsearched) c.new.ensures.items c.in-Ok.ensures.tree in
-    let start = hole_is_start task c.sound.ensures.network c.requires.no_cycle c.requires.some in
+    let start = hole_is_start task c.reveal.ensures.network c.requires.no_cycle c.requires.some in
     let begun = subst (λ (nodes : List Node). IsStart task nodes []) (sym (hole_alone c.in-Ok.unsearched tree)) start in
     rw (c.in_ok-nodes.ensures.items, c.as_slice.ensures.nodes, c.from_vec-choices.ensures, c.new-nothing.ensures.items)
-    (stands_at_start task c.sound.ensures.network c.in-Ok.unsearched [] c.args.own begun c.requires.own)
+    (stands_at_start task c.reveal.ensures.network c.in-Ok.unsearched [] c.args.own begun c.requires.own)

@@ -6,7 +6,7 @@ use Rattle.dm_search.proofs.walking.make_all.Goals as goal
 pub decide_with-requires-clause-list : goal.decide_with-requires-clause-list
 decide_with-requires-clause-list c =
     rw c.loop-i.invariant.rows
-    (made_list _ c.sound.ensures.network _ c.requires.evaluator.sized _ _ c.requires.list _ _ _ c.loop-i-test.true c.loop-i.invariant.path
+    (made_list _ c.reveal.ensures.network _ c.requires.evaluator.sized _ _ c.requires.list _ _ _ c.loop-i-test.true c.loop-i.invariant.path
     (get_or_default _ _ _ _ c.loop-i-test.true))
 
 pub returns-in-Err-clause-front : goal.returns-in-Err-clause-front
@@ -14,7 +14,7 @@ returns-in-Err-clause-front c = begins_with _ _ _ (c.in-Err.ensures.unchanged âˆ
 
 pub returns-in-Err-clause-cycle : goal.returns-in-Err-clause-cycle
 returns-in-Err-clause-cycle c =
-    made_cycle _ c.sound.ensures.network _ c.requires.evaluator.sized _ _ c.requires.list _ _ _ c.loop-i-test.true c.loop-i.invariant.path
+    made_cycle _ c.reveal.ensures.network _ c.requires.evaluator.sized _ _ c.requires.list _ _ _ c.loop-i-test.true c.loop-i.invariant.path
     (get_or_default _ _ _ _ c.loop-i-test.true) (rw c.loop-i.invariant.rows at c.in-Err.ensures.cycle)
 
 pub returns-clause-front : goal.returns-clause-front

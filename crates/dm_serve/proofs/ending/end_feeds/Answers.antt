@@ -9,7 +9,7 @@ use Rattle.dm_serve.proofs.ending.end_feeds.Goals as goal
 pub end_run-status-requires : goal.end_run-status-requires
 end_run-status-requires g c = record {
   logs = subst (All IsSpelledLog) (sym (c.deref.ensures.value ∙ c.in-Ok.ensures.logs)) c.requires;
-  times = c.sound.ensures.table.least.meets.size;
+  times = c.reveal.ensures.table.least.meets.size;
 }
 
 pub returns-clause-ends : goal.returns-clause-ends

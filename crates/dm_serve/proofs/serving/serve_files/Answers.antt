@@ -7,7 +7,7 @@ use Rattle.dm_serve.proofs.Stopping.{files_never}
 use Rattle.dm_serve.proofs.serving.serve_files.Goals as goal
 
 pub serve_over-requires-clause-no_cycle : goal.serve_over-requires-clause-no_cycle
-serve_over-requires-clause-no_cycle g c = λ lifetimes bounds. opening_has_no_cycle (g.H.Shelf.files c.args.shelf.now) (server_of c.args.server.words).run.files (opening_in c.in-Ok.opened) c.in-Ok.ensures.opening c.sound.ensures.network
+serve_over-requires-clause-no_cycle g c = λ lifetimes bounds. opening_has_no_cycle (g.H.Shelf.files c.args.shelf.now) (server_of c.args.server.words).run.files (opening_in c.in-Ok.opened) c.in-Ok.ensures.opening c.reveal.ensures.network
 
 pub returns-in-Err-clause-ends : goal.returns-in-Err-clause-ends
 returns-in-Err-clause-ends g c =

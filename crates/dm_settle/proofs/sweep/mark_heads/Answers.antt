@@ -17,7 +17,7 @@ loop-a-preserved c =
     λ now. HasMarked (arcs_given c.args.net.now c.args.constraints.now) (slice_index c.args.ranks.now) c.args.event c.args.out_of.now (c.loop-a.a-index + 1) c.args.marks.now now in
     elim c.if-is_held.branch [
       | then-is_held w ↦
-          let known = c.sound.ensures.network.formed.ends_are_known in
+          let known = c.reveal.ensures.network.formed.ends_are_known in
           let leads = leads_out c.args.net.now c.args.event c.loop-a.a-index c.args.out_of.now c.requires.row (omega arith) in
           let head = known.heads _ leads.is_activity in
           let place = c.requires.ranks _ head in

@@ -20,7 +20,7 @@ pub renew-requires-clause-early : goal.renew-requires-clause-early
 renew-requires-clause-early g c =
     next_tails_are_early (graph_given c.args.net.now c.args.constraints.now) c.args.order.now c.args.ranks.now c.requires.ranks c.args.marks.now c.requires.forward
     c.loop-next.marks c.loop-next.times c.loop-next.place c.in-Some.next c.loop-next.invariant.sweeping c.in-Some.ensures.first
-    (given_is_bounded c.args.net.now c.args.constraints.now c.sound.ensures.within c.within_limits.ensures)
+    (given_is_bounded c.args.net.now c.args.constraints.now c.reveal.ensures.within c.within_limits.ensures)
 
 pub loop-next-preserved : goal.loop-next-preserved
 loop-next-preserved g c =

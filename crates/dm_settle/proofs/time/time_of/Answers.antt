@@ -32,7 +32,7 @@ pub returns-clause-join : goal.returns-clause-join
 returns-clause-join c =
     joined_whole c.args.net.now (is_held c.args.constraints.now.held) (λ a. slice_index c.args.constraints.now.spans a) (λ i. slice_index c.args.constraints.now.floors i)
     c.args.times.now c.args.event c.args.into.now c.loop-a.a-index c.loop-a.time
-    c.loop-a.invariant c.sound.ensures.network.formed.ends_are_known c.requires.row (omega arith)
+    c.loop-a.invariant c.reveal.ensures.network.formed.ends_are_known c.requires.row (omega arith)
 
 pub returns-clause-early : goal.returns-clause-early
 returns-clause-early c =
@@ -40,4 +40,4 @@ returns-clause-early c =
     (c.within_limits.ensures.of_events c.args.event) c.within_limits.ensures.of_activities c.requires.early
     (joined_whole c.args.net.now (is_held c.args.constraints.now.held) (λ a. slice_index c.args.constraints.now.spans a) (λ i. slice_index c.args.constraints.now.floors i)
     c.args.times.now c.args.event c.args.into.now c.loop-a.a-index c.loop-a.time
-    c.loop-a.invariant c.sound.ensures.network.formed.ends_are_known c.requires.row (omega arith))
+    c.loop-a.invariant c.reveal.ensures.network.formed.ends_are_known c.requires.row (omega arith))

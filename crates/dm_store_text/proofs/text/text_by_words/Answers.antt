@@ -11,7 +11,7 @@ returns-in-Err-clause-ends g c =
 
 pub text_over-requires-clause-no_cycle : goal.text_over-requires-clause-no_cycle
 text_over-requires-clause-no_cycle g c κs within =
-    opening_has_no_cycle (g.H.Shelf.files c.args.shelf.now) (server_of c.args.words.now).run.files (opening_in c.in-Ok.opened) c.in-Ok.ensures.opening c.sound.ensures.network
+    opening_has_no_cycle (g.H.Shelf.files c.args.shelf.now) (server_of c.args.words.now).run.files (opening_in c.in-Ok.opened) c.in-Ok.ensures.opening c.reveal.ensures.network
 
 pub returns-clause-ends : goal.returns-clause-ends
 returns-clause-ends g c =

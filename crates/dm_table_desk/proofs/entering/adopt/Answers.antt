@@ -17,7 +17,7 @@ want_of_memory-requires c =
     let choices : c.in-Ok.choices ≡ plan.choices = c.in-Ok.ensures ∙ c.as_slice.ensures in
     let all : length table.history ≤ plan.entry = omega (arith, c.len-now.ensures.count, c.if-plan-now.false) in
     let few : length table.history < ENTRIES = omega (arith, c.len-now.ensures.count, c.len-now.ensures.few, c.if-now-eq-ENTRIES.false) in
-    only_memory table plan (subst IsNetwork c.network.ensures c.sound-2.ensures.network) c.requires all few c.in-Err.why
+    only_memory table plan (subst IsNetwork c.network.ensures c.reveal-2.ensures.network) c.requires all few c.in-Err.why
     (subst (λ (ds : List Decision). IsRefusedAfter table (Adopt ds) c.in-Err.why) choices c.in-Err.ensures.refused)
 
 pub returns-in-Ok-enter : goal.returns-in-Ok-enter
@@ -33,4 +33,4 @@ pub returns-in-Err : goal.returns-in-Err
 returns-in-Err c = λ plans.
     let adopts : AdoptRefusal → Type 0 =
     λ why. AdoptsPlan (desk_of plans c.args.table.now) (desk_of plans c.enter.new.table) c.args.plan.now c.args.feed c.args.line (Err why) in
-    subst adopts (sym c.want_of_memory.ensures) (looked plans c.args.table.now c.enter.new.table c.sound.ensures.table c.in-Err.ensures.stays)
+    subst adopts (sym c.want_of_memory.ensures) (looked plans c.args.table.now c.enter.new.table c.reveal.ensures.table c.in-Err.ensures.stays)

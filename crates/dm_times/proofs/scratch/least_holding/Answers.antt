@@ -10,7 +10,7 @@ pub returns-clause-least : goal.returns-clause-least
 returns-clause-least g c =
     let held = g.H.Holding.held c.args.holding.now in
     IfOk-weaker c.least_times.result (AreLeast (graph_given c.args.net.now c.in_ok-constraints.constraints)) (IsLeastHolding c.args.net.now c.args.rows.now held)
-    (λ times least. least_for_held c.args.net.now c.args.rows.now held _ c.in_ok-constraints.ensures times c.sound.ensures.network.formed.ends_are_known
+    (λ times least. least_for_held c.args.net.now c.args.rows.now held _ c.in_ok-constraints.ensures times c.reveal.ensures.network.formed.ends_are_known
     c.requires.enters_no_passed least)
     c.least_times.ensures.least
 

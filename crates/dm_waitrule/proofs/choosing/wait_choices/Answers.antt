@@ -11,6 +11,6 @@ returns-clause-choices c =
 pub returns-clause-no_cycle : goal.returns-clause-no_cycle
 returns-clause-no_cycle c =
     IfOk-weaker c.differences_to.result _ _
-    (λ choices is. no_cycle_with c.args.net.now c.sound.ensures.network c.args.rows.now c.requires.sized c.requires.no_cycle c.args.rule choices.items
+    (λ choices is. no_cycle_with c.args.net.now c.reveal.ensures.network c.args.rows.now c.requires.sized c.requires.no_cycle c.args.rule choices.items
     (are_choices c.args.net.now c.args.rows.now c.args.rule c.in_ok-ruled.ruled.rows c.rows.result.now c.in_ok-ruled.ensures.ruled c.rows.ensures choices.items is))
     c.differences_to.ensures

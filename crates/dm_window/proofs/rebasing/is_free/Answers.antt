@@ -13,7 +13,7 @@ returns-in-Some c =
       λ h. place_is_listed net (is_free_change net rows) (is_free_pair net rows) c.args.choice c.in-Some.place c.in-Some.ensures.some
           (sym c.is_free_at.ensures ∙ h),
       λ o. c.is_free_at.ensures
-          ∙ listed_at_place net (is_free_change net rows) (is_free_pair net rows) c.sound.ensures.network c.args.choice c.in-Some.place c.in-Some.ensures.some o,
+          ∙ listed_at_place net (is_free_change net rows) (is_free_pair net rows) c.reveal.ensures.network c.args.choice c.in-Some.place c.in-Some.ensures.some o,
     )
 
 pub returns-in-None : goal.returns-in-None

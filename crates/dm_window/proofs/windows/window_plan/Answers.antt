@@ -5,9 +5,9 @@ use Rattle.dm_window.proofs.windows.window_plan.Goals as goal
 
 pub plan_task-requires-clause-posed : goal.plan_task-requires-clause-posed
 plan_task-requires-clause-posed c =
-    posed_within _ c.sound.ensures.network _ c.args.window.now _ _ _ (c.deref.ensures.value ∙ c.in_ok-base.ensures) c.requires.sized c.requires.penalty
+    posed_within _ c.reveal.ensures.network _ c.args.window.now _ _ _ (c.deref.ensures.value ∙ c.in_ok-base.ensures) c.requires.sized c.requires.penalty
     c.requires.budget.1
 
 pub returns-clause-plan : goal.returns-clause-plan
 returns-clause-plan c =
-    IfOk-weaker _ _ _ (λ p is. plan_within _ c.sound.ensures.network _ c.args.window.now _ _ _ p (c.deref.ensures.value ∙ c.in_ok-base.ensures) is) c.plan_task.ensures.plan
+    IfOk-weaker _ _ _ (λ p is. plan_within _ c.reveal.ensures.network _ c.args.window.now _ _ _ p (c.deref.ensures.value ∙ c.in_ok-base.ensures) is) c.plan_task.ensures.plan

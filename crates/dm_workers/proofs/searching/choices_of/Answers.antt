@@ -8,7 +8,7 @@ use Rattle.dm_workers.proofs.searching.choices_of.Goals as goal
 
 pub returns-in-Solved-clause-kept : goal.returns-in-Solved-clause-kept
 returns-in-Solved-clause-kept c =
-    solved_along _ c.sound.ensures.network _ _ _ _ [] c.requires.posed _ _ _ _ c.step_along.ensures.evaluator (rw c.in-Solved.is at c.in_ok-outcome.ensures.outcome)
+    solved_along _ c.reveal.ensures.network _ _ _ _ [] c.requires.posed _ _ _ _ c.step_along.ensures.evaluator (rw c.in-Solved.is at c.in_ok-outcome.ensures.outcome)
 
 pub returns-in-Cycle : goal.returns-in-Cycle
 returns-in-Cycle c = record {

@@ -14,10 +14,10 @@ pub returns-in-Some-clause-tells : goal.returns-in-Some-clause-tells
 returns-in-Some-clause-tells c = λ before past.
     c.shown_told.ensures.tells before c.args.lines.now c.block_told.new.lines
     (subst (λ (v : ℕ). TellsBlock v (opening_of c.args.opening.now) c.args.lines.now c.block_told.new.lines (Ok (Some c.in-Some.plan))) c.journal-journal.ensures.version
-    (subst (λ (o : Option Plan). TellsBlock c.journal-journal.result.day.version (opening_of c.args.opening.now) c.args.lines.now c.block_told.new.lines (Ok o)) c.in-Some.is c.in-Ok.ensures)) past
+    (subst (λ (o : Option Plan). TellsBlock c.journal-journal.result.setting.version (opening_of c.args.opening.now) c.args.lines.now c.block_told.new.lines (Ok o)) c.in-Some.is c.in-Ok.ensures)) past
 
 pub returns-in-None-clause-tells : goal.returns-in-None-clause-tells
 returns-in-None-clause-tells c = λ before past.
     no_plan_shown c.args.self.now.replay.journal.setting c.args.self.now.replay.journal.history c.args.feed before c.args.first c.args.past.now c.args.self.now.named.items (opening_of c.args.opening.now) c.args.lines.now c.block_told.new.lines c.block_told.new.lines
     (subst (λ (v : ℕ). TellsBlock v (opening_of c.args.opening.now) c.args.lines.now c.block_told.new.lines (Ok None)) c.journal-journal.ensures.version
-    (subst (λ (o : Option Plan). TellsBlock c.journal-journal.result.day.version (opening_of c.args.opening.now) c.args.lines.now c.block_told.new.lines (Ok o)) c.in-None.is c.in-Ok.ensures))
+    (subst (λ (o : Option Plan). TellsBlock c.journal-journal.result.setting.version (opening_of c.args.opening.now) c.args.lines.now c.block_told.new.lines (Ok o)) c.in-None.is c.in-Ok.ensures))

@@ -21,4 +21,4 @@ invariant_of-self-in_default-answer c =
 pub returns-in-Some-clause-tells : goal.returns-in-Some-clause-tells
 returns-in-Some-clause-tells c =
     subst (λ (v : ReplayValue). Tells (IsTrueClaim v.journal.setting v.journal.history c.args.said.now (reply_of c.args.answer.now)) c.in-Some.verdict) c.self.view_is
-    (c.in-Some.ensures.tells (setting_of c.self.inside.journal.day) (history_of c.self.inside.journal) c.self.invariant.knows)
+    (c.in-Some.ensures.tells (setting_of c.self.inside.journal.setting) (history_of c.self.inside.journal) c.self.invariant.knows)

@@ -42,7 +42,7 @@ go_on-requires-clause-open c =
     let path = c.loop-node.problem.path in
     let left = next_left task c.args.self.now.plan c.args.nodes.now c.loop-node.node-index past_end path c.loop-node-test.true (c.loop-node.invariant.left 0) in
     subst (λ (p : List Decision). IsNextOpen net rows p n) (sym c.is_true.ensures.path)
-    (next_open net rows c.args.self.now.penalty 0 path c.sound.ensures.network c.args.self.now.plan n
+    (next_open net rows c.args.self.now.penalty 0 path c.reveal.ensures.network c.args.self.now.plan n
     (λ choice is. ordered_here task c.args.self.now.plan c.args.nodes.now rest path n left choice is)
     (c.if-not-is_true.ensures.tells 0))
 

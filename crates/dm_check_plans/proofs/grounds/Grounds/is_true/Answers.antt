@@ -13,5 +13,5 @@ returns-in-Ok-clause-tells c = λ budget.
 
 pub returns-in-Err-clause-tells : goal.returns-in-Err-clause-tells
 returns-in-Err-clause-tells c = λ budget.
-    cycle_told c.args.self.now.net.now c.args.self.now.rows.now c.args.self.now.penalty budget c.args.problem.now.path c.sound.ensures.network c.in-Err.ensures.cyclic
+    cycle_told c.args.self.now.net.now c.args.self.now.rows.now c.args.self.now.penalty budget c.args.problem.now.path c.reveal.ensures.network c.in-Err.ensures.cyclic
     c.args.self.now.plan c.args.node c.is_cycle.result c.is_cycle.ensures

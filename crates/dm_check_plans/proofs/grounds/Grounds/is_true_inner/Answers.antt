@@ -17,5 +17,5 @@ returns-then-own-cost c = λ budget.
 pub returns : goal.returns
 returns c = λ budget.
     inner_told c.args.self.now.net.now c.args.self.now.rows.now c.args.self.now.penalty budget c.args.problem.now.path c.args.problem.now.timetable.kept.times c.requires.solved.least
-    c.sound.ensures.network c.requires.solved.no_cycle c.in-Some.own c.cost.result c.args.choice c.is_violated.result
+    c.reveal.ensures.network c.requires.solved.no_cycle c.in-Some.own c.cost.result c.args.choice c.is_violated.result
     (subst (λ (o : Option ℕ). IsOwnCost c.args.self.now.net.now c.args.self.now.rows.now c.args.self.now.penalty o) c.in-Some.is c.requires.own) c.cost.ensures (omega arith) c.is_violated.ensures

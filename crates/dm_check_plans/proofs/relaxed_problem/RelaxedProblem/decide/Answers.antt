@@ -23,7 +23,7 @@ returns-clause-problem c =
     let turned = over_vec (is_charged_by flip) true (length net.activities) c.self.inside.charged c.deref_mut.result.now c.turn.new.charged c.deref_mut.ensures.value c.turn.ensures.charged in
     let priced = subst (λ (f : List Bool). IsPricedFor net rows (is_flagged f) c.weigh.new.cost) c.deref.ensures.value
     (c.weigh.ensures.priced old.charged true (subst (λ (f : List Bool). AreSetWhere (is_charged_by flip) true (length net.activities) old.charged f) (sym c.deref.ensures.value) turned) was.costed.priced) in
-    let now = decided net c.sound.ensures.network rows c.requires.sized old was d flip c.flip_of-flip.ensures.flip c.turn.new.timetable c.turn.ensures.timetable c.turn.ensures.keeps charged c.weigh.new.cost c.weigh.ensures.kept priced c.weigh.ensures.times c.turn.ensures.times opened c.turn.ensures.held
+    let now = decided net c.reveal.ensures.network rows c.requires.sized old was d flip c.flip_of-flip.ensures.flip c.turn.new.timetable c.turn.ensures.timetable c.turn.ensures.keeps charged c.weigh.new.cost c.weigh.ensures.kept priced c.weigh.ensures.times c.turn.ensures.times opened c.turn.ensures.held
     turned in
     moved net rows old.path (with_change flip false old.changes) (with_pair flip false old.pairs) charged c.turn.new.timetable c.weigh.new.cost old.moved old.is_noted old.places
     (old.path ++ d ∷ []) c.push.new.self.items c.set.new.self.changes.items c.set.new.self.pairs.items

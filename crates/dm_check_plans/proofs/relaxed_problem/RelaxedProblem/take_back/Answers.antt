@@ -40,5 +40,5 @@ returns-in-Some-clause-problem c =
     (c.weigh.ensures.priced old.charged false (subst (λ (f : List Bool). AreSetWhere (is_charged_by flip) false (length net.activities) old.charged f) (sym c.deref.ensures.value) turned) was.costed.priced) in
     moved net rows old.path (with_change flip true old.changes) (with_pair flip true old.pairs) charged c.turn.new.timetable c.weigh.new.cost old.moved old.is_noted old.places
     c.pop.new.self.items c.pop.new.self.items c.set.new.self.changes.items c.set.new.self.pairs.items refl c.set.ensures.changes c.set.ensures.pairs
-    (taken_back net c.sound.ensures.network rows c.requires.sized old was d flip c.flip_of-flip.ensures.flip c.turn.new.timetable c.turn.ensures.timetable c.turn.ensures.keeps charged c.weigh.new.cost c.weigh.ensures.kept priced c.weigh.ensures.times c.turn.ensures.times c.pop.new.self.items e c.turn.ensures.held
+    (taken_back net c.reveal.ensures.network rows c.requires.sized old was d flip c.flip_of-flip.ensures.flip c.turn.new.timetable c.turn.ensures.timetable c.turn.ensures.keeps charged c.weigh.new.cost c.weigh.ensures.kept priced c.weigh.ensures.times c.turn.ensures.times c.pop.new.self.items e c.turn.ensures.held
     turned)

@@ -35,7 +35,7 @@ loop-a-preserved c = record {
             let raised = subst (λ (x : Activity). Raises x.head (slice_index c.args.times.now c.args.event + slice_index c.args.self.now.spans.now (slice_index c.row_out_of-row.result.now c.loop-a.a-index)) c.loop-a.times w.raise_to.new.times c.loop-a.due w.raise_to.new.due) w.activity.ensures w.raise_to.ensures.raises in
             subst (λ times. after times c.if-self-a.due) (sym w.times-is) (subst (λ due. after w.raise_to.new.times due) (sym w.due-is)
             (relaxed_more c.args.self.now.net.now c.args.self.now.held.now c.args.self.now.spans.now floor c.args.event _ c.loop-a.a-index c.row_out_of-row.result.now c.args.times.now c.loop-a.times w.raise_to.new.times c.args.due.now c.loop-a.due w.raise_to.new.due
-            c.row_out_of-row.ensures (omega arith) refl had c.sound.ensures.network.formed.ends_are_known w.if-self-a.true (c.args.self.now.are.short _) raised))
+            c.row_out_of-row.ensures (omega arith) refl had c.reveal.ensures.network.formed.ends_are_known w.if-self-a.true (c.args.self.now.are.short _) raised))
         | else-self-a w ↦
             subst (λ times. after times c.if-self-a.due) (sym w.times-is) (subst (λ due. after c.loop-a.times due) (sym w.due-is)
             (relaxed_same c.args.self.now.net.now c.args.self.now.held.now c.args.self.now.spans.now floor c.args.event _ c.loop-a.a-index c.row_out_of-row.result.now c.args.times.now c.loop-a.times c.loop-a.times c.args.due.now c.loop-a.due c.loop-a.due

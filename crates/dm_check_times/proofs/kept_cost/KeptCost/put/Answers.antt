@@ -12,6 +12,6 @@ overflow_sub-self c =
 
 pub returns-clause-kept : goal.returns-clause-kept
 returns-clause-kept c =
-    puts c.args.net.now c.sound.ensures.within _ c.args.i c.args.time c.event_cost-was.result c.event_cost-now.result _ (subst (IsKeptCostOf c.args.net.now) (sym c.self.view_is) c.requires.kept) c.requires.is_event c.requires.early
+    puts c.args.net.now c.reveal.ensures.within _ c.args.i c.args.time c.event_cost-was.result c.event_cost-now.result _ (subst (IsKeptCostOf c.args.net.now) (sym c.self.view_is) c.requires.kept) c.requires.is_event c.requires.early
     (c.event_cost-was.ensures.cost ∙ ap (λ (x : List ℕ). event_cost c.args.net.now x c.args.i) c.deref.ensures.value)
     (c.event_cost-now.ensures.cost ∙ ap (λ (x : List ℕ). event_cost c.args.net.now x c.args.i) c.deref-2.ensures.value) refl

@@ -11,5 +11,5 @@ overflow_sub-self c =
 
 pub returns-clause-kept : goal.returns-clause-kept
 returns-clause-kept c =
-    sets c.args.net.now c.sound.ensures.within _ c.args.a c.args.weight _ (subst (IsKeptCostOf c.args.net.now) (sym c.self.view_is) c.requires.kept) c.requires.is_activity c.requires.small
+    sets c.args.net.now c.reveal.ensures.within _ c.args.a c.args.weight _ (subst (IsKeptCostOf c.args.net.now) (sym c.self.view_is) c.requires.kept) c.requires.is_activity c.requires.small
     (ap (λ (was : ℕ). c.self.inside.penalized + c.args.weight - was) (c.weight-was.ensures ∙ ap (λ (k : KeptCostValue). slice_index k.weights c.args.a) (sym c.self.view_is)))

@@ -4,13 +4,13 @@ use Rattle.dm_display.proofs.Displays.{shows_table, shows_none, keeps_last}
 use Rattle.dm_display.proofs.display.Display.show.Goals as goal
 
 pub copy_from-requires : goal.copy_from-requires
-copy_from-requires g c = c.requires.fits.size ∙ (sym c.sound.ensures.table.least.meets.size ∙ sym (ap length c.times.ensures))
+copy_from-requires g c = c.requires.fits.size ∙ (sym c.reveal.ensures.table.least.meets.size ∙ sym (ap length c.times.ensures))
 
 pub publish-dropped-requires-clause-events : goal.publish-dropped-requires-clause-events
 publish-dropped-requires-clause-events g c = ap (λ (n : Net). length n.events) c.requires.fits.network ∙ sym c.requires.fits.events
 
 pub publish-dropped-requires-clause-times : goal.publish-dropped-requires-clause-times
-publish-dropped-requires-clause-times g c = ap length (c.copy_from.ensures ∙ c.times.ensures) ∙ (c.sound.ensures.table.least.meets.size ∙ sym (ap (λ (n : Net). length n.events) c.requires.fits.network))
+publish-dropped-requires-clause-times g c = ap length (c.copy_from.ensures ∙ c.times.ensures) ∙ (c.reveal.ensures.table.least.meets.size ∙ sym (ap (λ (n : Net). length n.events) c.requires.fits.network))
 
 pub publish-dropped-requires-clause-boards : goal.publish-dropped-requires-clause-boards
 publish-dropped-requires-clause-boards g c = sym c.requires.fits.boards
@@ -22,5 +22,5 @@ pub returns : goal.returns
 returns g c =
     let p = c.publish-dropped.ensures in
     shows_table _ _ _ _ c.args.table.now c.args.self.now _ c.args.self.now.net.now c.len-entries.result (vec_len c.args.boards.now) c.args.boards.now.items c.publish-dropped.new.boards.items
-    c.sound.ensures.table c.args.boards.now.ok.0 c.requires.fits c.requires.fits.network c.requires.fits.network (omega arith) c.len-entries.ensures.count refl (c.copy_from.ensures ∙ c.times.ensures)
+    c.reveal.ensures.table c.args.boards.now.ok.0 c.requires.fits c.requires.fits.network c.requires.fits.network (omega arith) c.len-entries.ensures.count refl (c.copy_from.ensures ∙ c.times.ensures)
     p.published.stops (keeps_last _ _ _ _ _ _ _ _ _ _ _ p.keeps_up) p.true_notes p.last p.same_boards p.same_events

@@ -18,7 +18,7 @@ pub publish_listed-dropped-requires-clause-events : goal.publish_listed-dropped-
 publish_listed-dropped-requires-clause-events g c = ap (λ (n : Net). length n.events) c.requires.fits.network ∙ sym c.requires.fits.events
 
 pub publish_listed-dropped-requires-clause-times : goal.publish_listed-dropped-requires-clause-times
-publish_listed-dropped-requires-clause-times g c = ap length c.follow_times.ensures.times ∙ (c.sound.ensures.table.least.meets.size ∙ sym (ap (λ (n : Net). length n.events) c.requires.fits.network))
+publish_listed-dropped-requires-clause-times g c = ap length c.follow_times.ensures.times ∙ (c.reveal.ensures.table.least.meets.size ∙ sym (ap (λ (n : Net). length n.events) c.requires.fits.network))
 
 pub publish_listed-dropped-requires-clause-boards : goal.publish_listed-dropped-requires-clause-boards
 publish_listed-dropped-requires-clause-boards g c = sym c.requires.fits.boards
@@ -38,5 +38,5 @@ pub returns-clause-shows : goal.returns-clause-shows
 returns-clause-shows g c =
     let p = c.publish_listed-dropped.ensures in
     shows_table _ _ _ _ c.args.table.now c.args.self.now _ c.args.self.now.net.now c.len-entries.result (vec_len c.args.boards.now) c.args.boards.now.items c.publish_listed-dropped.new.boards.items
-    c.sound.ensures.table c.args.boards.now.ok.0 c.requires.fits c.requires.fits.network c.requires.fits.network c.follow_times.ensures.room (c.len-entries.ensures.count ∙ ap (λ (t : TableValue). length t.history) c.follow_times.ensures.same) refl c.follow_times.ensures.times
+    c.reveal.ensures.table c.args.boards.now.ok.0 c.requires.fits c.requires.fits.network c.requires.fits.network c.follow_times.ensures.room (c.len-entries.ensures.count ∙ ap (λ (t : TableValue). length t.history) c.follow_times.ensures.same) refl c.follow_times.ensures.times
     p.published.stops p.keeps_up p.true_notes p.last p.same_boards p.same_events

@@ -10,4 +10,4 @@ returns-clause-cost c =
     let is = subst (IsEvaluatorOf net) (sym c.self.view_is) c.requires.evaluator in
     subst (λ (e : EvaluatorValue). c.cost.result ≡ relaxed_cost_of net e.rows e.path (times_of e) c.args.penalty) c.self.view_is
     (c.cost.ensures.cost net is.evaluates.is_priced
-    ∙ relaxed_cost net c.self.inside.rows c.self.inside.path.items c.self.inside.priced is.evaluates c.sound.ensures.network.formed.ends_are_known c.args.penalty)
+    ∙ relaxed_cost net c.self.inside.rows c.self.inside.path.items c.self.inside.priced is.evaluates c.reveal.ensures.network.formed.ends_are_known c.args.penalty)

@@ -16,8 +16,8 @@ returns-in-Some c =
     let flag : c.is.result ≡ at_place (is_undecided_change net rows path) (is_undecided_pair net rows path) c.in-Some.place =
     c.is.ensures ∙ flag_is net rows path c.args.choice c.in-Some.place there c.self.inside.undecided.changes.items c.self.inside.undecided.pairs.items was.changes was.pairs in (
       λ h. subst (λ (e : EvaluatorValue). IsOpen net e.rows e.path c.args.choice) c.self.view_is
-          (open_where_flagged net c.sound.ensures.network rows path c.args.choice c.in-Some.place there (sym flag ∙ h)),
-      λ o. flag ∙ flagged_where_open net c.sound.ensures.network rows path c.args.choice c.in-Some.place there
+          (open_where_flagged net c.reveal.ensures.network rows path c.args.choice c.in-Some.place there (sym flag ∙ h)),
+      λ o. flag ∙ flagged_where_open net c.reveal.ensures.network rows path c.args.choice c.in-Some.place there
           (subst (λ (e : EvaluatorValue). IsOpen net e.rows e.path c.args.choice) (sym c.self.view_is) o),
     )
 
@@ -25,5 +25,5 @@ pub returns-in-None : goal.returns-in-None
 returns-in-None c =
     let net = c.args.net.now in (
       λ h. absurd cc,
-      λ o. absurd (not_open net c.sound.ensures.network c.args.self.now.rows c.args.self.now.path c.args.choice c.in-None.ensures.none o),
+      λ o. absurd (not_open net c.reveal.ensures.network c.args.self.now.rows c.args.self.now.path c.args.choice c.in-None.ensures.none o),
     )

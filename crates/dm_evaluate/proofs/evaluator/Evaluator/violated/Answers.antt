@@ -39,7 +39,7 @@ returns-clause-open g c =
     let old : EvaluatorValue = record { rows = c.self.inside.rows; path = c.self.inside.path.items; changes = c.self.inside.undecided.changes.items; pairs = c.self.inside.undecided.pairs.items; priced = c.self.inside.priced; marks = record { changes = c.self.inside.marks.changes; pairs = c.self.inside.marks.pairs } } in
     let was = subst (IsEvaluatorOf c.args.net.now) (sym c.self.view_is) c.requires in
     subst (λ (e : EvaluatorValue). IfSome c.first_violated.result (IsOpen c.args.net.now e.rows e.path)) c.self.view_is
-    (flagged_is_open c.args.net.now c.sound.ensures.network old.rows old.path c.self.inside.undecided (record { changes = was.changes; pairs = was.pairs }) c.first_violated.result c.first_violated.ensures.flagged)
+    (flagged_is_open c.args.net.now c.reveal.ensures.network old.rows old.path c.self.inside.undecided (record { changes = was.changes; pairs = was.pairs }) c.first_violated.result c.first_violated.ensures.flagged)
 
 pub returns-clause-first : goal.returns-clause-first
 returns-clause-first g c =

@@ -16,7 +16,7 @@ mark_unmet-requires-clause-out_activities c = row_below c.args.net.now c.args.to
 
 pub returns-clause-knows : goal.returns-clause-knows
 returns-clause-knows c =
-    marks_moved c.args.net.now c.sound.ensures.network c.args.to.now.constraints.now.spans c.args.to.now.times.now c.args.to.now.event c.args.to.now.time
+    marks_moved c.args.net.now c.reveal.ensures.network c.args.to.now.constraints.now.spans c.args.to.now.times.now c.args.to.now.event c.args.to.now.time
     c.args.to.now.into.now c.args.to.now.out_of.now c.requires.is_move.into c.requires.is_move.out_of c.args.self.now.changes c.args.self.now.pairs
     c.mark_early.new.changes c.mark_early-2.new.changes c.mark_unmet.new.pairs c.requires.knows
     c.mark_early.ensures c.mark_early-2.ensures c.mark_unmet.ensures

@@ -13,7 +13,7 @@ pub returns : goal.returns
 returns c = record {
   takes =
       takes_piece c.args.self.now c.feed_lines-answer.new.follower c.args.piece.now c.feed_lines-answer.result c.feed_lines-answer.ensures
-      (subst (λ (f : FollowerValue). IsTable f.table) c.self-2.view_is c.sound.ensures.table);
+      (subst (λ (f : FollowerValue). IsTable f.table) c.self-2.view_is c.reveal.ensures.table);
   failed = λ failed.
       absurd (live_is_unfailed c.args.self.now.stage (length c.args.self.now.table.history) (length c.args.self.now.part)
       (subst (λ (f : FollowerValue). IsLive f.stage) c.self.view_is c.in-Ok.ensures) failed);

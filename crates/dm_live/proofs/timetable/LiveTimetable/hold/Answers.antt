@@ -14,7 +14,7 @@ use Rattle.dm_live.proofs.timetable.LiveTimetable.hold.Goals as goal
 pub returns-in-Ok-clause-live : goal.returns-in-Ok-clause-live
 returns-in-Ok-clause-live c =
     hold_moves c.args.net.now (record { given = c.self.inside.constraints; order = c.self.inside.order; times = c.self.inside.times; marks = c.self.inside.marks; fixed = c.self.inside.fixed.items })
-    (subst (IsLive c.args.net.now) (sym c.self.view_is) c.requires.live) c.sound.ensures.network.formed.ends_are_known c.args.a c.requires.is_activity
+    (subst (IsLive c.args.net.now) (sym c.self.view_is) c.requires.live) c.reveal.ensures.network.formed.ends_are_known c.args.a c.requires.is_activity
     (subst (λ (v : LiveValue). is_fixed v.fixed (activity_at c.args.net.now c.args.a).head ≡ false) (sym c.self.view_is) c.requires.open)
     c.is_fixed-fixed.result
     (c.is_fixed-fixed.ensures ∙ ap (λ (v : Activity). is_fixed c.args.self.now.fixed v.tail) c.activity.ensures

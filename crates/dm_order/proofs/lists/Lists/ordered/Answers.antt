@@ -5,4 +5,4 @@ pub returns-in_ok-places-in-Ok-clause-forward : goal.returns-in_ok-places-in-Ok-
 returns-in_ok-places-in-Ok-clause-forward c =
     rw (c.in_ok-places-in-Ok.ensures.ranks, c.ranks.ensures)
     (order_is_forward c.args.net.now c.args.held.now c.search.new.search.order c.search.new.search.ranks
-    c.sound.ensures.network.formed.ends_are_known c.in-Ok.ensures.ranks c.in-Ok.ensures.order)
+    c.reveal.ensures.network.formed.ends_are_known c.in-Ok.ensures.ranks c.in-Ok.ensures.order)

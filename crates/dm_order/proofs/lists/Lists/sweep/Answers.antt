@@ -21,7 +21,7 @@ record IsSwept (c : After-shift) : Type 0 where
 
 swept : (c : After-shift) → IsSwept c
 swept c =
-    let known = c.sound.ensures.network.formed.ends_are_known in
+    let known = c.reveal.ensures.network.formed.ends_are_known in
     let ranked = c.requires.lists.ranked in
     let count = ranked.rank_count in
     let low_is : c.index-low.result.now ≡ slice_index c.args.self.now.places.ranks.items (activity_at c.args.net.now c.args.first).head =

@@ -11,17 +11,17 @@ pub activity-requires-in-loop-event : goal.activity-requires-in-loop-event
 activity-requires-in-loop-event c =
     let low_is : slice_index c.args.ranks.now c.activity.result.now.head ≡ slice_index c.args.ranks.now (activity_at c.args.net.now c.args.first).head =
     ap (λ (x : Activity). slice_index c.args.ranks.now x.head) c.activity.ensures in
-    (cause c.args.net.now c.args.held.now c.args.order.now c.args.ranks.now c.requires.ranked c.sound.ensures.network.formed.ends_are_known
+    (cause c.args.net.now c.args.held.now c.args.order.now c.args.ranks.now c.requires.ranked c.reveal.ensures.network.formed.ends_are_known
     (slice_index c.args.ranks.now (activity_at c.args.net.now c.args.first).head) (slice_index c.args.ranks.now (activity_at c.args.net.now c.args.first).tail)
     c.args.causes.now c.requires.reached c.loop-event.event c.in-Some.a c.loop-event.invariant.is_event (omega arith) c.loop-event.invariant.not_behind c.in-Some.is).is_activity
 
 pub loop-event-preserved : goal.loop-event-preserved
 loop-event-preserved c =
-    let known = c.sound.ensures.network.formed.ends_are_known in
+    let known = c.reveal.ensures.network.formed.ends_are_known in
     let low_is : slice_index c.args.ranks.now c.activity.result.now.head ≡ slice_index c.args.ranks.now (activity_at c.args.net.now c.args.first).head =
     ap (λ (x : Activity). slice_index c.args.ranks.now x.head) c.activity.ensures in
     let why =
-    cause c.args.net.now c.args.held.now c.args.order.now c.args.ranks.now c.requires.ranked c.sound.ensures.network.formed.ends_are_known
+    cause c.args.net.now c.args.held.now c.args.order.now c.args.ranks.now c.requires.ranked c.reveal.ensures.network.formed.ends_are_known
     (slice_index c.args.ranks.now (activity_at c.args.net.now c.args.first).head) (slice_index c.args.ranks.now (activity_at c.args.net.now c.args.first).tail)
     c.args.causes.now c.requires.reached c.loop-event.event c.in-Some.a c.loop-event.invariant.is_event (omega arith) c.loop-event.invariant.not_behind c.in-Some.is in
     let tail_is : c.activity-in-loop-event.result.now.tail ≡ (activity_at c.args.net.now c.in-Some.a).tail = ap (λ (x : Activity). x.tail) c.activity-in-loop-event.ensures in

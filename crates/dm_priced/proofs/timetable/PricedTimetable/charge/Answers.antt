@@ -19,4 +19,4 @@ returns-clause-priced c =
 
 pub invariant_of-self : goal.invariant_of-self
 invariant_of-self c =
-    within_beside c.args.net.now c.sound.ensures.within _ c.self.invariant.lateness (returns-clause-priced c)
+    within_beside c.args.net.now c.reveal.ensures.within _ c.self.invariant.lateness (returns-clause-priced c)

@@ -18,4 +18,4 @@ returns-clause-priced g c =
 
 pub invariant_of-self : goal.invariant_of-self
 invariant_of-self g c =
-    within_where_priced c.args.net.now c.sound.ensures.within _ (subst AreEarly c.times-2.ensures c.is_early.ensures) (returns-clause-priced g c)
+    within_where_priced c.args.net.now c.reveal.ensures.within _ (subst AreEarly c.times-2.ensures c.is_early.ensures) (returns-clause-priced g c)

@@ -10,4 +10,4 @@ returns-clause-priced c =
 
 pub invariant_of-result : goal.invariant_of-result
 invariant_of-result c =
-    within_where_priced c.args.net.now c.sound.ensures.within _ (subst AreEarly c.times.ensures c.is_early.ensures) (returns-clause-priced c)
+    within_where_priced c.args.net.now c.reveal.ensures.within _ (subst AreEarly c.times.ensures c.is_early.ensures) (returns-clause-priced c)

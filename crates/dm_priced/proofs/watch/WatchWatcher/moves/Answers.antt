@@ -6,7 +6,7 @@ use Rattle.dm_priced.proofs.watch.WatchWatcher.moves.Goals as goal
 
 pub overflow_add-self : goal.overflow_add-self
 overflow_add-self c =
-    let bound = lateness_within c.args.net.now c.sound.ensures.within c.args.to.now.times.now c.is_early.ensures in
+    let bound = lateness_within c.args.net.now c.reveal.ensures.within c.args.to.now.times.now c.is_early.ensures in
     let is = c.requires.knows.is_lateness in
     let limit = c.cost_at-cost.ensures.limit in
     omega (arith, bound, is, limit)
@@ -23,7 +23,7 @@ missed_between-along_out-requires-clause-activities c = out_are_activities c.arg
 
 pub overflow_add-self-3 : goal.overflow_add-self-3
 overflow_add-self-3 c =
-    let bound = missed_within c.args.net.now c.sound.ensures.within c.args.self.now.passed.now c.args.to.now.constraints.now.spans c.args.to.now.times.now in
+    let bound = missed_within c.args.net.now c.reveal.ensures.within c.args.self.now.passed.now c.args.to.now.constraints.now.spans c.args.to.now.times.now in
     let is = c.requires.knows.is_missed in
     let into = c.missed_into-along_into.ensures.now_limit in
     let out_of = c.missed_between-along_out.ensures.now_limit in

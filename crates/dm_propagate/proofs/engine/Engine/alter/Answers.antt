@@ -10,7 +10,7 @@ pub returns-in-Ok-clause-least : goal.returns-in-Ok-clause-least
 returns-in-Ok-clause-least g c =
     let same : c.make.new.rows ≡ c.make-in-Ok.new.rows =
     c.make.ensures.made ∙ ap (λ (r : RowsValue). after_change r (change_in c.args.what.now)) c.self.invariant ∙ sym c.make-in-Ok.ensures.made in
-    follows_least c.args.net.now c.make-in-Ok.new.rows c.move_to.new.priced.live c.sound.ensures.network.formed.ends_are_known
+    follows_least c.args.net.now c.make-in-Ok.new.rows c.move_to.new.priced.live c.reveal.ensures.network.formed.ends_are_known
     c.in-Ok.ensures.priced.live c.in-Ok.ensures.at_rest
     (subst (λ (r : RowsValue). FollowsRows c.args.net.now r c.move_to.new.priced.live.given) same c.in-Ok.ensures.follows)
 
@@ -23,5 +23,5 @@ returns-in-Ok-clause-no_cycle g c =
 
 pub returns-in-Err-clause-least : goal.returns-in-Err-clause-least
 returns-in-Err-clause-least g c =
-    follows_least c.args.net.now c.self.inside.rows c.move_to.new.priced.live c.sound.ensures.network.formed.ends_are_known
+    follows_least c.args.net.now c.self.inside.rows c.move_to.new.priced.live c.reveal.ensures.network.formed.ends_are_known
     c.in-Err.ensures.priced.live c.in-Err.ensures.at_rest c.in-Err.ensures.followed

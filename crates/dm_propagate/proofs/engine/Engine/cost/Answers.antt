@@ -10,5 +10,5 @@ returns-clause-cost c =
     let is = subst (IsEngineOf net) (sym c.self.view_is) c.requires.engine in
     subst (λ (engine : EngineValue). c.cost.result ≡ cost_of net engine.rows (times_of engine) c.args.penalty) c.self.view_is
     (c.cost.ensures.cost net is.priced
-    ∙ costs_as_charged net c.self.inside.rows (is_dropped_change net c.self.inside.rows) c.self.inside.priced c.sound.ensures.network.formed.ends_are_known is.price
+    ∙ costs_as_charged net c.self.inside.rows (is_dropped_change net c.self.inside.rows) c.self.inside.priced c.reveal.ensures.network.formed.ends_are_known is.price
     c.args.penalty)

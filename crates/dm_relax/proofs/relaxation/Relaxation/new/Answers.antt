@@ -16,9 +16,9 @@ set-requires c =
 pub loop-decision-preserved : goal.loop-decision-preserved
 loop-decision-preserved c = record {
   changes = rw c.set.ensures.changes
-      (next_changes c.args.net.now c.args.rows.now c.args.path.now c.requires.list c.sound.ensures.network c.requires.sized c.loop-decision.decision-index _
+      (next_changes c.args.net.now c.args.rows.now c.args.path.now c.requires.list c.reveal.ensures.network c.requires.sized c.loop-decision.decision-index _
       c.loop-decision-test.true c.flip_of.result c.flip_of.ensures.flip c.loop-decision.undecided.changes.items c.loop-decision.invariant.changes);
   pairs = rw c.set.ensures.pairs
-      (next_pairs c.args.net.now c.args.rows.now c.args.path.now c.requires.list c.sound.ensures.network c.requires.sized c.loop-decision.decision-index _
+      (next_pairs c.args.net.now c.args.rows.now c.args.path.now c.requires.list c.reveal.ensures.network c.requires.sized c.loop-decision.decision-index _
       c.loop-decision-test.true c.flip_of.result c.flip_of.ensures.flip c.loop-decision.undecided.pairs.items c.loop-decision.invariant.pairs);
 }

@@ -5,7 +5,7 @@ use Rattle.dm_search.proofs.searching.Walker.advance.Goals as goal
 
 pub returns-in-Some-clause-advanced : goal.returns-in-Some-clause-advanced
 returns-in-Some-clause-advanced c =
-    past_choice _ c.sound.ensures.network _ _ _ _ _ _ _ _ _ _ c.in-Some.ensures c.in_ok-descend.ensures.nodes c.in_ok-descend.ensures.path
+    past_choice _ c.reveal.ensures.network _ _ _ _ _ _ _ _ _ _ c.in-Some.ensures c.in_ok-descend.ensures.nodes c.in_ok-descend.ensures.path
     c.in_ok-descend.ensures.due c.requires.search c.requires.best
 
 pub returns-in-Some-clause-kept : goal.returns-in-Some-clause-kept

@@ -6,7 +6,7 @@ use Rattle.dm_search.proofs.searching.Walker.place.Goals as goal
 pub returns-in_ok-leave-in-Settled : goal.returns-in_ok-leave-in-Settled
 returns-in_ok-leave-in-Settled c =
     record {
-      advanced = past_leaf _ c.sound.ensures.network _ _ _ _ _ _ _ _ _ _ _ _ _ refl c.requires.leaf (rw c.in-Settled.is at c.requires.found)
+      advanced = past_leaf _ c.reveal.ensures.network _ _ _ _ _ _ _ _ _ _ _ _ _ refl c.requires.leaf (rw c.in-Settled.is at c.requires.found)
           c.requires.ceiling refl c.in_ok-leave-in-Settled.ensures.nodes
           c.in_ok-leave-in-Settled.ensures.path c.in_ok-leave-in-Settled.ensures.due c.requires.search c.requires.best;
       kept =
@@ -18,7 +18,7 @@ returns-in_ok-leave-in-Settled c =
 pub returns-in_ok-leave-in-Better : goal.returns-in_ok-leave-in-Better
 returns-in_ok-leave-in-Better c =
     record {
-      advanced = past_better _ c.sound.ensures.network _ _ _ _ _ _ _ _ _ _ _ _ _ refl c.requires.leaf (rw c.in-Better.is at c.requires.found)
+      advanced = past_better _ c.reveal.ensures.network _ _ _ _ _ _ _ _ _ _ _ _ _ refl c.requires.leaf (rw c.in-Better.is at c.requires.found)
           c.requires.ceiling refl c.in_ok-leave-in-Better.ensures.nodes
           c.in_ok-leave-in-Better.ensures.path c.in_ok-leave-in-Better.ensures.due c.requires.search;
       kept = settled_kept _ _ _ _ _ _ _ _ _ c.requires.search c.requires.leaf _ refl
@@ -29,7 +29,7 @@ returns-in_ok-leave-in-Better c =
 pub returns-in_ok-split-in-Split : goal.returns-in_ok-split-in-Split
 returns-in_ok-split-in-Split c =
     record {
-      advanced = past_split _ c.sound.ensures.network _ _ _ _ _ _ _ _ _ _ _ _ _ refl c.requires.leaf (rw c.in-Split.is at c.requires.found)
+      advanced = past_split _ c.reveal.ensures.network _ _ _ _ _ _ _ _ _ _ _ _ _ refl c.requires.leaf (rw c.in-Split.is at c.requires.found)
           c.requires.ceiling refl c.in_ok-split-in-Split.ensures.nodes
           c.in_ok-split-in-Split.ensures.path c.in_ok-split-in-Split.ensures.due c.requires.search c.requires.best;
       kept = branch_kept _ _ _ _ _ _ _ _ _ c.requires.search c.requires.leaf _ (rw c.in-Split.is at c.requires.stays)

@@ -6,7 +6,7 @@ use Rattle.dm_search.proofs.searching.Walker.traverse.Goals as goal
 
 pub search_all-requires-clause-search : goal.search_all-requires-clause-search
 search_all-requires-clause-search c =
-    search_anew _ c.sound.ensures.base _ _ _ _ _ _ _
+    search_anew _ c.reveal.ensures.base _ _ _ _ _ _ _
     c.new-search.ensures.nodes c.new-search.ensures.path (ap reverse c.new-search.ensures.due ∙ reverse-reverse _) c.requires.stands
 
 pub returns-clause-stands : goal.returns-clause-stands

@@ -20,4 +20,4 @@ returns-in-Ok-clause-legal g c =
 
 pub returns-in-Err-clause-legal : goal.returns-in-Err-clause-legal
 returns-in-Err-clause-legal g c =
-    holds_given IsLegalAfter c.args.pass.now c.take-held.new.pass c.give-in-Err.new.pass (base_of c.take-held.result.state.table.value) c.take-held.result.state.table.value.history c.take-held.ensures.held c.take-held.ensures.base c.give-in-Err.ensures c.sound.ensures.table.legal
+    holds_given IsLegalAfter c.args.pass.now c.take-held.new.pass c.give-in-Err.new.pass (base_of c.take-held.result.state.table.value) c.take-held.result.state.table.value.history c.take-held.ensures.held c.take-held.ensures.base c.give-in-Err.ensures c.reveal.ensures.table.legal

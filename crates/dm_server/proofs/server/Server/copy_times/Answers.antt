@@ -7,4 +7,4 @@ copy_times-requires g c = c.requires.size (base_of c.take-held.result.state.tabl
 
 pub returns-clause-legal : goal.returns-clause-legal
 returns-clause-legal g c =
-    holds_given IsLegalAfter c.args.pass.now c.take-held.new.pass c.give.new.pass (base_of c.take-held.result.state.table.value) c.take-held.result.state.table.value.history c.take-held.ensures.held c.take-held.ensures.base c.give.ensures c.sound.ensures.table.legal
+    holds_given IsLegalAfter c.args.pass.now c.take-held.new.pass c.give.new.pass (base_of c.take-held.result.state.table.value) c.take-held.result.state.table.value.history c.take-held.ensures.held c.take-held.ensures.base c.give.ensures c.reveal.ensures.table.legal

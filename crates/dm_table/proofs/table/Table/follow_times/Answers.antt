@@ -17,7 +17,7 @@ invariant_of-self c =
       noted_anew t.net.now t.start c.forget_moved.new.self.rows t.history.entries c.len-now.result c.forget_moved.new.self.moved.flags
           (times_of c.forget_moved.new.self) (omega (arith, c.len-now.ensures.count))
           (same_rows ∙ kept.replayed ∙ ap (rows_at t.net.now t.start t.history.entries) (sym c.len-now.ensures.count))
-          (engine_least t.net.now c.forget_moved.new.self c.sound.ensures.network.formed.ends_are_known is_engine)
+          (engine_least t.net.now c.forget_moved.new.self c.reveal.ensures.network.formed.ends_are_known is_engine)
           (ap (λ (e : EngineValue). e.moved.flags) forgets ∙ ap (λ n. replicate n false) c.self.invariant.1.as_many),
       c.self.invariant.2,
       c.self.invariant.3,

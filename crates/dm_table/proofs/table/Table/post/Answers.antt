@@ -42,7 +42,7 @@ returns-in-Ok-clause-table g c =
     let accepted : IsAccepted t.net.now t.engine.rows (length t.history.entries) c.args.entry.message =
     subst (λ (n : ℕ). IsAccepted t.net.now t.engine.rows n c.args.entry.message) c.len-entries.ensures.count c.in-Ok.ensures.accepted in
     kept_is_table t.net.now t.start t.penalty c.push.new.self.entries c.enter-entered.new.engine c.push.new.self.spare t.room
-    c.sound.ensures.network.formed.ends_are_known
+    c.reveal.ensures.network.formed.ends_are_known
     (subst (λ (h : List Entry). IsKept t.net.now t.start t.penalty h c.enter-entered.new.engine) (sym (ap (λ (h : HistoryValue). h.entries) c.push.ensures))
     (kept_next t.net.now t.start t.penalty t.history.entries t.engine c.self.invariant.0 c.args.entry accepted c.enter-entered.new.engine
     c.in-Ok.ensures.engine c.in-Ok.ensures.rows))

@@ -6,5 +6,5 @@ returns-in-Ok c = enters c.args.self.now.plans c.args.self.now.table c.enter.new
 
 pub returns-in-Err : goal.returns-in-Err
 returns-in-Err c =
-    refuses_entry c.args.self.now.plans c.args.self.now.table c.enter.new.table c.args.entry c.len-here.result c.in-Err.why c.sound.ensures.table
+    refuses_entry c.args.self.now.plans c.args.self.now.table c.enter.new.table c.args.entry c.len-here.result c.in-Err.why c.reveal.ensures.table
     c.in-Err.ensures.stays c.len-here.ensures.count c.in-Err.ensures.refused

@@ -13,15 +13,15 @@ returns-clause-answers g c =
     let part =
     subst (λ (l : List ℕ). AnswersPart l c.args.batch c.args.self.now.lines c.in_ok-passed.passed c.in_ok-passed.lines (g.D.Desk.value c.args.desk.now) (g.D.Desk.value c.answer_lines.new.desk) c.args.number c.args.self.now.log.items c.answer_lines.new.log.items)
     c.as_slice-pending.ensures.value c.in_ok-passed.ensures in
-    on_ok_weaker c.pass.result
-    (λ pending. answers_pending g.T.Growing.given c.args.batch c.in_ok-passed.passed c.in_ok-passed.lines (g.D.Desk.value c.args.desk.now) (g.D.Desk.value c.answer_lines.new.desk) c.args.number c.args.self.now _ part c.pass.ensures.feed refl pending refl)
-    c.pass.ensures.pending
+    on_ok_weaker c.skip.result
+    (λ pending. answers_pending g.T.Growing.given c.args.batch c.in_ok-passed.passed c.in_ok-passed.lines (g.D.Desk.value c.args.desk.now) (g.D.Desk.value c.answer_lines.new.desk) c.args.number c.args.self.now _ part c.skip.ensures.feed refl pending refl)
+    c.skip.ensures.pending
 
 pub returns-clause-short : goal.returns-clause-short
 returns-clause-short g c =
     let part =
     subst (λ (l : List ℕ). AnswersPart l c.args.batch c.args.self.now.lines c.in_ok-passed.passed c.in_ok-passed.lines (g.D.Desk.value c.args.desk.now) (g.D.Desk.value c.answer_lines.new.desk) c.args.number c.args.self.now.log.items c.answer_lines.new.log.items)
     c.as_slice-pending.ensures.value c.in_ok-passed.ensures in
-    on_ok_weaker c.pass.result
-    (λ pending. still_short g.T.Growing.given c.args.batch c.in_ok-passed.passed c.in_ok-passed.lines (g.D.Desk.value c.args.desk.now) (g.D.Desk.value c.answer_lines.new.desk) c.args.number c.args.self.now _ part c.pass.ensures.feed refl pending c.pass.ensures.taken c.requires.short)
-    c.pass.ensures.pending
+    on_ok_weaker c.skip.result
+    (λ pending. still_short g.T.Growing.given c.args.batch c.in_ok-passed.passed c.in_ok-passed.lines (g.D.Desk.value c.args.desk.now) (g.D.Desk.value c.answer_lines.new.desk) c.args.number c.args.self.now _ part c.skip.ensures.feed refl pending c.skip.ensures.taken c.requires.short)
+    c.skip.ensures.pending
