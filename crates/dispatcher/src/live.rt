@@ -97,6 +97,7 @@ fn serve<
         rt,
         stop,
         feeds: feeds.len(),
+        pauses: 0,
         since,
     };
     let means = Means {

@@ -9,10 +9,13 @@ use std::{fs, io, thread};
 const PAUSE: u64 = 5;
 
 /// So many where it has many feeds, since each is looked at before the next pause.
-const PAUSE_OF_MANY: u64 = 10;
+const PAUSE_OF_MANY: u64 = 12;
 
 /// How many feeds are not many.
 const FEW: usize = 16;
+
+/// How many pauses lie between two looks at whether the server is to end.
+const PAUSES_BETWEEN: u32 = 9;
 
 /// A pace that waits a little where nothing is new, and ends the server where a file of this name is there.
 #[derive(Drop)]
@@ -24,6 +27,9 @@ pub struct FilePace<'r, R> {
 
     /// How many feeds there are.
     pub feeds: usize,
+
+    /// How many pauses there are still before the next look at whether the server is to end.
+    pub pauses: u32,
 
     /// When the server began, where the clock told it.
     pub since: Option<Instant>,
@@ -49,6 +55,11 @@ impl<R: Clock + Eprint + Files<File = File>> Pace for FilePace<'_, R> {
             PAUSE
         };
         let _ = thread::sleep(self.rt, Duration::from_millis(pause));
+        if self.pauses > 0 {
+            self.pauses -= 1;
+            return true;
+        }
+        self.pauses = PAUSES_BETWEEN;
         fs::metadata(self.rt, self.stop.as_str()).is_err()
     }
 }
@@ -69,7 +80,8 @@ fn millis_since<R: Clock>(rt: &R, since: Option<Instant>) -> u64 {
 
 /// Says what a server found, and how long that took.
 fn say_begun<R: Eprint>(rt: &R, feeds: usize, entries: u32, millis: u64) -> io::Result<()> {
+    let word = if feeds == 1 { "feed" } else { "feeds" };
     eprintln!(rt;
-        "dispatcher: serving {feeds} feeds from entry {entries} on, read back and judged in {millis} ms"
+        "dispatcher: serving {feeds} {word} from entry {entries} on, read back and judged in {millis} ms"
     )
 }
