@@ -22,7 +22,7 @@ import shutil
 import subprocess
 import sys
 import tempfile
-from typing import NamedTuple
+from typing import Mapping, NamedTuple
 
 from here import command_line, whole_path
 import day
@@ -55,10 +55,10 @@ ROWS = [
 ]
 
 
-def write_day(program: str, folder: str) -> None:
-    """Writes the day, and the texts of two of its feeds."""
-    day.write_day(NUMBER, TRAINS, folder)
-    for text, feed in TEXTS.items():
+def write_day(program: str, folder: str, texts: Mapping[str, str], trains: int = TRAINS) -> None:
+    """Writes the day, and the texts of some of its feeds."""
+    day.write_day(NUMBER, trains, folder)
+    for text, feed in texts.items():
         with open(os.path.join(folder, text), 'wb') as file:
             subprocess.run([program, 'run', 'net', PENALTY, feed], cwd=folder, stdout=file, stderr=subprocess.DEVNULL, check=True)
 
@@ -98,7 +98,7 @@ def arguments() -> argparse.Namespace:
 def main() -> None:
     given = arguments()
     with tempfile.TemporaryDirectory() as folder:
-        write_day(given.dispatcher, folder)
+        write_day(given.dispatcher, folder, TEXTS)
         now = counts_of(given.dispatcher, folder)
         before = counts_of(given.before, folder) if given.before else {}
     print('row      millions  bound' + ('  before  ratio' if before else ''))
