@@ -9,18 +9,19 @@ day is that of bench/day.py with number 7 and 2,000 trains. DISPATCHER makes the
     mixed      of a full feed of mixed lines
     plans      of 16 plans of 4,096 nodes, adopted one after the other between delays
 
-A row is a command and the text that it reads, and `--only` takes rows, such as check-delays, or commands:
+A row is a question and the text that it is asked of, and `--only` takes rows, such as check-delays, or questions:
 
-    check      judges the text
-    follow     prints the timetable after it
-    journey    finds the journeys between two stops, with a change
-    window     plans from 7 to 9 o'clock, with 4,096 nodes
-    rules      compares the rule `always` with a plan of 1,024 nodes
+    check      is the text good
+    follow     the timetable after it
+    journey    the journeys between two stops, with a change
+    window     a plan from 7 to 9 o'clock, of 4,096 nodes
+    at         the same after the first 100 entries, and what becomes of it
+    rules      the rule `always` beside a plan of 1,024 nodes
 
 A row has the instructions in millions (callgrind, of Debian's `valgrind`; none where that is not installed) and the least seconds of
 processor of several runs; all rows of both programs run in turn. Beyond is what is over that of another row: of check, follow and
-journey the same command over the empty text, and of window and rules `follow` of their own text. The last two search in rows that the
-empty text has not. A row for which the two programs do not print the same is marked, and the status is then 1.
+journey the same question of the empty text, and of the others `follow` of their own text, which leaves the search. A row for which
+the two programs do not print the same is marked, and the status is then 1.
 """
 from __future__ import annotations
 
@@ -41,41 +42,45 @@ REPEATS = 12
 # The texts, and the feeds that they are of.
 FEEDS = {'empty': 'empty', 'delays': 'full', 'mixed': 'mixed', 'plans': 'plans'}
 
-# The words of each command behind its text.
-WORDS: dict[str, list[str]] = {
-    'check': [],
-    'follow': [],
-    'journey': ['1', '22', '21600'],
-    'window': ['25200', '32400', '4096'],
-    'rules': ['always', '1024'],
+WINDOW = ['25200', '32400', '4096']
+
+# The command of each question, and its words behind the text.
+QUESTIONS: dict[str, tuple[str, list[str]]] = {
+    'check': ('check', []),
+    'follow': ('follow', []),
+    'journey': ('journey', ['1', '22', '21600']),
+    'window': ('window', WINDOW),
+    'at': ('window', [*WINDOW, '--at=100']),
+    'rules': ('rules', ['always', '1024']),
 }
 
-# The commands that search in the rows after a text.
-SEARCHING = ('window', 'rules')
+# The questions that are answered by a search in the rows after a text.
+SEARCHING = ('window', 'at', 'rules')
 
 
 class Row(NamedTuple):
-    """A command, and the text that it reads."""
-    command: str
+    """A question, and the text that it is asked of."""
+    question: str
     text: str
 
     @property
     def name(self) -> str:
-        return f'{self.command}-{self.text}'
+        return f'{self.question}-{self.text}'
 
     @property
     def base(self) -> Optional[Row]:
         """The row beyond which this one is counted."""
-        if self.command in SEARCHING:
+        if self.question in SEARCHING:
             return Row('follow', self.text)
-        return None if self.text == 'empty' else Row(self.command, 'empty')
+        return None if self.text == 'empty' else Row(self.question, 'empty')
 
     @property
     def words(self) -> list[str]:
-        return [self.command, 'net', text_name(self.text), *WORDS[self.command], PENALTY]
+        command, words = QUESTIONS[self.question]
+        return [command, 'net', text_name(self.text), *words, PENALTY]
 
 
-ROWS = [Row(command, text) for command in WORDS for text in FEEDS if command not in SEARCHING or text != 'empty']
+ROWS = [Row(question, text) for question in QUESTIONS for text in FEEDS if question not in SEARCHING or text != 'empty']
 
 
 class Figures(NamedTuple):
@@ -93,18 +98,23 @@ def text_name(text: str) -> str:
 
 
 def rows_named(said: str) -> list[Row]:
-    """Rows by their names, or by their commands, with commas between."""
+    """Rows by their names, or by their questions, with commas between."""
     names = said.split(',')
     for name in names:
-        if name not in WORDS and all(name != row.name for row in ROWS):
-            raise argparse.ArgumentTypeError(f'"{name}" is neither a row nor a command, such as check-delays or check')
-    return [row for row in ROWS if row.command in names or row.name in names]
+        if name not in QUESTIONS and all(name != row.name for row in ROWS):
+            raise argparse.ArgumentTypeError(f'"{name}" is neither a row nor a question, such as check-delays or check')
+    return [row for row in ROWS if row.question in names or row.name in names]
 
 
 def with_bases(rows: Sequence[Row]) -> list[Row]:
-    """These rows, and those beyond which they are counted."""
-    bases = {row.base for row in rows}
-    return [row for row in ROWS if row in rows or row in bases]
+    """These rows, and those beyond which they are counted, and so on."""
+    wanted: set[Row] = set()
+    for row in rows:
+        one: Optional[Row] = row
+        while one is not None:
+            wanted.add(one)
+            one = one.base
+    return [row for row in ROWS if row in wanted]
 
 
 def taken(program: str, folder: str, row: Row) -> Measured:
@@ -170,7 +180,7 @@ def arguments() -> argparse.Namespace:
     words = command_line(__doc__)
     words.add_argument('dispatcher', metavar='DISPATCHER', type=whole_path)
     words.add_argument('--against', metavar='PROGRAM', type=whole_path, help='a second program, in the same run')
-    words.add_argument('--only', metavar='ROW,..', type=rows_named, default=ROWS, help='these rows, or all of these commands')
+    words.add_argument('--only', metavar='ROW,..', type=rows_named, default=ROWS, help='these rows, or all of these questions')
     words.add_argument('--trains', type=whole_between(2, TRAINS), default=TRAINS, help='how many trains the day has (%(default)s)')
     words.add_argument('--repeats', type=whole_between(1, 1000), default=REPEATS, help='how often each row is timed (%(default)s)')
     return words.parse_args()

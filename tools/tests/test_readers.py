@@ -18,13 +18,13 @@ CHECK, EMPTY, RULES, FOLLOW = Row('check', 'mixed'), Row('check', 'empty'), Row(
 class Rows(unittest.TestCase):
     def test_names(self) -> None:
         self.assertEqual(rows_named('check-mixed'), [CHECK])
-        self.assertEqual([row.text for row in rows_named('rules')], ['delays', 'mixed', 'plans'])
+        self.assertEqual([row.name for row in rows_named('at')], ['at-delays', 'at-mixed', 'at-plans'])
         for name in 'rules-empty', 'run', '':
             with self.assertRaises(argparse.ArgumentTypeError):
                 rows_named(name)
 
     def test_bases(self) -> None:
-        self.assertEqual(with_bases([CHECK, RULES]), [EMPTY, CHECK, FOLLOW, RULES])
+        self.assertEqual(with_bases([RULES, CHECK]), [EMPTY, CHECK, Row('follow', 'empty'), FOLLOW, RULES])
         self.assertIsNone(EMPTY.base)
 
 
