@@ -1,7 +1,7 @@
 #!/usr/bin/env python3
 """Times plans that are searched by several workers: python3 bench/workers.py DISPATCHER [TRAINS ..]
 
-For each number of trains (200, 500 and 2,000 where none is given) the day of bench/day.py with number 7, its 500 delays, and
+For each number of trains (40, 200, 500 and 2,000 where none is given) the day of bench/day.py with number 7, its 500 delays, and
 `plan 16384` behind them are run with 1, 2 and 4 workers, and the delays alone with one. All run in turn, nine times, and the least
 time by the clock counts, less that of the delays alone. Of 2,000 trains two workers take at most 0.7 and four at most 0.5 of the time
 of one. The text of several workers is that of one. What takes longer or prints another text is marked, and the status is then 1. Run it
@@ -20,7 +20,7 @@ from day import write_day
 from plans import plan_of, write
 
 NUMBER = 7
-TRAINS = (200, 500, 2_000)
+TRAINS = (40, 200, 500, 2_000)
 WORKERS = (1, 2, 4)
 REPEATS = 9
 RATIOS = {2: 0.7, 4: 0.5}

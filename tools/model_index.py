@@ -96,7 +96,8 @@ def index_of(page: str, found: dict[str, list[str]]) -> tuple[list[str], list[st
                     faults.append(f'line {row.line}: {name} stands in {place}')
     for name in re.findall(r'`([A-Z]\w+)`', page):
         if name not in places and name in found:
-            places[name] = {found[name][0]}
+            # (what a crate of cases calls so is not meant)
+            places[name] = {min(found[name], key=lambda place: '_cases/' in place)}
     lines = ['Where each name of this page is defined: a file of the folder `specs/` of a crate, or one of its code. Made by',
              '`python3 tools/model_index.py`.']
     for letter in sorted({name[0].upper() for name in places}):
