@@ -22,7 +22,7 @@ pub fn grown_feeds_are_not_refused<S: Store, T: Growing>()
     ensures { IsComplete S.tells S.seen S.shown S.may_leave S.faults T.given T.faults }
 {}
 
-/// Between two rounds of a watch its logs answer what its feeds have given.
+/// Between two rounds of a watch each log answers the due lines of a front of what its feed has given.
 pub fn rounds_answer_feeds<T: Growing>()
     ensures { RoundsAnswer T.given }
 {}

@@ -10,10 +10,11 @@
 //! the first one of that life. [`refused_for_room_or_feeds`]: a store that was found so is refused for want of room, or for a feed that
 //! has another line than was answered, and for nothing else.
 //!
-//! [`grown_feeds_are_not_refused`]: let the last book of a life answer what its feeds had given, and let a crash have left any moment of
-//! that life. Then what is left is refused for want of room, or for a feed that does not give again all that it had given; where it
-//! gives a front of that, for a line that does not come. [`rounds_answer_feeds`]: between two rounds the book of a watch answers what
-//! its feeds have given. At its end a day does so by its own clause.
+//! [`grown_feeds_are_not_refused`]: let each log of the last book of a life answer the due lines of a front of what its feed had given,
+//! and let a crash have left any moment of that life. Then what is left is refused for want of room, or for a feed that does not give
+//! again all that it had given; where it gives a front of that, for a line that does not come. [`rounds_answer_feeds`]: between two
+//! rounds each log of a watch's book answers the due lines of a front of what its feed has given. At its end a day does so by its own
+//! clause.
 //!
 //! [`texts_are_refused_for_room`]: the text of a store whose journal holds a true book, with an end that a crash may leave, is refused
 //! for want of room, where its files are not, and for nothing else.

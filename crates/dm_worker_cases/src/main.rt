@@ -4,9 +4,10 @@
 //! expanded by hands of one word, with an evaluator and without, and this plan is searched by 1, 2 and 16 workers; on a
 //! generated day of 100 trains 16 workers search 50 times. Of two workers one is held up by a gate until the other has stolen a
 //! node of it. Two days on which more than 64 choices are violated at the root are planned by 1, 2 and 4 workers, who expand the
-//! tree from their deques, and each of whom passes the gate as it starts and as it ends. What is due was worked out by hand, and
-//! holds however the threads take turns. For each case it prints `NAME ok`, or after how many steps it came out otherwise. It
-//! stands on dm_workers for what it tries and on dm_samples for networks, and promises nothing.
+//! tree from their deques, and each of whom passes the gate as it starts and as it ends. Of the late one of these days the plan by
+//! several workers is compared with that by one. All else that is due was worked out by hand, and holds however the threads take
+//! turns. For each case it prints `NAME ok`, or after how many steps it came out otherwise. It stands on dm_workers for what it
+//! tries and on dm_samples for networks, and promises nothing.
 #![tactic(auto)]
 
 mod crowded;
