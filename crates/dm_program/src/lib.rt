@@ -1,11 +1,9 @@
 //! The top call: what the words of a command line ask for, from files and feeds to the text that is written.
 //!
-//! It stands on dm_words for words, on dm_input for files, on dm_crew for feeds that are answered at once in rounds, on
-//! dm_workers for plans, on dm_report for the text, on dm_summary for generated days, on dm_check for texts that are checked, on
-//! dm_journal for the journals of texts, and on dm_outlook, dm_ruling and dm_journey for what is asked of them. [`dispatch`]
-//! promises in `specs/Headline` what a run prints, in `specs/Generated` what a generated day does, in `specs/Checked` what is
-//! printed of a text that is checked, in `specs/Answers` what is printed of what is asked of a journal, and in `specs/Ends` why
-//! it ends otherwise.
+//! It stands on dm_commands for what each command does and for the definitions that its clauses name, and on dm_workers for the
+//! search of plans, which it hands to dm_commands. [`dispatch`] promises in `specs/Headline` of dm_commands what a run prints, in
+//! `specs/Generated` what a generated day does, in `specs/Checked` what is printed of a text that is checked, in `specs/Answers` what
+//! is printed of what is asked of a journal, and in `specs/Ends` why it ends otherwise.
 //!
 //! # What is promised
 //!
@@ -19,7 +17,7 @@
 //! version 2, of a true run: its history is legal, every log is true of it, every entry is named by exactly one accepted line,
 //! the times are the least timetable after all entries, and the cost is theirs.
 //!
-//! Of the boards of the list (`ShowRun`; clauses name it [`Ending`], by its one ghost member `ends`): each that no note of the
+//! Of the boards of the list (`ShowRun`; clauses name it `Ending`, by its one ghost member `ends`): each that no note of the
 //! text names shows these times of its stop, where it told at first what it shows; each note has the stop of its place and names
 //! a board whose count has risen and which was not sound for the network; a call that ends without a run, but for want of memory,
 //! leaves all boards as they were.
@@ -64,23 +62,7 @@
 //! boards as they were).
 #![tactic(auto)]
 
-mod checking;
-mod ending;
-mod ends;
-mod feeds;
-mod follow;
-mod generate;
-mod journey;
-mod means;
-mod print;
-mod queries;
-mod ruling;
-mod run;
-mod status;
 mod top;
-mod verdicts;
-mod window;
 
-pub use ending::{BoardList, Ending};
-pub use status::Status;
+pub use dm_commands::{BoardList, Ending, Status};
 pub use top::dispatch;

@@ -1,33 +1,28 @@
 //! The top call.
-ghost use Rattle.std.specs.Prelude.{◌≡◌, ◌⊎◌, ◌≤◌, ℕ, List, Ok, Err, IsSome, length, map, string_bytes, vec_len};
+ghost use Rattle.std.specs.Prelude.{◌≡◌, ◌⊎◌, ◌≤◌, ℕ, List, Ok, Err, IfOk, IsSome, length, map, string_bytes, vec_len};
+ghost use Rattle.std.specs.Thread.{IsSync};
 ghost use Rattle.dm_base.specs.declared.limits.TheConstants.{BOARDS, TEXT};
 ghost use Rattle.dm_outside.specs.Faults.{HasRisen};
 ghost use Rattle.dm_input.specs.declared.flaws.InputFlaw.{InputFlaw as AFlaw};
 ghost use Rattle.dm_input.specs.Input.{Opening, OpeningAnswer, IsHeld};
 ghost use Rattle.dm_input.specs.Stops.{IsKept, IsLong};
-ghost use Rattle.dm_words.specs.Asked.{command_of};
 ghost use Rattle.dm_words.specs.Words.{Asks, AsksNothing, CheckAsked, CheckOf, FilesAsked, GenAsked, GenOf, QueryAsked, QueryOf, RunAsked, RunOf};
 ghost use Rattle.dm_cert.specs.Runs.{IsRunText};
 ghost use Rattle.dm_check.specs.declared.verdicts.Verdict.{Verdict};
 ghost use Rattle.dm_check.specs.FalseRecords.{IsVerdict};
-ghost use Rattle.dm_program.specs.Answers.{IsAnswerAt};
-ghost use Rattle.dm_program.specs.Commands.{AsksAbout, AsksOver};
-ghost use Rattle.dm_program.specs.Ends.{IsDue, Writes, FailsToWrite, WantsMemory, AsksNoRun, EndsAnswered, EndsAt, EndsTold, AreSound, AreShort, IsSoundFor, Ends};
-ghost use Rattle.dm_program.specs.Verdicts.{verdict_line, verdict_status, long_text_line};
-ghost use Rattle.dm_program.specs.Inside.Stages.{IsWithin};
+ghost use Rattle.dm_commands.specs.Answers.{IsAnswerAt};
+ghost use Rattle.dm_commands.specs.Commands.{AsksAbout, AsksOver};
+ghost use Rattle.dm_commands.specs.Ends.{IsDue, Writes, FailsToWrite, WantsMemory, AsksNoRun, EndsAnswered, EndsAt, EndsTold, AreSound, AreShort, IsSoundFor};
+ghost use Rattle.dm_commands.specs.Searching.{FindsPlan, MaySearch};
+ghost use Rattle.dm_commands.specs.Verdicts.{verdict_line, verdict_status, long_text_line};
 
-use crate::checking::check_text;
-use crate::ending::{BoardList, Ending};
-use crate::ends::end_usage;
-use crate::generate::generate;
-use crate::means::Means;
-use crate::queries::answer_query;
-use crate::run::run_feeds;
-use crate::status::Status;
-use dm_desk::Hold;
+use dm_commands::{BoardList, Ending, Means, Status, dispatch_with};
+use dm_network::Network;
 use dm_outside::{Board, Gate, Shelf, Sink};
-use dm_words::{CommandWords, read_words};
-use std::alloc::Global;
+use dm_rows::Snapshot;
+use dm_tree::Plan;
+use dm_workers::search;
+use std::alloc::{AllocError, Global};
 use std::sync::Wait;
 use std::thread::Threads;
 
@@ -141,53 +136,23 @@ pub fn dispatch<R: Threads + Wait + Sync, H: Shelf, K: Sink, G: Gate>(
     ensures later { K.faults out.old ≤ K.faults out.new }
     ensures boards_kept { map place boards.new.items ≡ map place boards.old.items }
 {
-    run(&Means { rt, alloc, gate }, words, shelf, boards, out)
-}
-
-/// Does what the words ask.
-fn run<R: Threads + Wait + Sync, H: Shelf, K: Sink, G: Hold + Sync>(
-    means: &Means<'_, R, G>,
-    words: &[String],
-    shelf: &mut H,
-    boards: &mut Vec<Box<dyn Board>>,
-    out: &mut K,
-) -> Status
-    requires few_boards { vec_len boards.old ≤ BOARDS }
-    ensures ends { Ends K.taken K.faults (H.files shelf.old) (H.is_sound shelf.old) (⟦<BoardList as Ending>⟧.ends boards.old boards.new)
-        (map string_bytes words.now) out.old out.new result }
-    ensures kept { IsKept H.files H.is_sound shelf.old shelf.new }
-    ensures later { K.faults out.old ≤ K.faults out.new }
-    ensures stops { map place boards.new.items ≡ map place boards.old.items }
-    ensures left { AsksNoRun (map string_bytes words.now) → boards.new.items ≡ boards.old.items }
-{
-    match read_words(words) {
-        Some(command) => do_command(means, &command, shelf, boards, out),
-        None => end_usage(out),
-    }
-}
-
-/// Does what a command asks.
-fn do_command<R: Threads + Wait + Sync, H: Shelf, K: Sink, G: Hold + Sync>(
-    means: &Means<'_, R, G>,
-    command: &CommandWords<'_>,
-    shelf: &mut H,
-    boards: &mut Vec<Box<dyn Board>>,
-    out: &mut K,
-) -> Status
-    requires within { IsWithin (command_of command.now) }
-    requires few_boards { vec_len boards.old ≤ BOARDS }
-    ensures ends { (words : List (List ℕ)) → Asks words (command_of command.now)
-        → Ends K.taken K.faults (H.files shelf.old) (H.is_sound shelf.old) (⟦<BoardList as Ending>⟧.ends boards.old boards.new)
-        words out.old out.new result }
-    ensures kept { IsKept H.files H.is_sound shelf.old shelf.new }
-    ensures later { K.faults out.old ≤ K.faults out.new }
-    ensures stops { map place boards.new.items ≡ map place boards.old.items }
-    ensures left { ((asked : RunAsked) → command_of command.now ≡ RunOf asked → ⊥) → boards.new.items ≡ boards.old.items }
-{
-    match command {
-        CommandWords::Run(run) => run_feeds(means, run, shelf, boards, out),
-        CommandWords::Check(check) => check_text(means.alloc, check, shelf, out),
-        CommandWords::Gen(day) => generate(means.alloc, day, out),
-        CommandWords::Query(query) => answer_query(means, query, shelf, out),
-    }
+    let search = |net: &Network, penalty: u64, snapshot: &Snapshot, budget: u64, workers: u32| -> Result<
+        Plan,
+        AllocError,
+    >
+        requires { IsSync R.row × IsSync G.row × MaySearch net.now penalty snapshot.now budget workers }
+        ensures { IfOk result (FindsPlan net.now penalty snapshot.now budget) }
+    { search(rt, alloc, net, penalty, snapshot, budget, workers, gate) };
+    dispatch_with(
+        &Means {
+            rt,
+            alloc,
+            search: &search,
+            gate,
+        },
+        words,
+        shelf,
+        boards,
+        out,
+    )
 }

@@ -1,0 +1,15 @@
+-- What becomes of the boards of a run that is answered.
+use Rattle.std.proofs.Common.{◌≡◌, ℕ, List, length, Option, Some, sym, subst}
+use Rattle.dm_network.specs.Net.{Net}
+use Rattle.dm_cert.specs.declared.notes.Note.{Note}
+use Rattle.dm_cert.specs.declared.replies.FeedLog.{FeedLog}
+use Rattle.dm_publish.specs.Since.{AreUpSince}
+use Rattle.dm_table.specs.Value.{TableValue}
+use Rattle.dm_crew.specs.Boards.{AreShown}
+use Rattle.dm_commands.specs.Boards.{EndBoards}
+use Rattle.dm_commands.specs.Inside.Stages.{run_in}
+
+pub end_shown : {B : Type 0} (place : B → ℕ) (times : B → Option (ℕ → Option ℕ)) (faults : B → ℕ) (is_sound : B → ℕ → Type 0) (net : Net) (table : TableValue) (logs : List FeedLog) (notes : List Note) (old new : List B) → table.network ≡ net
+    → AreShown place times faults is_sound net table.times (length table.history) notes old new → EndBoards place times faults is_sound old new (Some (run_in table logs notes))
+end_shown place times faults is_sound net table logs notes old new is s =
+    subst (λ (n : Net). AreUpSince place times faults is_sound n table.times notes old new) (sym is) s.up

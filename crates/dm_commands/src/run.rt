@@ -1,0 +1,138 @@
+//! A run, from its words to the text of its answered feeds.
+
+ghost use Rattle.std.specs.Prelude.{◌≡◌, ◌<◌, ◌≤◌, ℕ, List, length, map, vec_len, IfOk};
+ghost use Rattle.dm_base.specs.declared.limits.TheConstants.{BOARDS, FEEDS, PENALTY, WORKERS};
+ghost use Rattle.dm_rows.specs.Rows.{IsSized};
+ghost use Rattle.dm_crew.specs.AtOnce.{AnswersDay};
+ghost use Rattle.dm_crew.specs.Boards.{AreShown};
+ghost use Rattle.dm_input.specs.Stops.{IsKept};
+ghost use Rattle.dm_words.specs.Asked.{run_of};
+ghost use Rattle.dm_words.specs.Words.{Asks, RunOf};
+ghost use Rattle.dm_commands.specs.Ends.{Ends};
+ghost use Rattle.dm_commands.specs.Searching.{FindsPlan, MaySearch, Searches};
+ghost use Rattle.dm_commands.specs.Inside.Stages.{AreWithin, IsAtStart};
+
+use crate::ending::{BoardList, Ending};
+use crate::ends::end_stopped;
+use crate::feeds::{names_of, open_feeds};
+use crate::means::Means;
+use crate::print::end_run;
+use crate::status::Status;
+use dm_crew::{AnsweredDay, answer_at_once};
+use dm_desk::Hold;
+use dm_input::{Opened, read_opening};
+use dm_network::Network;
+use dm_outside::{Board, Shelf, Sink, Source};
+use dm_rows::{Rows, Snapshot};
+use dm_tree::Plan;
+use dm_words::RunWords;
+use std::alloc::AllocError;
+use std::sync::Wait;
+use std::thread::Threads;
+
+/// Reads the files of a run, opens and answers its feeds, shows boards the times, and prints it.
+pub fn run_feeds<
+    R: Threads + Wait + Sync,
+    F: Fn(&Network, u64, &Snapshot, u64, u32) -> Result<Plan, AllocError> + Sync,
+    G: Hold + Sync,
+    H: Shelf,
+    K: Sink,
+>(
+    means: &Means<'_, '_, '_, R, F, G>,
+    run: &RunWords<'_>,
+    shelf: &mut H,
+    boards: &mut Vec<Box<dyn Board>>,
+    out: &mut K,
+) -> Status
+    requires searches { Searches (F.pre means.now.search.now) (F.post means.now.search.now) }
+    requires within { AreWithin (run_of run.now) }
+    requires few_boards { vec_len boards.old ≤ BOARDS }
+    ensures ends { (words : List (List ℕ)) → Asks words (RunOf (run_of run.now))
+        → Ends K.taken K.faults (H.files shelf.old) (H.is_sound shelf.old) (⟦<BoardList as Ending>⟧.ends boards.old boards.new)
+        words out.old out.new result }
+    ensures kept { IsKept H.files H.is_sound shelf.old shelf.new }
+    ensures later { K.faults out.old ≤ K.faults out.new }
+    ensures stops { map place boards.new.items ≡ map place boards.old.items }
+{
+    let opened = match read_opening(means.alloc, shelf, &run.files) {
+        Ok(opened) => opened,
+        Err(stop) => return end_stopped(&run.files, &stop, out),
+    };
+    let Opened { net, rows } = opened;
+    let Ok(names) = names_of(means.alloc, run.feeds) else {
+        return Status::NoMemory;
+    };
+    let Ok(feeds) = open_feeds(means.alloc, shelf, names.as_slice()) else {
+        return Status::NoMemory;
+    };
+    let answered = answer_run(
+        means,
+        &net,
+        rows,
+        run.files.penalty,
+        run.files.plans,
+        feeds,
+        run.batch as u32,
+        run.workers,
+        boards,
+    );
+    match answered {
+        Ok(answered) => end_run(&answered, out),
+        Err(AllocError) => Status::NoMemory,
+    }
+}
+
+/// Answers feeds over a network in rounds, from the rows before any message. In a round each feed has a thread of its own where
+/// two or more are still read and one can be made; else the caller answers it. Boards are shown the times before the first round
+/// and after each. Each feed may have so many plans. So many workers search for each plan.
+pub fn answer_run<
+    'n,
+    R: Threads + Wait + Sync,
+    F: Fn(&Network, u64, &Snapshot, u64, u32) -> Result<Plan, AllocError> + Sync,
+    G: Hold + Sync,
+    S: Source + Send + Drop,
+>(
+    means: &Means<'_, '_, '_, R, F, G>,
+    net: &'n Network,
+    rows: Rows,
+    penalty: u64,
+    plans: u32,
+    feeds: Vec<Option<S>>,
+    batch: u32,
+    workers: u32,
+    boards: &mut Vec<Box<dyn Board>>,
+) -> Result<AnsweredDay<'n>, AllocError>
+    requires searches { Searches (F.pre means.now.search.now) (F.post means.now.search.now) }
+    requires sized { IsSized net.now rows }
+    requires start { IsAtStart net.now rows }
+    requires penalty { penalty ≤ PENALTY }
+    requires few { length feeds.items ≤ FEEDS }
+    requires some { 0 < batch }
+    requires workers { (1 ≤ workers) × (workers ≤ WORKERS) }
+    requires few_boards { vec_len boards.old ≤ BOARDS }
+    ensures answers { IfOk result (λ day. AnswersDay S.left S.is_sound net.now rows penalty plans feeds.items batch day.table
+        day.logs.items) }
+    ensures shown { IfOk result (λ day. AreShown place times (λ b. (Board-box b).faults b.value) (λ b. (Board-box b).is_sound b.value)
+        net.now day.table.times (length day.table.history) day.publisher.notes boards.old.items boards.new.items) }
+    ensures stops { map place boards.new.items ≡ map place boards.old.items }
+{
+    net.reveal();
+    let planner = |snapshot: &Snapshot, budget: u64| -> Result<Plan, AllocError>
+        requires { Searches (F.pre means.now.search.now) (F.post means.now.search.now)
+            × MaySearch net.now penalty snapshot.now budget workers }
+        ensures { IfOk result (FindsPlan net.entry.now penalty snapshot.now budget) }
+    { (means.search)(net, penalty, snapshot, budget, workers) };
+    answer_at_once(
+        means.rt,
+        means.alloc,
+        net,
+        rows,
+        penalty,
+        plans,
+        feeds,
+        &planner,
+        means.gate,
+        batch,
+        boards,
+    )
+}

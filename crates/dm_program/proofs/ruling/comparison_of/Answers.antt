@@ -1,9 +1,0 @@
-use Rattle.dm_program.proofs.ruling.comparison_of.Goals as goal
-
-pub compare-requires-clause-no_cycle : goal.compare-requires-clause-no_cycle
-compare-requires-clause-no_cycle g c = rw (c.network-net.ensures, c.in_ok-snapshot.ensures.rows) c.reveal.ensures.table.no_cycle
-
-pub returns : goal.returns
-returns g c =
-    rw (c.network-net.ensures, c.in_ok-snapshot.ensures.rows, c.penalty-penalty.ensures, c.rule_named-rule.ensures) at
-    (c.compare.ensures.compares c.args.asked.budget c.in_ok-plan.ensures.plan)
