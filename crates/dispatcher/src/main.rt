@@ -1,11 +1,14 @@
 //! The dispatcher's server: keeps the timetable of a railway network up to date while feeds report delays.
 //!
-//! It makes the real shelf, sink and gate, and a board in the file `DIR/board-S.txt` for each stop S that the words give. Where the
-//! words ask for the live server it opens the feeds and the folder of the store and calls `dm_serve::serve_day`, or
-//! `dm_store_text::text_of_store`; else it calls `dm_program::dispatch` with the words. It says on the standard error what went amiss,
-//! and of a server what it found as it began, and ends with the status. It stands on dm_program, dm_serve and dm_store_text for these
-//! calls, on dm_store and dm_tail for the real store and feeds, on dm_hints for what is said, on dm_words for what the words name, and
-//! on dm_boards and dm_outside for the other real forms.
+//! It stands on dm_program, dm_serve and dm_store_text for the calls that it makes, on dm_store and dm_tail for the real store
+//! and feeds, on dm_hints for what is said, on dm_words for what the words name, and on dm_boards and dm_outside for the other
+//! real forms.
+//!
+//! It makes the real shelf, sink and gate. For each stop S that the words give, it makes a board in the file `DIR/board-S.txt`.
+//! Where the words ask for the live server, it opens the feeds and the folder of the store and calls `dm_serve::serve_day`. Where
+//! they ask for the text of a store, it calls `dm_store_text::text_of_store`. Otherwise it calls `dm_program::dispatch` with the
+//! words. It says on the standard error what went wrong, and for a server also what it found at its start. It ends with the
+//! status.
 #![tactic(auto)]
 
 ghost use Rattle.std.specs.Prelude.{◌≤◌, vec_len, IfOk};

@@ -1,14 +1,15 @@
 //! What the journal of a live server holds: a history, and the log of each feed, which only grow.
 //!
 //! It stands on dm_cert for true logs, on dm_store for the blocks of a journal and on dm_tape for the texts of rounds. It has
-//! definitions and laws alone: `specs/Books` says when a book is true, in which blocks it stands, and what a crash must leave
-//! (`IsSafe`); `specs/Lives` says what lives are that go on from what the one before left.
+//! definitions and laws alone. `specs/Books` says when a book is true, in which blocks it stands, and what a crash must leave
+//! (`IsSafe`). `specs/Lives` says what lives are: each goes on from what the one before left.
 //!
 //! # What is promised
 //!
-//! Laws: `books_are_one` (logs that are true are those of one history, so a journal holds one true book at most), and
-//! `lives_are_one` (along lives, each begun with a true book of the blocks that the one before left, the book only grows, and what
-//! any of them showed is a front of the last one's logs).
+//! `books_are_one`: true logs are those of one history, so a journal holds at most one true book.
+//!
+//! `lives_are_one`: along lives, each begun with a true book of the blocks that the one before left, the book only grows. What
+//! any of these lives showed is a front of the last one's logs.
 #![tactic(auto)]
 
 pub mod laws;

@@ -1,8 +1,10 @@
 //! Calls that no run makes, or none directly.
 //!
-//! On a connection at one station and on one where a train turns around an order is made, entries are kept, times are published
-//! on boards and written. For each case it prints `NAME ok`, or after how many steps it came out otherwise. What is due was worked
-//! out by hand. It stands on the crates that it calls and on dm_samples for networks, and promises nothing.
+//! The cases use a connection at one station, and one where a train turns around. There an order is made, entries are kept,
+//! and times are published on boards and written. What is due was worked out by hand. For each case the program prints
+//! `NAME ok`, or after how many steps it came out otherwise.
+//!
+//! It stands on the crates that it calls and on dm_samples for networks, and promises nothing.
 #![tactic(auto)]
 
 mod day;

@@ -1,4 +1,4 @@
-//! Feeds that are compared with what was answered of them.
+//! Feeds that are compared with their logs.
 ghost use Rattle.std.specs.Prelude.{◌≡◌, ◌↔◌, ◌+◌, ◌^◌, ◌<◌, ◌≤◌, ℕ, false, length, All, IfErr, IfOk, IsTrue, OnOk};
 ghost use Rattle.dm_feed.specs.DueItems.{item as due};
 ghost use Rattle.dm_feed.specs.Feeds.{IsUnended};

@@ -1,20 +1,22 @@
-//! Feeds that go on with what was answered of them.
+//! Feeds that go on after the last line that was answered.
 //!
-//! It stands on dm_tail for a feed that grows and its log, on dm_feed for lines, on dm_cert for the items that answer them and on
-//! dm_desk for what a log is true of. A server that begins anew has the log of each feed from its journal, and the feed itself from
-//! its first byte. Each line of the feed is heard again and compared with the item that answers it, so nothing is answered twice.
+//! It stands on dm_tail for a feed that grows and its log, on dm_feed for lines, on dm_cert for the items that answer them, and
+//! on dm_desk for what a log is true of.
+//!
+//! A server that starts anew has the log of each feed from its journal, and reads the feed itself again from its first byte. It
+//! hears each line of the feed again and compares it with the item that answers it. So nothing is answered twice.
 //!
 //! # What is promised
 //!
-//! [`catch_up`] takes a feed of which nothing was read, with its log.
+//! [`catch_up`] takes a feed with its log. Nothing was read of the feed before.
 //!
-//! - At Ok, whole lines were passed, and the due ones among them are those that the log answers, each once and in order. What stands
-//!   behind them is pending, and the feed is ready for a round. Over every desk that the log is true of, the feed goes on from there.
+//! - At Ok, whole lines were passed. The due ones among them are those that the log answers, each once and in order. What follows
+//!   them is pending, and the feed is ready for a round. Over every desk that the log is true of, the feed goes on from there.
 //!   The log and the number of its items that were shown are as before.
-//! - `OutOfMemory`: memory was wanted.
-//! - `Fault`: a read has failed, and the feed's count of faults has risen.
-//! - `Changed(line)`: all due lines before are as they were answered. Then either the next due line is another than the next item's,
-//!   and `line` is the smaller number of both; or no further line ends, and `line` is the next item's.
+//! - `OutOfMemory`: want of memory.
+//! - `Fault`: a read failed, and the feed's count of faults has risen.
+//! - `Changed(line)`: all earlier due lines are as they were answered. Either the next due line differs from the next item's, and
+//!   `line` is the smaller of the two numbers. Or no further line ends, and `line` is the next item's.
 //!
 //! A feed's count of faults never falls.
 #![tactic(auto)]

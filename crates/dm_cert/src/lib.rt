@@ -1,28 +1,29 @@
-//! What feeds are answered, what their logs and the journal are, and how plans and runs are spelled.
+//! The answers to feeds, their logs, the journal, and the spelling of plans and runs.
 //!
-//! It stands on dm_feed for lines and on dm_tree for plans. A [`FeedLog`] is what one feed was answered, line by line; a
-//! [`Note`] is a board that was dropped. [`print_plan`] prints a plan; how runs are spelled, and when a printed run is true,
-//! stands in `specs/`. There too stand what a true answer, a true log and a feed's own log are, and one dispatcher that
-//! answers the items of feeds in some order: true logs are exactly what it reaches ([`laws`]).
+//! It stands on dm_feed for lines and on dm_tree for plans. A [`FeedLog`] holds the answers to one feed, line by line. A [`Note`]
+//! is a board that was dropped.
 //!
 //! # What is promised
 //!
-//! What true answers, true logs, true runs and their texts are. `print_plan`, and `put_plan` behind other text: exactly the
-//! plan's spelling in version 2, or, where a write failed, a proper front of it, or of what the page held and it behind; no
-//! memory. `put_choices`, `put_number` and `put_numbers` likewise: the lines of choices, and words with one or two numbers.
+//! `specs/` says what true answers, true logs, a feed's own log and true runs are, and what their texts are. It says how runs are
+//! spelled, and when a printed run is true. It also defines one dispatcher that answers the items of feeds in some order.
 //!
-//! `read_plan` reads the plan whose text bytes begin with, in versions 1 and 2, and tells how long that text is: `reads`
-//! (the plan, or the first line that is cut or misshapen, or that the lines show no whole tree), `ok` (a plan that is
-//! answered stands there), `exactly` (a plan whose text stands there is answered, unless memory runs out).
+//! [`print_plan`] prints exactly the plan's spelling in version 2. `put_plan` does so behind other text. Where a write failed,
+//! the sink took a proper front: of the spelling, or for `put_plan` of what the page held and the spelling behind it. Neither
+//! takes memory. `put_choices`, `put_number` and `put_numbers` promise the same of other texts: the lines of choices, and words
+//! with one or two numbers.
 //!
-//! Laws: `true_logs_are_one_dispatchers` (a legal history with true logs of first due items is exactly what some schedule
-//! of one dispatcher reaches, for any number of feeds and in both versions); `logs_stay_true` (a true log stays true as the
-//! history grows); `due_lines_rise`, `logs_answer_first` (the feeds of real bytes are such feeds); `leaves_are_the_trees`,
-//! `plans_have_own_texts` (what is printed of a plan determines it, but for its entry, whatever stands behind it); and
-//! three texts of one network that were worked out by hand are the spellings of their runs, and the run with a plan is
-//! true.
+//! `read_plan` reads the plan at the front of bytes, in versions 1 and 2, and tells how long its text is. `reads`: it answers the
+//! plan, or the first line that is cut or misshapen, or that the lines show no whole tree. `ok`: a plan that is answered stands
+//! there. `exactly`: a plan whose text stands there is answered, unless memory runs out. `dispatch` does not call `read_plan`.
 //!
-//! `dispatch` does not call `read_plan`.
+//! The laws stand in [`laws`]. `true_logs_are_one_dispatchers`: a legal history with true logs of first due items is exactly what
+//! some schedule of one dispatcher reaches, for any number of feeds and in both versions. This law is for feeds whose due lines
+//! rise. `due_lines_rise` and `logs_answer_first`: the feeds of real bytes are such feeds, and their logs answer first due items.
+//! `logs_stay_true`: a true log stays true as the history grows. `leaves_are_the_trees`: the leaves that version 1 prints of a
+//! plan are those of its tree, each with its whole path. `plans_have_own_texts`: what is printed of a plan determines it, except
+//! for its entry, whatever stands behind it. Further laws: three texts of one network that were worked out by hand are the
+//! spellings of their runs, and the run with a plan is true.
 #![tactic(auto)]
 
 mod faults;

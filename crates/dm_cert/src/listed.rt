@@ -1,4 +1,4 @@
-//! Choices and nodes, of which a plan has one to a line: in print, and as lines are read.
+//! Choices and nodes, which a plan lists one to a line: how they are printed and read.
 ghost use Rattle.std.specs.Prelude.{List, ℕ, [], All, OnOk};
 ghost use Rattle.std.specs.List.{flat_map};
 ghost use Rattle.dm_outside.specs.Printing.{Prints};

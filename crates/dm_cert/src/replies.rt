@@ -1,4 +1,4 @@
-//! What feeds are answered, and their logs.
+//! The answers to feeds, and their logs.
 
 use dm_base::{Cost, Items, Secs};
 use dm_feed::{FeedStop, Line};

@@ -1,4 +1,4 @@
-//! A whole text.
+//! The check of a whole text.
 ghost use Rattle.std.specs.Prelude.{◌≡◌, ◌≤◌, [], length, IfOk};
 ghost use Rattle.dm_base.specs.declared.limits.TheConstants.{TEXT, PENALTY};
 ghost use Rattle.dm_rows.specs.Rows.{IsSized};

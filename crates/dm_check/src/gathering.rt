@@ -1,4 +1,4 @@
-//! What the answers of a text claim of rows, found before they are judged.
+//! The claims that the answers of a text make about rows, gathered before they are judged.
 ghost use Rattle.std.specs.Prelude.{◌≡◌, All, IfOk, IfSome};
 ghost use Rattle.dm_check_answers.specs.Claims.{IsSpelledAnswer};
 ghost use Rattle.dm_check_answers.specs.Judging.{IsRunSetting, value_of};

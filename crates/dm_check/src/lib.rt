@@ -1,25 +1,33 @@
-//! What is told of the text of a run: that it is good, or the first record that breaks its rule.
+//! The verdict on the text of a run: it is good, or one record is the first that breaks its rule.
 //!
-//! It stands on dm_check_answers for answers and on dm_check_plans for plans, on dm_cert for the texts and for what a true
-//! answer is, and on dm_text for the words in which a text is judged record by record; dm_records says how the line of each
-//! record is written, and reads it. `specs/FalseRecords` says what each record must say after those before it, and of which
-//! kind and at which line its fault is. [`check`] promises exactly what `specs/FalseRecords` tells of a text, and that the text is
-//! good exactly where it is that of a true run (`specs/Truth`). Where there are several logs, what their answers claim of rows is
+//! It stands on dm_check_answers for answers, on dm_check_plans for plans, and on dm_cert for the texts and for what a true
+//! answer is. It stands on dm_text for the words in which a text is judged record by record, and on dm_records, which says how
+//! the line of each record is written, and reads it.
+//!
+//! `specs/FalseRecords` says what each record must say after those before it, and the kind and the line of its fault.
+//! `specs/Truth` says what the verdict says of true runs. Where there are several logs, what their answers claim of rows is
 //! gathered and judged first, all claims in the order of their entries.
 //!
 //! # What is promised
 //!
-//! `check`: what is told of the text of a run, of either version: that it is good, with the numbers of its entries and
-//! plans, or the line and the kind of the first record that breaks its rule, exactly. It is good exactly where the text is, in one
-//! of the versions, that of a true run of the network from these rows at this penalty and this number of plans. Nothing is asked of
-//! the text but its size. What `good` does not say: that the logs hold the feeds' bytes, and that they keep to rounds.
+//! [`check`] gives exactly the verdict of `specs/FalseRecords` on the text of a run, of either version. Either the text is good,
+//! with the numbers of its entries and plans. Or the verdict is the line and the kind of the first record that breaks its rule.
+//! The text is good exactly where it is, in one of the versions, that of a true run (`specs/Truth`) of the network from these
+//! rows at this penalty and this number of plans. Nothing is asked of the text but its size. `good` does not say that the logs
+//! hold the feeds' bytes, nor that they keep to rounds.
 //!
-//! Laws: the empty text is cut at line 1; a good text is the spelling, in one of the versions, of the run that is told of
-//! it; of a place one thing alone is told about a plan; of a text one verdict alone holds (`verdicts_are_one`).
-//! `true_texts_are_good`: the text, in either version, of a true run over a network within the limits is good, with the
-//! numbers of its entries and plans, so `check` answers that or wants memory; the ids of events are below 2^32, as they are
-//! in memory. `good_texts_are_true`: a good text, over a network and rows at the start within the limits, is that of a true run
-//! of this network from these rows at this penalty. `run_texts_are_the_good_ones` is both.
+//! Laws:
+//!
+//! - The empty text is cut at line 1.
+//! - A good text is the spelling, in one of the versions, of the run that is told of it.
+//! - Only one thing is told about the plan at a place.
+//! - `verdicts_are_one`: only one verdict holds of a text.
+//! - `true_texts_are_good`: the text, in either version, of a true run over a network within the limits is good, with the numbers
+//!   of its entries and plans. So `check` answers that or wants memory. The law asks that the ids of events are below 2^32, as
+//!   they are in memory.
+//! - `good_texts_are_true`: a good text, over a network and rows at the start within the limits, is that of a true run of this
+//!   network from these rows at this penalty.
+//! - `run_texts_are_the_good_ones`: the two laws above together.
 #![tactic(auto)]
 
 mod checking;

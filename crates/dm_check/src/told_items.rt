@@ -1,4 +1,4 @@
-//! The items of a log, each true and in order behind those before it.
+//! The items of a log. Each is true, and in order after those before it.
 ghost use Rattle.std.specs.Prelude.{ℕ, ◌≡◌, ◌+◌, ◌<◌, ◌≤◌, List, length, Bool, true, Ok, IfOk};
 ghost use Rattle.dm_cert.specs.declared.limits.TheConstants.{PLANS};
 ghost use Rattle.dm_feed.specs.Lines.{IsSpelledLine};

@@ -1,4 +1,4 @@
-//! A plan in a log: its first line is an item's, and its block stands behind it.
+//! A plan in a log: the line of its item, followed by its block.
 ghost use Rattle.std.specs.Prelude.{◌≡◌, ◌≤◌, List, length, IfOk};
 ghost use Rattle.dm_cert.specs.PlanTexts.{IsVersion};
 ghost use Rattle.dm_cert.specs.declared.replies.LogItem.{LogItem};

@@ -1,4 +1,4 @@
-//! Records of a text that are one line, with the rule of each.
+//! Records of one line, each with its rule.
 ghost use Rattle.std.specs.Prelude.{ℕ, ◌≡◌, ◌<◌, ◌≤◌, List, length, codes};
 ghost use Rattle.dm_base.specs.declared.limits.TheConstants.{FEEDS, ENTRIES};
 ghost use Rattle.dm_rows.specs.Timetable.{IsLeast};

@@ -1,4 +1,4 @@
-//! What stands behind the logs: the notes of boards, the times and the cost.
+//! What follows the logs: the notes of boards, the times and the cost.
 ghost use Rattle.std.specs.Prelude.{ℕ, ◌≡◌, ◌<◌, List, length};
 ghost use Rattle.dm_rows.specs.Active.{HasNoCycle};
 ghost use Rattle.dm_rows.specs.Timetable.{IsLeast};

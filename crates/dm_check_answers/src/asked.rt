@@ -1,4 +1,4 @@
-//! What an answer answers.
+//! The line that is answered, with what stands before the answer.
 
 use crate::past::Past;
 use dm_feed::Line;

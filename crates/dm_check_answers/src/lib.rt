@@ -1,18 +1,22 @@
 //! Whether the answers of a log are true.
 //!
-//! It stands on dm_check_rows for what is claimed of rows, and on dm_records for what a text says. A [`Journal`] is what answers
-//! are judged by: the entries, and the [`RunSetting`] that they began with. A [`Replay`] goes over it, so that the rows at rising
-//! entry numbers cost one walk; it knows the verdicts on claims that were judged before. [`Past`] is what the next answer of a
-//! feed needs of the items before it, and [`Asked`] is the line that is answered, with that.
+//! It stands on dm_check_rows for what is claimed of rows, and on dm_records for what a text says.
+//!
+//! A [`Journal`] is what answers are judged by: the entries, and the [`RunSetting`] that they began with. A [`Replay`] goes over
+//! a journal, so that the rows at rising entry numbers cost one walk. It knows the verdicts on claims that were judged before.
+//! [`Past`] is what the next answer of a feed needs of the items before it. [`Asked`] is the line that is answered, with its
+//! `Past`.
 //!
 //! # What is promised
 //!
-//! Whether the answers of a feed's log are true, over `dm_check_rows`. A `Replay` is seen as its journal and as the number of
-//! the entry whose rows it holds; no call of it changes the journal. Its `is_true_answer` tells exactly which answers of one line
-//! are true; `go_to` and `rows` give the rows at an entry. `learn` judges what answers claim of rows ([`Answered`]) in the order of
-//! the entries, so that several logs cost one walk; an answer that claims the same is then told by what was found, and every other
-//! from the rows, as if nothing were known. That it is one walk is no clause. Memory is taken for the rows, for the admission of an
-//! `Adopt`, and for the claims.
+//! A `Replay` is seen as its journal and as the number of the entry whose rows it holds. No call of it changes the journal. Its
+//! `is_true_answer` tells exactly which answers of one line are true. `go_to` and `rows` give the rows at an entry.
+//!
+//! `learn` judges what answers claim of rows ([`Answered`]) in the order of the entries, so that several logs cost one walk. No
+//! clause says that it is one walk. An answer that makes the same claim is then told by the verdict that was found. Every other
+//! answer is told from the rows, as if nothing were known.
+//!
+//! Memory is taken for the rows, for the admission of an `Adopt`, and for the claims.
 #![tactic(auto)]
 
 mod adopting;

@@ -1,16 +1,20 @@
 //! Texts of runs with the verdicts that are due on them.
 //!
-//! It reads the file `cases`, a case a line: its name, which is that of a file under `texts`, the verdict that is due, the
-//! network, which is a folder under `networks`, the penalty, and, where it is not the standard one, how many plans a feed may
-//! have. Where `every front truncated` is due, each front of the text is to lack its next line; where `every byte judged` is,
-//! each byte is replaced by five others in turn, and what is due is a line for each byte in a file under `bytes`. For each case
-//! it prints `NAME ok`, or what is told of the text instead.
-//!
 //! It stands on dm_check for what it tries, and on dm_words and dm_input for the network and the start rows of a case. It
 //! promises nothing.
 //!
-//! What is due comes from the rules of run texts, worked out by hand; the files under `bytes` come from `bench/judge.py`, a
-//! reading of these rules in another language.
+//! It reads the file `cases`, one case a line: its name, the verdict that is due, its network and the penalty. Where a feed may
+//! have another number of plans than the standard one, the line gives that number too. The name is that of a file under `texts`,
+//! and the network is a folder under `networks`. Two verdicts ask for more than one check:
+//!
+//! - Where `every front truncated` is due, each front of the text must lack its next line.
+//! - Where `every byte judged` is due, each byte is replaced by five others in turn. A file under `bytes` has what is due: a line
+//!   for each byte.
+//!
+//! For each case it prints `NAME ok`, or what is told of the text instead.
+//!
+//! What is due comes from the rules of run texts, worked out by hand. The files under `bytes` come from `bench/judge.py`, which
+//! reads these rules in another language.
 #![tactic(auto)]
 
 mod case;

@@ -1,4 +1,4 @@
-//! Why a message is refused, beside why it is said to be.
+//! Why a message is refused, compared with why it is said to be.
 ghost use Rattle.std.specs.Prelude.{◌≡◌};
 ghost use Rattle.dm_check_rows.specs.Claims.{IsOfOneRow, Tells};
 ghost use Rattle.dm_records.specs.Readings.{reason_of};

@@ -1,4 +1,4 @@
-//! Which events are stale where times are those of other activities than are held.
+//! Which events are stale where the times are those of other activities than the held ones.
 ghost use Rattle.std.specs.Prelude.{ℕ, ◌≡◌, ◌<◌, length};
 ghost use Rattle.dm_check_times.specs.Inside.Beginning.{MarksHead, HasMarkedHeads};
 

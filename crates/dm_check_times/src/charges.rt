@@ -1,4 +1,4 @@
-//! What the penalty is charged for, and the weight of which it is taken at an activity.
+//! What the penalty is charged for, and the weight at an activity that it is multiplied by.
 ghost use Rattle.std.specs.Prelude.{◌≡◌, ◌<◌, ◌≤◌, ◌*◌, length};
 ghost use Rattle.dm_base.specs.declared.limits.TheConstants.{WEIGHT};
 ghost use Rattle.dm_rows.specs.Rows.{IsSized};

@@ -1,4 +1,4 @@
-//! What becomes of the boards that a call is given, by one name for clauses.
+//! What becomes of the boards that a call is given, under one name for clauses.
 ghost use Rattle.std.specs.Prelude.{Option};
 ghost use Rattle.dm_cert.specs.RunTexts.{Run};
 

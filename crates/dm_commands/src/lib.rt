@@ -1,23 +1,31 @@
 //! The commands: what the words of a command line ask for, from files and feeds to the text that is written.
 //!
-//! It stands on dm_words for words, on dm_input for files, on dm_crew for feeds that are answered at once in rounds, on
-//! dm_report for the text, on dm_summary for generated days, on dm_check for texts that are checked, on dm_journal for the journals of
-//! texts, and on dm_outlook, dm_ruling and dm_journey for what is asked of them. What searches for plans is handed in, as a closure:
-//! dm_program above hands in workers, and has the call `dispatch` with its clauses. What these name stands here: `specs/Headline`
-//! (what a run prints), `specs/Generated` (what a generated day does), `specs/Checked` (what is printed of a text that is checked),
-//! `specs/Answers` (what is printed of what is asked of a journal) and `specs/Ends` (why a call ends otherwise).
+//! It stands on dm_words for words, on dm_input for files, on dm_crew for feeds that are answered at once in rounds, on dm_report
+//! for the text, on dm_summary for generated days, on dm_check for texts that are checked, on dm_journal for the journals of
+//! texts, and on dm_outlook, dm_ruling and dm_journey for what is asked of journals.
+//!
+//! What searches for plans is handed in, as a closure. The crate above, dm_program, hands in workers, and has the call `dispatch`
+//! with its clauses. What these clauses name is defined here:
+//!
+//! - `specs/Headline`: what a run prints.
+//! - `specs/Generated`: what a generated day does.
+//! - `specs/Checked`: what is printed of a text that is checked.
+//! - `specs/Answers`: what is printed of what is asked of a journal.
+//! - `specs/Ends`: why a call ends otherwise.
 //!
 //! # What is promised
 //!
-//! `dispatch_with` does what words ask, by what its [`Means`] give. It asks for plans of rows without a cycle, within the limits, and is
-//! handed true ones (`specs/Searching`).
+//! `dispatch_with` does what the words ask, with what its [`Means`] give. It asks for plans of rows within the limits and without
+//! a cycle, and is handed true ones (`specs/Searching`).
 //!
-//! `ends`: the call ends as its status has it (`Ends`). At each status but two the sink has taken a text that is due to the words at
-//! this status (`IsDue`); after a write fault the sink's count has risen and a proper front of a text that was due was taken; at want
-//! of memory the words ask for something and nothing was written. All clauses of `dispatch` follow from it.
+//! `ends`: the call ends as its status says (`Ends`). All clauses of `dispatch` follow from it.
 //!
-//! Whatever the status: `kept` (the shelf tells what it told), `later` (the sink's count has not fallen), `stops` (the list has its
-//! boards' stops in their order), and `left` (words that ask for no run leave all boards as they were).
+//! - At each status but two, the sink has taken a text that is due to the words at this status (`IsDue`).
+//! - After a write fault, the sink's count has risen, and the sink has taken a proper front of a text that was due.
+//! - At want of memory, the words ask for something, and nothing was written.
+//!
+//! Whatever the status: `kept` (the shelf tells what it told), `later` (the sink's count has not fallen), `stops` (the boards in
+//! the list have the same stops in the same order), and `left` (words that ask for no run leave all boards as they were).
 #![tactic(auto)]
 
 mod checking;

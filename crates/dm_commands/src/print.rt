@@ -1,4 +1,4 @@
-//! A run that is answered, in print.
+//! An answered run, in print.
 ghost use Rattle.std.specs.Prelude.{◌≡◌};
 ghost use Rattle.std.specs.List.{list_any};
 ghost use Rattle.dm_cert.specs.RunTexts.{run_text, FitsRun, IsSpelledRun};

@@ -1,4 +1,4 @@
-//! What words ask for, done by means that are handed in.
+//! What the words ask for, done with means that are handed in.
 ghost use Rattle.std.specs.Prelude.{◌≡◌, ◌≤◌, ℕ, List, map, string_bytes, vec_len};
 ghost use Rattle.dm_base.specs.declared.limits.TheConstants.{BOARDS};
 ghost use Rattle.dm_input.specs.Stops.{IsKept};

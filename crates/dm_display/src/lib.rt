@@ -1,14 +1,15 @@
-//! What boards are shown, and boards that are kept up with a table.
+//! Boards that are kept up with the times of a table, and what they were shown.
 //!
-//! It stands on dm_publish for boards, and on dm_table for the times. A [`Display`] has the times that boards were shown last. A
-//! server of one thread has its table shown by it; dm_crew fills one with the times of a table that many share.
+//! It stands on dm_publish for boards, and on dm_table for the times. A [`Display`] holds the times that boards were shown last.
+//! A server of one thread shows its table through it. dm_crew fills one with the times of a table that many share.
 //!
 //! # What is promised
 //!
-//! `Display::show`: whatever boards have shown, each that no note names shows the times of the table then, where it tells what it
-//! shows, and the notes are true (`Shows`). `Display::show_growth` promises the same of boards that show the times after some first
-//! entries of the table, and leaves the table as it is. That it asks boards for no other events than those whose times have moved is
-//! no clause. `Display::into_publisher` gives the publisher as it stands. Only `Display::new` takes memory.
+//! `Display::show` (`Shows`): after it, each board that no note names shows the times of the table, where it tells what it shows.
+//! It does not matter what the boards showed before. The notes are true. `Display::show_growth` promises the same of boards that
+//! show the times after some first entries of the table. It leaves the table as it is. No clause says that it asks boards only
+//! for events whose times have moved. `Display::into_publisher` gives the publisher as it stands. Only `Display::new` takes
+//! memory.
 #![tactic(auto)]
 
 mod display;

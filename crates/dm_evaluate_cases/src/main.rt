@@ -1,10 +1,11 @@
 //! The evaluator beside relaxed problems from scratch.
 //!
-//! It makes worked decisions on a connection at one station, a decision that is refused for a cycle, and walks of decisions that
-//! are made and taken back in any order on generated days. After each move it compares times, cost and the first violated choice
-//! with those that dm_relax computes from the path alone, and each refusal with the cycle of the longer path. For each case it
-//! prints `NAME ok`, or after how many moves the two differ. It stands on dm_samples for networks and messages, and promises
-//! nothing.
+//! It stands on dm_samples for networks and messages, and promises nothing.
+//!
+//! It makes worked decisions on a connection at one station, and a decision that is refused for a cycle. On generated days it
+//! walks: it makes decisions and takes them back, in any order. After each move it compares times, cost and the first violated
+//! choice with those that dm_relax computes from the path alone. It compares each refusal with the cycle of the longer path. For
+//! each case it prints `NAME ok`, or after how many moves the two differ.
 #![tactic(auto)]
 
 mod trial;

@@ -1,11 +1,13 @@
 //! Runs whose openings, reads, writes and shows fail, whose files are too long, and whose boards are files.
 //!
-//! A run of two feeds with a plan and two boards is made again and again, and in each run another call fails: each opening, each
-//! read of each file and each feed, each write and each show, up to one that never comes. The status, the text and what the boards
-//! show are compared with tables that were worked out by hand. So it goes with check, follow, window, rules and journey over the
-//! run's text, and with a generated day. For each table it prints `NAME ok`, or at which call a run came out otherwise. It stands
-//! on dm_program for what it tries and on what a run is handed, and promises nothing. Runs over good and refused files are cases
-//! of dm_runs.
+//! A run of two feeds with a plan and two boards is made again and again. In each run another call fails: each opening, each
+//! read of each file and each feed, each write and each show, up to a call that never comes. The status, the text and what
+//! the boards show are compared with tables that were worked out by hand. The same is done with check, follow, window, rules
+//! and journey over the run's text, and with a generated day. For each table the program prints `NAME ok`, or at which call a
+//! run came out otherwise.
+//!
+//! It stands on dm_program for what it tries, and on the crates whose values a run is handed. It promises nothing. Runs over
+//! good and refused files are cases of dm_runs.
 #![tactic(auto)]
 
 mod files;

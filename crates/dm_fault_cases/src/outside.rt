@@ -1,4 +1,4 @@
-//! The outside of a run in memory, of which calls fail.
+//! The outside of a run, in memory, with calls that fail.
 ghost use Rattle.std.specs.Prelude.{◌≤◌, vec_len};
 ghost use Rattle.dm_base.specs.declared.limits.TheConstants.{BOARDS};
 

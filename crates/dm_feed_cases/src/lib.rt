@@ -1,5 +1,7 @@
-//! The tests of dm_feed: feeds and lines with values from outside, in tables, and sources that give their bytes in pieces
-//! and fail. It stands on dm_feed and promises nothing.
+//! The tests of dm_feed.
+//!
+//! Tables hold feeds and lines with values from outside. Sources give their bytes in pieces, and fail. It stands on dm_feed and
+//! promises nothing.
 #![tactic(auto)]
 
 #[cfg(test)]

@@ -1,7 +1,8 @@
-//! The tests of what reads and writes: numbers as texts spell them, the records of files, sources, sinks, shelves and
-//! boards, and the stops of boards in words. They are of what no contract says, examples with values from outside, and
-//! each call that may want memory once with ample memory. It stands on the crates that its tests call, and promises
-//! nothing.
+//! The tests of what reads and writes.
+//!
+//! They cover numbers as texts spell them, the records of files, sources, sinks, shelves and boards, and the stops of the boards
+//! that words ask for. They test what no contract says, try examples with values from outside, and make each call that may want
+//! memory once with ample memory. This crate stands on the crates that its tests call, and promises nothing.
 #![tactic(auto)]
 
 #[cfg(test)]

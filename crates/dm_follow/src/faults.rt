@@ -1,4 +1,4 @@
-//! What stops a follower, and what it has of a journal.
+//! Why a follower stops, and what it has of a journal.
 
 /// Why a line, or a piece, is not taken.
 #[derive(Clone, Copy, PartialEq, Eq)]

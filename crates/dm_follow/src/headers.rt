@@ -1,4 +1,4 @@
-//! The lines of a journal's header, each read as the one that comes next.
+//! The lines of a journal's header, each read as the next line.
 ghost use Rattle.std.specs.Prelude.{◌≡◌, ℕ};
 ghost use Rattle.dm_follow.specs.Inside.Reading.{StepsHeader, IsInHeader, header_line};
 

@@ -1,7 +1,8 @@
 //! Journals that are followed in pieces of each size, cut at each byte, and broken at each of their rules.
 //!
-//! For each case it prints `NAME ok`, or after how many steps it came out otherwise. What is due was worked out by hand, or counted
-//! in the text. It stands on dm_follow for what it tries and on dm_samples for networks, and promises nothing.
+//! It stands on dm_follow for what it tries and on dm_samples for networks, and promises nothing. For each case it prints
+//! `NAME ok`, or the number of steps after which it came out otherwise. What is due was worked out by hand, or counted in the
+//! text.
 #![tactic(auto)]
 
 mod following;

@@ -1,4 +1,4 @@
-//! Choices that are turned by force, with what is near decided anew.
+//! Choices that are turned by force. Those near them are decided anew.
 
 use crate::diving::decide_cheaper;
 use crate::gaining::try_both;

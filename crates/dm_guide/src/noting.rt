@@ -1,4 +1,4 @@
-//! What has happened since a time, each place once.
+//! What has happened since a time, noted once for each place.
 
 use dm_base::Secs;
 use std::alloc::{AllocError, Global};

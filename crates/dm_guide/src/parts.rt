@@ -1,4 +1,4 @@
-//! Parts of the leaves that a round expands, each by itself, so that what comes of it does not depend on who takes it.
+//! Parts of the leaves that a round expands. Each is expanded by itself, so its result does not depend on who takes it.
 
 use crate::growing::{Change, Grown, Tree};
 use crate::rounds::block;

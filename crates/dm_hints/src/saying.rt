@@ -1,4 +1,4 @@
-//! Lines on the standard error. Each is one call, so that a function has one way out for it and not one for each piece.
+//! Lines on the standard error. Each line is one call, so a function has one way out for it, and not one for each piece.
 use dm_outside::Piece;
 use std::io;
 

@@ -1,4 +1,4 @@
-//! What is refused of files and of what they make, and why the reading stops.
+//! What is refused in files and in what they make, and why reading stops.
 
 use dm_lintim::FileFault;
 use dm_network::NetFault;

@@ -1,15 +1,15 @@
 //! Journeys of passengers in a timetable: from a stop to a stop after a time, with few changes or early.
 //!
-//! It stands on dm_times for timetables, and on dm_network and dm_graph for an order of the activities. Its `specs/` say which
-//! activities a passenger can use, and what a walk along them is. [`journeys`] answers the walks that matter: of all with so
-//! many changes at most, none is better both in changes and in arrival than those that it lists.
+//! It stands on dm_times for timetables, and on dm_network and dm_graph for an order of the activities. Its `specs/` say
+//! which activities a passenger can use, and what a walk along them is.
 //!
 //! # What is promised
 //!
-//! `journeys`: how a passenger travels from one stop to another after a time in the rows' least timetable, on drives, waits
-//! and changes that are caught, with at most so many changes. Each journey is such a walk, with its arrival and its
-//! changes; along the list the changes rise and the arrivals fall; every such walk is met by one with no more changes and
-//! no later arrival; and the list is empty exactly where there is no walk.
+//! [`journeys`] tells how a passenger travels from one stop to another after a time in the rows' least timetable. A walk uses
+//! drives, waits and changes that are caught, and has at most a given number of changes. Each journey is such a walk, with
+//! its arrival and its changes. Along the list the changes rise and the arrivals fall. For every such walk the list has a
+//! journey with no more changes and no later arrival. So no such walk is better than a listed one both in changes and in
+//! arrival. The list is empty exactly where there is no walk.
 #![tactic(auto)]
 
 mod arriving;

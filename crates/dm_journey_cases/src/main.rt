@@ -1,8 +1,10 @@
-//! Journeys on small networks, and beside all walks on generated days.
+//! Journeys on small networks, and on generated days beside all walks.
 //!
-//! It prints the answers to worked queries as the command `journey` does, by the ids of activities. On generated days after drawn
-//! messages it lists all walks from a stop one by one and compares their front with the answer; for each day it prints `NAME ok`,
-//! or after how many queries the two differ. It stands on dm_samples for days and messages, and promises nothing.
+//! It stands on dm_samples for days and messages, and promises nothing.
+//!
+//! It prints the answers to worked queries by the ids of activities, as the command `journey` does. On generated days after drawn
+//! messages it lists all walks from a stop one by one, and compares their front with the answer. For each day it prints
+//! `NAME ok`, or after how many queries the two differ.
 #![tactic(auto)]
 
 mod asking;

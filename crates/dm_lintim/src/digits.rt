@@ -1,5 +1,5 @@
-//! The usual number: a field of blanks at most, and then a few digits up to its end. It is read in one pass, and its
-//! cell is not looked for; what other fields hold is for the readers of any text.
+//! The usual number: a field that is a few digits up to its end, with nothing but blanks before them. It is read in one pass, and
+//! its cell is not looked for. Other fields are left to the readers of any text.
 ghost use Rattle.std.specs.Prelude.{◌≡◌, ◌<◌, ◌^◌, IfSome};
 ghost use Rattle.dm_base.specs.Numbers.{IsDigits, whole_value};
 ghost use Rattle.dm_lintim.specs.Pieces.{cell_of};

@@ -1,17 +1,18 @@
 //! The network and delay files: events, activities and delays from bytes, exactly.
 //!
-//! It stands on dm_base, for the rows and the readers of numbers, and on `csv`, which splits a file into records. It
-//! promises that [`read_events`], [`read_activities`] and [`read_delays`] give exactly the rows that the grammar in
-//! `specs/` relates to the bytes, in file order, or the first record that breaks a rule and in it the first column;
-//! that [`Columns::read`] refuses at the first word that breaks a rule; and, in [`laws`], that the grammar relates at
-//! most one answer to given bytes, and that the split of `csv` is the plain one.
+//! It stands on dm_base for the rows and the readers of numbers, and on `csv`, which splits a file into records.
 //!
 //! # What is promised
 //!
-//! `read_events`, `read_activities`, `read_delays`: exactly the rows that the grammar of the files relates to the bytes, in
-//! file order, or the first fault with its record and column; `Columns::read` and `Columns::standard`. `first_piece`: the
-//! first of the pieces that commas cut a text into. Laws: the grammar
-//! has at most one answer, and `csv` cuts a file as the plain rule does.
+//! [`read_events`], [`read_activities`] and [`read_delays`] give exactly the rows that the grammar in `specs/` relates to the
+//! bytes, in file order. Or they give the first fault with its record and column: the first record that breaks a rule, and in it
+//! the first column.
+//!
+//! [`Columns::read`] gives the columns that two texts name, or refuses at the first word that breaks a rule, or for a required
+//! column that no word names. `Columns::standard` gives the standard columns. `first_piece` gives the first of the pieces that
+//! commas cut a text into.
+//!
+//! Laws, in [`laws`]: the grammar relates at most one answer to given bytes, and `csv` cuts a file as the plain rule does.
 #![tactic(auto)]
 
 mod activities;

@@ -1,4 +1,4 @@
-//! An order that is brought to hold what constraints hold.
+//! An order that is changed until it holds what constraints hold.
 ghost use Rattle.std.specs.Prelude.{◌≡◌, length, OnOk, OnErr};
 ghost use Rattle.dm_order.specs.Orders.{IsOrderOf};
 ghost use Rattle.dm_settle.specs.Constraints.{IsSizedFor};

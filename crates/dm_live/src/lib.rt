@@ -1,23 +1,24 @@
-//! The timetable of a network that is kept least while what its events are held to changes.
+//! The least timetable of a network, kept while what its events are held to changes.
 //!
-//! It stands on dm_settle, whose sweep computes times, and on dm_order, whose order the sweep goes along; why an activity is
-//! held, or an event has its floor, it does not know. A [`LiveTimetable`] has constraints, an order of the activities that
-//! they hold, the times of the events, and marks. A move changes a floor or a span, holds an activity or lets it go, and
-//! marks the one event whose time that may change at once; it reads no row. After any number of moves
-//! [`LiveTimetable::settle_watched`] computes the marked events anew, goes on from those whose times change, and leaves the least
-//! timetable. [`LiveTimetable::fix`] gives an event into which nothing is held its time at once, as one that passes: what is
-//! held out of it needs no place in the order, until [`LiveTimetable::free`] lets its time move again. An activity that would
-//! make a cycle with those held is refused, and nothing has changed then. Once it is made, a timetable takes no memory.
+//! It stands on dm_settle, whose sweep computes times, and on dm_order, whose order the sweep follows. It does not know why an
+//! activity is held, or why an event has its floor.
+//!
+//! A [`LiveTimetable`] has constraints, an order of the activities that they hold, the times of the events, and marks. A move
+//! changes a floor or a span, holds an activity or lets it go. It marks at once the one event whose time may change, and reads no
+//! row. After any number of moves [`LiveTimetable::settle_watched`] computes the marked events anew, and goes on from those whose
+//! times change. [`LiveTimetable::fix`] gives an event its time at once, as one that passes. What is held out of the event needs
+//! no place in the order until [`LiveTimetable::free`] lets its time move again.
 //!
 //! # What is promised
 //!
-//! A timetable kept while floors, spans and held activities change: after any moves `settle_watched` leaves exactly the least
-//! timetable of what is held, tells two watchers of each time that changes, and reads one in-row for each event that was
-//! marked or follows one whose time changed, and one out-row for each whose time changed. `hold` is refused exactly where it
-//! would make a cycle, and then nothing but the cycle shown has changed; `fix` gives a time to an event that nothing held
-//! enters, whose activities leave the order until `free` brings them back.
+//! After any moves `settle_watched` leaves exactly the least timetable of what is held. It tells two watchers of each time that
+//! changes. It reads one in-row for each event that was marked or follows one whose time changed, and one out-row for each event
+//! whose time changed.
 //!
-//! All but `new` take no memory. It keeps no cost.
+//! `hold` is refused exactly where the activity would make a cycle with those held. Then nothing has changed but the cycle shown.
+//! `fix` gives a time to an event that nothing held enters. The event's activities leave the order until `free` brings them back.
+//!
+//! No call but `new` takes memory. A timetable keeps no cost.
 #![tactic(auto)]
 
 mod aligning;

@@ -1,4 +1,4 @@
-//! Marks of events, brought to the places of the events in an order.
+//! Marks of events, moved to the places of the events in an order.
 ghost use Rattle.std.specs.Prelude.{ℕ, ◌≡◌, ◌<◌, length, slice_index};
 ghost use Rattle.dm_marks.specs.Marked.{NoneFrom};
 ghost use Rattle.dm_live.specs.Inside.Placing.{ArePlaced, IsClear};

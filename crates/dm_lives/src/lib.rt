@@ -1,23 +1,27 @@
 //! Laws of a server's lives over one store: what a crash leaves of one is taken up by the next.
 //!
-//! It stands on dm_serve for what the lives of a server are and how they end, on dm_store for stores, on dm_store_text for what is
-//! not refused of a journal, on dm_catch_up for feeds that go on with their logs, and on dm_watch for rounds. That the lives are one,
-//! whatever their number, is the law of dm_book.
+//! It stands on dm_serve for what the lives of a server are and how they end, on dm_store for stores, on dm_store_text for what
+//! is not refused of a journal, on dm_catch_up for feeds that go on with their logs, and on dm_watch for rounds. The law of
+//! dm_book says that the lives are one, whatever their number.
 //!
 //! # What is promised
 //!
-//! [`left_is_taken_up`]: a store that holds what a crash left of a life is found as one that was taken up, with a book that goes on from
-//! the first one of that life. [`refused_for_room_or_feeds`]: a store that was found so is refused for want of room, or for a feed that
-//! has another line than was answered, and for nothing else.
+//! [`left_is_taken_up`]: a store that holds what a crash left of a life is found as one that was taken up. Its book goes on from
+//! the first book of that life.
 //!
-//! [`grown_feeds_are_not_refused`]: let each log of the last book of a life answer the due lines of a front of what its feed had given,
-//! and let a crash have left any moment of that life. Then what is left is refused for want of room, or for a feed that does not give
-//! again all that it had given; where it gives a front of that, for a line that does not come. [`rounds_answer_feeds`]: between two
-//! rounds each log of a watch's book answers the due lines of a front of what its feed has given. At its end a day does so by its own
-//! clause.
+//! [`refused_for_room_or_feeds`]: a store that was found so is refused only for want of room, or for a feed that has another line
+//! than was answered.
 //!
-//! [`texts_are_refused_for_room`]: the text of a store whose journal holds a true book, with an end that a crash may leave, is refused
-//! for want of room, where its files are not, and for nothing else.
+//! [`grown_feeds_are_not_refused`]: suppose that each log of the last book of a life answers the due lines of a front of what its
+//! feed had given, and that a crash left any moment of that life. Then what is left is refused only for want of room, or for a
+//! feed that does not give again all that it had given. If the feed gives a front of that, it is refused for a line that does not
+//! come.
+//!
+//! [`rounds_answer_feeds`]: between two rounds, each log of a watch's book answers the due lines of a front of what its feed has
+//! given. At the end of a day the same holds by the day's own clause.
+//!
+//! [`texts_are_refused_for_room`]: let the journal of a store hold a true book, with an end that a crash may leave. Where the
+//! files are not refused, the text of the store is refused only for want of room.
 #![tactic(auto)]
 
 mod laws;

@@ -1,4 +1,4 @@
-//! What times are computed and shown with.
+//! What computes times, and what shows them.
 ghost use Rattle.dm_rows.specs.Rows.{IsSized};
 
 use crate::case::{Case, is_due};

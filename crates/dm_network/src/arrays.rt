@@ -1,4 +1,4 @@
-//! What stands beside a network for its readers and for the search for a cycle.
+//! Arrays beside a network, for its readers and for the search for a cycle.
 ghost use Rattle.std.specs.Prelude.{◌≡◌, ◌<◌, ◌≤◌, [], map, length, IfOk, All, slice_index_or};
 ghost use Rattle.std.specs.List.{range_with_len};
 ghost use Rattle.dm_network.specs.Net.{no_activity};

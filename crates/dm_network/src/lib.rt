@@ -1,17 +1,18 @@
 //! Railway networks: events, activities, and the pairs of events that headways join in both directions.
 //!
-//! It stands on dm_base for ids, kinds and limits, and on dm_graph for cycles. Its `specs/` say what a network is;
-//! [`Network::build`] makes one of the records of two files, or says exactly why there is none.
+//! It stands on dm_base for ids, kinds and limits, and on dm_graph for cycles. Its `specs/` say what a network is.
 //!
 //! # What is promised
 //!
-//! `Network::build`: `built` (a network, made of exactly the records, within the limits) or `refused` (the first fault in
-//! the order of the faults, want of memory aside). Its readers answer exactly and take no memory; `in_row` and `out_row`
-//! list exactly the activities with that head or tail, and count one step. `reveal` tells what holds of every network, and
-//! that the ids of its events are below 2^32.
+//! [`Network::build`] makes a network of the records of two files, or says exactly why there is none: `built` (a network, made of
+//! exactly the records, within the limits) or `refused` (the first fault in the order of the faults, want of memory aside).
 //!
-//! `Network::search` finds an order of all events in which the held activities go forward, or a cycle of them, over the
-//! network's own arrays and without memory.
+//! The readers of a network answer exactly and take no memory. `in_row` lists exactly the activities with that head, and
+//! `out_row` those with that tail; each counts one step. `reveal` tells what holds of every network, and that the ids of its
+//! events are below 2^32.
+//!
+//! `Network::search` finds an order of all events in which the held activities go forward, or a cycle of held activities. It
+//! works over the network's own arrays and takes no memory.
 #![tactic(auto)]
 
 mod arrays;

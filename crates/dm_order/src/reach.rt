@@ -1,4 +1,4 @@
-//! Which events of an interval of places held activities lead to.
+//! Which events in an interval of places the held activities lead to.
 ghost use Rattle.std.specs.Prelude.{◌≡◌, ◌<◌, ◌≤◌, length, IfOk};
 ghost use Rattle.dm_graph.specs.Arrays.{AreRanks};
 ghost use Rattle.dm_network.specs.Net.{activity_at, places_out_of};

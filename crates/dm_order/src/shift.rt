@@ -1,4 +1,4 @@
-//! Events that were reached, moved behind the others of an interval.
+//! Moving the events that were reached behind the others of an interval.
 ghost use Rattle.std.specs.Prelude.{◌≡◌, ◌+◌, ◌^◌, ◌<◌, ◌≤◌, length, IfOk, if◌then◌else◌};
 ghost use Rattle.dm_graph.specs.Arrays.{AreRanks};
 ghost use Rattle.dm_order.specs.Inside.Shifting.{failing, reached_from, AreRankedAnew, AreCopied, ArePutAnew, MayBePut, ArePut};

@@ -5,14 +5,20 @@
 //!
 //! # What is promised
 //!
-//! `outlook_of` gives a true plan of the window for the rows at an entry: the last one, or one that is named and is no later than
-//! that. Where one is named, it says besides what becomes of the plan's choices at the last entry: those that differ from its
-//! rows and what these cost with them, or the first choice that is not free any more, or a cycle that they make, each exactly
-//! where it comes (`IsOutlook`). Else it is want of memory.
+//! `outlook_of` gives a true plan of the window for the rows at an entry (`IsOutlook`). That is the last entry, or one that is
+//! named and is no later. Where that is asked, it also says which of the plan's choices are kept when others are given back
+//! (`IsMinimalFor`). Where an entry is named, it also says what becomes of the plan's choices at the last entry. It says one of
+//! these, each exactly where it holds:
 //!
-//! `print_outlook` writes exactly the text of all that (`outlook_text`): the window, how many choices are held, if some are, the
-//! plan as in a run text, and what becomes of it. A write fault comes only where a write failed; the sink has then taken a front of the text, and not all of it. It takes
-//! no memory.
+//! - the choices that differ from the rows there, and what those rows cost with them;
+//! - the first choice that is not free any more;
+//! - a cycle that the choices make.
+//!
+//! Otherwise it is want of memory.
+//!
+//! `print_outlook` writes exactly the text of all that (`outlook_text`): the window; how many choices are held, if some are; the
+//! plan as in a run text; the choices that are kept, if that was asked; and what becomes of the plan. A write fault comes only
+//! where a write failed. The sink has then taken a front of the text, and not all of it. `print_outlook` takes no memory.
 #![tactic(auto)]
 
 mod outlook;

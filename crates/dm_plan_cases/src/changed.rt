@@ -1,7 +1,7 @@
 //! Plans that are not true, which the reading must not take.
 //!
-//! The true plan behind them is the one of the connection with its first event a minute late, whose costs are worked out by
-//! hand: as the rows are 1,075,000, and 940,000 with the change dropped and the second train first.
+//! The true plan behind them is that of the connection with its first event a minute late. Its costs are worked out by hand:
+//! 1,075,000 as the rows are, and 940,000 with the change dropped and the second train first.
 
 use crate::day::Day;
 use crate::judging::{Known, judge};

@@ -1,4 +1,4 @@
-//! Plans behind every list of three messages where two trains meet.
+//! Plans after every list of three messages where two trains meet.
 
 use crate::planning::Standing;
 use crate::trials::{Seen, judge_plans};

@@ -1,13 +1,17 @@
 //! Plans beside a slow reading of what a true plan is.
 //!
 //! It goes over every list of three messages where two trains meet, and over generated days of 9 to 12 trains with drawn
-//! messages: events that have passed or are recalled, dropped changes, pairs that are turned, delays and a clock. For each it
-//! has plans made of up to 64 nodes, on the days also of windows and from parts of other plans, and judges each plan over plain
-//! lists: the times of a path come by rounds over all activities, and where there are few choices the costs of all of them are
-//! compared. Plans of windows, what becomes of them over newer rows, and plans that go on from a leaf of another are compared
-//! with what was worked out by hand. For each case it prints `NAME ok`, or what is wrong with a plan. It stands on dm_samples
-//! for networks and messages, and on dm_search and dm_window for the plans; its reading stands on no crate that computes times
-//! or judges plans. It promises nothing.
+//! messages. The drawn messages are events that have passed or are recalled, dropped changes, pairs that are turned, delays
+//! and a clock. For each list and each day it has plans made of up to 64 nodes. On the days it also has plans made of windows
+//! and from parts of other plans.
+//!
+//! It judges each plan over plain lists. The times of a path come by rounds over all activities. Where there are few choices,
+//! the costs of all of them are compared. Plans of windows, what becomes of them over newer rows, and plans that go on from a
+//! leaf of another are compared with what was worked out by hand. For each case it prints `NAME ok`, or what is wrong with a
+//! plan.
+//!
+//! It stands on dm_samples for networks and messages, and on dm_search and dm_window for the plans. Its reading stands on no
+//! crate that computes times or judges plans. It promises nothing.
 #![tactic(auto)]
 
 mod changed;

@@ -1,7 +1,7 @@
 //! Plans of windows that were worked out by hand, and what becomes of them over newer rows.
 //!
-//! At the connection with its first event a minute late the rows cost 1,075,000. In the window from 225 to 235 there is the
-//! change, and not the pair, of which one event is scheduled for 220.
+//! At the connection with its first event a minute late the rows cost 1,075,000. The window from 225 to 235 has the change.
+//! It does not have the pair. One event of the pair is scheduled for 220.
 
 use crate::planning::{Standing, Window};
 use crate::wrong::Wrong;

@@ -1,4 +1,4 @@
-//! The flags of a timetable of which none is set, by a look at every event and every activity.
+//! The first flags of a timetable that has none set, by a look at every event and every activity.
 ghost use Rattle.std.specs.Prelude.{ℕ, ◌≡◌, ◌+◌, ◌<◌, length};
 ghost use Rattle.dm_live.specs.Live.{IsLive, NoneFixed};
 ghost use Rattle.dm_priced.specs.Priced.{IsPriced};

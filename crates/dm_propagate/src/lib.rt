@@ -1,27 +1,29 @@
 //! The engine: the rows of a day, their least timetable and what it costs, kept through every change.
 //!
-//! It stands on dm_priced, whose timetable it holds to the rows: the active activities are held, floors and spans are the
-//! rows', and so are the flags of what has passed and of what is charged for, so that the cost is at hand. A change is first
-//! made to a twin of the rows, and the timetable is brought to follow that one where the change may make a difference: what
-//! is active no more is let go, what is active now is taken up, and the times go on from there. Where the changed rows have
-//! a cycle it is brought back in the same way, so that a refused change leaves the engine as it was. The events stand by their
-//! scheduled times too, and a clock looks only at those that are scheduled before it. Once it is made, an engine takes no
-//! memory.
+//! It stands on dm_priced, whose timetable it holds to the rows. The active activities are held, and floors and spans are the
+//! rows'. The flags of what has passed and of what is charged for are the rows' too, so that the cost is at hand.
+//!
+//! A change is first made to a twin of the rows. The timetable is brought to follow the twin where the change may make a
+//! difference. What is no longer active is let go, what is active now is taken up, and the times go on from there. Where the
+//! changed rows have a cycle, the timetable is brought back in the same way. So a refused change leaves the engine as it was.
+//! The events stand by their scheduled times too, and a clock looks only at those that are scheduled before it.
 //!
 //! # What is promised
 //!
-//! `Engine` holds rows and their least timetable. `update` makes a change, `adopt` sets a list of decisions, `try_update`
-//! and `try_adopt` only tell whether it would be refused. On Ok the rows are those after the change and the times are their
-//! least (`rows`, `least`); `Cyclic` comes exactly where the changed rows have a cycle, `last_cycle` is such a cycle, and
-//! rows and times are as before (`unchanged`, `cycle`).
+//! `Engine` holds rows and their least timetable. `update` makes a change, and `adopt` sets a list of decisions. `try_update`
+//! and `try_adopt` only tell whether it would be refused. On Ok the rows are those after the change, and the times are their
+//! least (`rows`, `least`). `Cyclic` comes exactly where the changed rows have a cycle. Then `last_cycle` is such a cycle,
+//! and rows and times are as before (`unchanged`, `cycle`).
 //!
-//! `few_reads`: for a delay, a pass or a clock that is not taken back, the rows of the network that are read are, beside
-//! one, at most one for each of a list of different events that are touched or follow a changed one, and one for each of a
-//! list of different events whose time has changed. `moved`: each event whose time is not what it was before is one of the
-//! engine's `moved` ones from then on, and what was one stays so until `forget_moved`.
+//! `few_reads`: a delay, a pass, or a clock that is not taken back reads few rows of the network. Beside one row, it reads at
+//! most one for each of a list of different events that are touched or follow a changed one, and one for each of a list of
+//! different events whose time has changed.
 //!
-//! `cost` is the cost of these times, a sum of three kept numbers. Its order holds exactly the active activities between
-//! events that have not passed, so that a pass, a delay, a clock and a drop add nothing to it. All but `new` take no
+//! `moved`: each event whose time is not what it was before is one of the engine's `moved` ones from then on. What was one
+//! stays one until `forget_moved`.
+//!
+//! `cost` is the cost of these times, a sum of three kept numbers. The engine's order holds exactly the active activities
+//! between events that have not passed. So a pass, a delay, a clock and a drop add nothing to it. All but `new` take no
 //! memory.
 #![tactic(auto)]
 

@@ -1,10 +1,12 @@
-//! The engine beside timetables and costs from scratch.
+//! The engine, compared with timetables and costs from scratch.
 //!
-//! It goes over every list of up to four messages from a small set, on a connection at one station and on its turnaround, and
-//! over thousands of drawn messages on generated days, and compares times and cost with those that dm_times computes from the
-//! rows alone, and each refusal for a cycle with the rows after the message. A copy of the times that is brought up to date where
-//! the engine notes that they have moved is compared too. For each case it prints `NAME ok`, or after how
-//! many messages the two differ. It stands on dm_samples for the networks and messages, and promises nothing.
+//! It stands on dm_samples for the networks and messages, and promises nothing.
+//!
+//! It goes over every list of up to four messages from a small set, on a connection at one station and on its turnaround. It also
+//! goes over thousands of drawn messages on generated days. It compares times and cost with those that dm_times computes from the
+//! rows alone, and each refusal for a cycle with the rows after the message. It also compares a copy of the times that is brought
+//! up to date where the engine notes that they have moved. For each case it prints `NAME ok`, or the number of messages after
+//! which the two differ.
 #![tactic(auto)]
 
 mod days;

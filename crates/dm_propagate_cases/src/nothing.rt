@@ -1,4 +1,4 @@
-//! A delay of nothing, which reads two rows of the network at most.
+//! A delay of nothing, which reads at most two rows of the network.
 ghost use Rattle.std.specs.Prelude.{◌≡◌, ◌+◌, ◌<◌, ◌≤◌, IsTrue, length};
 ghost use Rattle.dm_propagate.specs.Engine.{IsEngineOf, times_of};
 

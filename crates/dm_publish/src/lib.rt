@@ -2,18 +2,18 @@
 //!
 //! It stands on dm_outside for boards, on dm_times for timetables, on dm_marks for the places whose times have moved, on
 //! dm_network for the events at a stop and on dm_cert for notes. A [`Publisher`] shows each board of a list the events of its
-//! stop whose times differ. A board whose show failed is dropped: a note names it, and it is called no more. So each board
-//! without a note shows the times, and whoever reads the notes knows of the others.
+//! stop whose times differ. A board whose show failed is dropped: a note names it, and it is called no more. So whoever reads the
+//! notes knows which boards were dropped.
 //!
 //! # What is promised
 //!
-//! `Publisher::publish` (`published`): each board without a note shows the times of its stop, where it told what it shows,
-//! and keeps all else; a new note names a board that had none, whose count has risen in the call and which was not sound
-//! before it; a board with an earlier note is as before. `true_notes`: notes that were true at an earlier entry are true
-//! with the new ones. `keeps_up`: what so holds of each call holds of all calls since a first list of boards.
+//! `Publisher::publish` (`published`): each board without a note shows the times of its stop, where it told what it shows, and
+//! keeps all else. A board with an earlier note is as before. A new note names a board that had none, whose count has risen in
+//! the call and which was not sound before it. `true_notes`: notes that were true at an earlier entry are true with the new ones.
+//! `keeps_up`: what holds of each call in this way also holds of all calls since a first list of boards.
 //!
-//! `publish_listed` takes the places of the events whose times differ from those published last (`last`), and promises the
-//! new times of boards that showed the last ones. That it asks boards for no other events is no clause. Neither takes
+//! `publish_listed` takes the places of the events whose times differ from those published last (`last`). It promises that boards
+//! that showed the last times show the new ones. No clause says that it asks boards for no other events. Neither call takes
 //! memory.
 #![tactic(auto)]
 

@@ -1,4 +1,4 @@
-//! The kinds of lines that feeds say, and of answers: their words and their numbers.
+//! The kinds of feed lines and of answers: their words and their numbers.
 ghost use Rattle.std.specs.Prelude.{◌≡◌, ℕ, List, is_some, IfSome};
 ghost use Rattle.std.specs.Option.{option_map};
 ghost use Rattle.dm_text.specs.Inside.Parts.{behind};

@@ -1,18 +1,21 @@
 //! The records of a run's text, each read from its line.
 //!
-//! It stands on dm_cert for how runs and plans are spelled, and on dm_text for words and numbers in front of a line. Each
-//! reader gives the one value that a line spells, exactly: `specs/RunLines` says which bytes spell what. That a line spells no
-//! two records, and a text no two runs, are [`laws`].
+//! It stands on dm_cert for how runs and plans are spelled, and on dm_text for words and numbers at the front of a line.
+//! `specs/RunLines` says which bytes spell what.
 //!
 //! # What is promised
 //!
-//! The readers of the records of a run's text, from the opening lines to the times and notes: each gives the one value that
-//! a line spells, exactly where it spells one. It takes memory for lists alone (choices, cycles). `EntryLine::into_entry` is the
-//! entry of a line. Laws: `lines_spell_one`
-//! (a line of each kind spells one record alone); `runs_have_own_texts` (different runs over one network that have a
-//! spelling have different texts, one run has different texts in the two versions, and what stands behind a run's text does
-//! not change how it is read, for runs whose lists are shorter than 2^64); `texts_tell_one_run` (a text of a true run over
-//! a network tells the version and the whole run, whatever rows it began with).
+//! The readers read the records of a run's text, from the opening lines to the times and notes. Each gives the one value that a
+//! line spells, exactly where the line spells one. They take memory for lists alone (choices, cycles). `EntryLine::into_entry` is
+//! the entry of a line.
+//!
+//! Laws, in [`laws`]:
+//!
+//! - `lines_spell_one`: a line of each kind spells one record alone.
+//! - `runs_have_own_texts`: different runs over one network have different texts, where the runs have a spelling. One run has
+//!   different texts in the two versions. What follows a run's text does not change how it is read. All this holds for runs whose
+//!   lists are shorter than 2^64.
+//! - `texts_tell_one_run`: a text of a true run over a network tells the version and the whole run, whatever rows it began with.
 #![tactic(auto)]
 
 mod answers;

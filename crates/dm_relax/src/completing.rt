@@ -1,4 +1,4 @@
-//! What a path that violates nothing leads to.
+//! The completion of a path that violates nothing.
 ghost use Rattle.std.specs.Prelude.{ℕ, ◌≡◌, ◌<◌, ◌++◌, length, None, IfOk};
 ghost use Rattle.dm_rows.specs.Rows.{IsSized};
 ghost use Rattle.dm_rows.specs.Decide.{IsChoiceList};

@@ -1,4 +1,4 @@
-//! The numbers of what is printed: each is one that its type holds, which a proof knows where the number is read.
+//! The numbers of what is printed. Each is one that its type holds; a proof knows that where the number is read.
 ghost use Rattle.std.specs.Prelude.{◌≤◌, All};
 ghost use Rattle.dm_feed.specs.Parts.{Fits, largest_id, largest_value};
 ghost use Rattle.dm_feed.specs.Lines.{parts_of_decision, parts_of_line, parts_of_message};

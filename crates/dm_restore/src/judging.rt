@@ -1,4 +1,4 @@
-//! A run that was read back, in print, and what is told of its text.
+//! A run that was read back: its printed text, and what is told of that text.
 ghost use Rattle.std.specs.Prelude.{◌≡◌, ◌≤◌, [], All, length, IfOk, IfErr, OnOk};
 ghost use Rattle.dm_cert.specs.declared.limits.TheConstants.{PLANS};
 ghost use Rattle.dm_cert.specs.Logs.{AreTrueLogs};

@@ -1,21 +1,29 @@
 //! The rows of a day over a network, the messages that change them, and what every timetable, cost and refusal means.
 //!
-//! It stands on dm_network. Its `specs/` are the definitions that every promise of the dispatcher cites: which
-//! activities bind, which timetables meet the rows, the least one, cycles, costs, refusals and histories.
+//! It stands on dm_network.
 //!
 //! # What is promised
 //!
-//! The definitions of rows, timetables, costs, refusals and histories. Timetables are defined once over any held
-//! activities: the rows' own are one instance, a relaxed problem is another. `start_rows` gives the start rows or the first
-//! unknown id; `is_active`, `floor_of`, `span_of`, `flip_of`, `free_choices` and `admit` answer by the definitions, `admit`
-//! with the first refusal by numbers, ids, passed events and the clock; `apply` changes one row and keeps all others and all
-//! sizes; `copy` gives equal rows. `start_rows`, `copy`, `free_choices` and the admission of an `Adopt` alone take memory.
+//! The definitions of `specs/`, which every promise of the dispatcher cites: rows, which activities bind, which timetables meet
+//! the rows, the least one, cycles, costs, refusals and histories. Timetables are defined once, over any held activities. The
+//! rows' own activities are one instance, a relaxed problem is another.
 //!
-//! Laws of `laws`: a timetable meets the rows exactly where it meets their graph and keeps the passed times, and is least
-//! for them exactly where it is least for their graph; held activities of a network, of which none enters a passed event,
-//! can be met exactly where they have no cycle, and then a timetable is least; an adopted list sets each of its decisions;
-//! and what the definitions give on two small networks: times, costs, refusals, a cycle, touched events, free and violated
-//! choices.
+//! - `start_rows` gives the start rows, or the first unknown id.
+//! - `is_active`, `floor_of`, `span_of`, `flip_of`, `free_choices` and `admit` answer by the definitions. `admit` answers with
+//!   the first refusal by numbers, ids, passed events and the clock.
+//! - `apply` changes the rows that one message names. It keeps all others and all sizes.
+//! - `copy` gives equal rows.
+//!
+//! Only `start_rows`, `copy`, `free_choices` and the admission of an `Adopt` take memory.
+//!
+//! Laws of `laws`:
+//!
+//! - A timetable meets the rows exactly where it meets their graph and keeps the passed times.
+//! - A timetable is least for the rows exactly where it is least for their graph.
+//! - Where none of a network's held activities enters a passed event, they can be met exactly where they have no cycle, and then
+//!   a timetable is least.
+//! - An adopted list sets each of its decisions.
+//! - What the definitions give on two small networks: times, costs, refusals, a cycle, touched events, free and violated choices.
 #![tactic(auto)]
 
 mod activity;

@@ -1,4 +1,4 @@
-//! The cases, a line each.
+//! The cases, one line each.
 
 use std::alloc::{AllocError, Global};
 use std::str::FromStr;

@@ -1,4 +1,4 @@
-//! What is due of a case, and how what came compares with it.
+//! What is due of a case, and how the result compares with it.
 
 use crate::case::Case;
 use dm_outside::{FolderShelf, Shelf, take_all};

@@ -1,11 +1,14 @@
 //! Whole runs as data: words over the files of a folder, with the status and the text that are due.
 //!
-//! It reads the file `cases`, a case a line: its name, the folder of its network, the status, and the words of the command
+//! It stands on dm_program for what it tries, and on dm_boards for boards in memory. It promises nothing.
+//!
+//! It reads the file `cases`, one case a line: its name, the folder of its network, the status, and the words of the command
 //! line. A name that `dispatch` opens is looked for in the case's own folder under `runs`, and then in the network's under
-//! `networks`. What is due stands beside the case's own files as `text`; where any one of several texts is right, the
-//! others are `text-2`, `text-3` and so on. The case's boards stand there as `boards`, a board a line, with what each is to show
-//! in the end. For each case it prints `NAME ok`, or what differs. It stands on dm_program for what it tries and on dm_boards for
-//! boards in memory, and promises nothing.
+//! `networks`.
+//!
+//! The case's own folder also has what is due. The text is `text`; where any one of several texts is right, the others are
+//! `text-2`, `text-3` and so on. The boards are in `boards`, one board a line, with what each must show in the end. For each case
+//! it prints `NAME ok`, or what differs.
 #![tactic(auto)]
 
 ghost use Rattle.std.specs.Prelude.{◌≤◌, vec_len, IfOk};

@@ -1,4 +1,4 @@
-//! What a server makes of its boards, by one name for clauses.
+//! What becomes of the boards of a server, under one name for clauses.
 ghost use Rattle.std.specs.Prelude.{ℕ, List};
 ghost use Rattle.dm_network.specs.Net.{Net};
 ghost use Rattle.dm_cert.specs.declared.notes.Note.{Note};

@@ -1,4 +1,4 @@
-//! The start of a server: what its store holds is taken up, and its feeds go on with that.
+//! The start of a server: it takes up what its store holds, and its feeds go on from there.
 ghost use Rattle.std.specs.Prelude.{◌-◌, ◌≡◌, ◌≤◌, ◌<◌, ◌^◌, length, map, All, IfOk, IfErr, OnOk};
 ghost use Rattle.dm_base.specs.declared.limits.TheConstants.{FEEDS, PENALTY};
 ghost use Rattle.dm_cert.specs.declared.limits.TheConstants.{PLANS};

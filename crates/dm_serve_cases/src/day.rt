@@ -1,4 +1,4 @@
-//! A day of the connection at one station, and what is due of it.
+//! A day of the connection at one station, and the logs and text that it has to give.
 
 /// What asks for the server: a line of each feed is answered in a round.
 pub const WORDS: [&str; 7] = [

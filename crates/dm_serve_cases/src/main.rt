@@ -1,14 +1,15 @@
-//! Lives of a live server over a store in memory: each call of a life fails in turn, a crash tears what stood there, and the next
-//! life goes on.
+//! Lives of a live server over a store in memory, where each call of a life fails in turn.
 //!
-//! A day of two feeds is served, a line of each in a round, and the text is compared with one that was worked out by hand. Then
-//! each call on the store fails in a life of its own, from an empty store. The life has to end with its status and its line, and
-//! what it showed has to be a front of each log. On what a crash then leaves, torn in each way, the next life has to end with the
-//! text and the logs of a day without a crash: every line answered once, none lost. For two ways of tearing each call of the next
-//! life fails as well, and a third one has to end so. For each way it prints the status of each life whose call failed, by call,
-//! or a letter where what came of it is wrong: `s` its status, `p` what it printed, `f` what it showed, `n` a life after it. So
-//! it does for each sync of a feed that fails. It stands on dm_serve for what it tries, on dm_store for the store and on what a
-//! server is handed, and promises nothing.
+//! First the program serves a day of two feeds, a line of each in a round, and compares the text with one that was worked out by
+//! hand. Then each call on the store fails in a life of its own, from an empty store. That life has to end with its status and
+//! its line, and what it showed has to be a front of each log. A crash then tears what stood there, in each way, and the next
+//! life goes on from what is left. It has to end with the text and the logs of a day without a crash: every line answered once,
+//! none lost. For two ways of tearing, each call of the next life fails as well, and a third life has to end in the same way.
+//!
+//! For each way of tearing the program prints the status of each life whose call failed, by call. Where something is wrong it
+//! prints a letter instead: `s` for the life's status, `p` for what it printed, `f` for what it showed, `n` for a life after it.
+//! It does the same for each sync of a feed that fails. It stands on dm_serve for what it tries, on dm_store for the store, and
+//! on what a server is handed. It promises nothing.
 #![tactic(auto)]
 
 mod crashes;

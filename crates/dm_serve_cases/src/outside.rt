@@ -1,4 +1,4 @@
-//! The outside of a server that is not its store.
+//! What a server is handed besides its store.
 ghost use Rattle.std.specs.Prelude.{◌≤◌};
 ghost use Rattle.dm_outside.specs.Faults.{HasRisen};
 

@@ -1,9 +1,10 @@
 //! The calls of a server, by one pass and by two.
 //!
-//! On a connection at one station a delay is entered and asked about, messages are refused, a pass that was split is joined
-//! again, a copy of the times follows a delay, and plans are adopted. For each case it prints `NAME ok`, or after how many calls
-//! it came out otherwise. What is due was worked out by hand. It stands on dm_server for what it tries, on dm_search for plans
-//! and on dm_samples for the network, and promises nothing.
+//! It stands on dm_server for what it tries, on dm_search for plans and on dm_samples for the network, and promises nothing.
+//!
+//! The cases use a connection at one station. A delay is entered and asked about, messages are refused, a pass that was split is
+//! joined again, a copy of the times follows a delay, and plans are adopted. What is due was worked out by hand. For each case it
+//! prints `NAME ok`, or the number of calls after which the case came out otherwise.
 #![tactic(auto)]
 
 mod adopting;

@@ -1,17 +1,18 @@
 //! The time of an update: a million changes of one kind on a generated day of two thousand trains.
 //!
-//! `dm_speed [COUNT [KIND]]` makes so many changes of a kind, or of each kind in turn, and then two more that stay, and prints
-//! what the day costs then. The kind `decision` moves an evaluator in place of an engine, and `apart` passes and recalls an event
-//! of a pair between whose events 20,000 others stand. The time is taken from outside. At the end the times are compared with
-//! those from scratch. It stands on dm_propagate for the engine and on dm_samples for the evaluator and the day, and promises
-//! nothing.
+//! It stands on dm_propagate for the engine, and on dm_samples for the evaluator and the day. It promises nothing.
+//!
+//! `dm_speed [COUNT [KIND]]` makes COUNT changes of a kind, or of each kind in turn. Then it makes two more that stay, and prints
+//! what the day costs then. The kind `decision` moves an evaluator in place of an engine. The kind `apart` passes and recalls an
+//! event of a pair, with 20,000 other events between the two. The time is taken from outside. At the end the times are compared
+//! with those from scratch.
 //!
 //! The costs in `stdout` are worked out by hand, from what the generator makes. The last train starts 600 seconds late. Each leg
-//! has 30 seconds to spare under way and 30 at the stop behind it, so it arrives 570, 510, .. 30 seconds late, 3,000 seconds over
-//! ten legs, with ten passengers each time: 30,000 passenger seconds. Five passengers miss the dropped change, at 3,600 seconds
-//! each: 18,000 passenger seconds, which is all that the decisions leave. In thousandths that is 48,000,000 and 18,000,000. The
-//! event of the pair that passes last is 110 seconds late, of which the ten to spare behind it leave 100, for one passenger:
-//! 100,000.
+//! has 30 seconds to spare under way and 30 at the stop behind it. So the train arrives 570, 510, .. 30 seconds late: 3,000
+//! seconds over ten legs, with ten passengers each time, which is 30,000 passenger seconds. Five passengers miss the dropped
+//! change, at 3,600 seconds each: 18,000 passenger seconds, which is all that the decisions leave. In thousandths that is
+//! 48,000,000 and 18,000,000. The event of the pair that passes last is 110 seconds late. The ten seconds to spare behind it
+//! leave 100, for one passenger: 100,000.
 #![tactic(auto)]
 
 mod apart;

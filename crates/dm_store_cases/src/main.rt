@@ -1,11 +1,14 @@
-//! Cases of a journal: its fronts, its bytes changed one by one, wrong ones, and its calls cut short, each recovered; and a real
-//! folder.
+//! Cases of a journal and of its recovery, in memory and in a real folder.
+//!
+//! It stands on dm_store for what it tries, and promises nothing. The cases are the fronts of a journal, its bytes changed one by
+//! one, wrong journals, and calls that are cut short. Each is recovered.
 //!
 //! With no words it prints what each recovery over a store in memory comes to: the number of whole blocks, `n` where the file is
-//! no journal, `o` where it is of another version, `b` where it is broken, and `x` where the store is not left as it ought to
-//! be. `bench/store.py` says the same lines by a second reading of the form. With the words DIR BLOCKS BYTES it opens the real
-//! folder, recovers, commits so many blocks of so many bytes, and says what came of it. It stands on dm_store for what it tries,
-//! and promises nothing.
+//! no journal, `o` where it is of another version, `b` where it is broken, and `x` where the store is not left as it ought to be.
+//! `bench/store_cases.py` says the same lines by a second reading of the form.
+//!
+//! With the words DIR BLOCKS BYTES it opens the real folder DIR, recovers, commits BLOCKS blocks of BYTES bytes each, and says
+//! what happened.
 #![tactic(auto)]
 
 mod crashes;

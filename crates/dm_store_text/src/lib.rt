@@ -5,17 +5,19 @@
 //!
 //! # What is promised
 //!
-//! [`text_of_store`] prints, beside a running server or without one, the run whose book the journal of a store holds. At status Ok
-//! the text is that of a true run in version 2: its history and logs are the book in the blocks that the bytes of the journal are,
-//! no log has a stop, and there are no notes (`IsTextIn`). Each other status has its cause: the files are refused, or one of them
-//! is not told sound; the journal is refused for what its blocks hold, or is not told sound; the sink failed, and took a proper
-//! front of a text that was due; at want of memory nothing was written. It takes no lock and changes nothing: the shelf tells what
-//! it told.
+//! [`text_of_store`] prints the run whose book the journal of a store holds, beside a running server or without one. It takes no
+//! lock and changes nothing: the shelf tells what it told.
 //!
-//! [`end_files`], [`end_store`], [`end_refused`], [`end_reply`], [`end_feed`], [`end_unread`] and [`end_server_usage`] write the
-//! line that they name whole, with its status, or the sink failed. [`end_run`] does so with the text of a run.
+//! At status Ok the text is that of a true run in version 2. The run's history and logs are the book in the blocks that the bytes
+//! of the journal are. No log has a stop, and there are no notes (`IsTextIn`). Each other status has its cause: the files are
+//! refused, or one of them is not told sound; the journal is refused for what its blocks hold, or is not told sound; or the sink
+//! failed, and took a proper front of a text that was due. At want of memory nothing was written.
 //!
-//! [`laws`]: a journal that holds a true book, with an end that a crash may leave, is refused for want of memory or of room alone.
+//! [`end_files`], [`end_store`], [`end_refused`], [`end_reply`], [`end_feed`], [`end_unread`] and [`end_server_usage`] each write
+//! the line that they name whole, with its status, unless the sink failed. [`end_run`] does so with the text of a run.
+//!
+//! [`laws`]: a journal that holds a true book, with an end that a crash may leave, is refused for want of memory or of room
+//! alone.
 #![tactic(auto)]
 
 mod ends;

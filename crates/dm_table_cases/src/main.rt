@@ -1,7 +1,7 @@
 //! Tables with a million entries, entries replayed, and a table copied.
 //!
-//! For each case it prints `NAME ok`, or after how many steps it came out otherwise. The times and refusals that are due were
-//! worked out by hand. It stands on dm_table and dm_history for what it tries and on dm_samples for networks, and promises
+//! For each case it prints `NAME ok`, or the number of steps after which the result differed. The times and refusals that are due
+//! were worked out by hand. It stands on dm_table and dm_history for what it tries and on dm_samples for networks, and promises
 //! nothing.
 #![tactic(auto)]
 

@@ -1,13 +1,13 @@
 //! A table as a desk, for a server of one thread.
 //!
-//! It stands on dm_desk for what a desk promises and on dm_table for what answers. A [`TableDesk`] has its table to itself: it has
-//! seen every entry of it, and entered each.
+//! It stands on dm_desk for what a desk promises and on dm_table for what answers. A [`TableDesk`] has its table to itself: it
+//! has seen every entry of the table, and entered each.
 //!
 //! # What is promised
 //!
-//! `TableDesk`: the calls of a `Desk` at the history of its table, whose entries are its own, by their numbers from 1
-//! (`desk_of`). Memory is taken for the room of an entry, for a cycle that is shown, for the copy of the rows, and for the
-//! choices of a plan that is adopted.
+//! A `TableDesk` answers the calls of a `Desk` at the history of its table. The entries of that history are its own, by their
+//! numbers from 1 (`desk_of`). It takes memory for the room of an entry, for a cycle that is shown, for the copy of the rows, and
+//! for the choices of a plan that is adopted.
 #![tactic(auto)]
 
 mod entering;

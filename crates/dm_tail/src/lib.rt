@@ -1,19 +1,21 @@
-//! Feeds that others append to, and what of them is answered.
+//! Feeds that others append to, and how their lines are answered.
 //!
-//! It stands on dm_desk, which answers lines whose bytes are in memory, and on dm_feed for lines. A [`Growing`] feed gives its next
-//! bytes as others append them; a [`Tail`] keeps what is not yet answered of it, and a [`Watched`] feed has its log besides.
+//! It stands on dm_desk, which answers lines whose bytes are in memory, and on dm_feed for lines. A [`Growing`] feed gives its
+//! next bytes as others append them. A [`Tail`] keeps what is not yet answered of it. A [`Watched`] feed has its log besides.
 //!
 //! # What is promised
 //!
 //! The trait `Growing` says what a feed gives: each read goes on where the one before ended, and a fault is counted.
 //!
-//! `Tail::look` reads the next bytes behind what is pending (`Takes`), and stops at a fault, whose cause it tells, or at
-//! [`LARGEST_FEED`] bytes. `Watched::answer` answers the next due lines of a feed over any desk (`Answers`), fewer than the batch
-//! only where no line that ends is left: the lines that were passed, and what is pending behind them, are all that the feed has
-//! given, and the log answers those lines, each due one once and in order, truly (`IsWatched`).
+//! `Tail::look` reads the next bytes behind what is pending (`Takes`). It stops at a fault, whose cause it tells, or at
+//! [`LARGEST_FEED`] bytes.
 //!
-//! `answer_feeds` does so for feeds in their order, over one desk (`AnswersAll`): what the desk entered meanwhile is named by just one
-//! of the items that came.
+//! `Watched::answer` answers the next due lines of a feed over any desk (`Answers`). It answers fewer than the batch only where
+//! no line that ends is left. The lines that were passed, and what is pending behind them, are all that the feed has given. The
+//! log answers those lines truly, each due one once and in order (`IsWatched`).
+//!
+//! `answer_feeds` does so for feeds in their order, over one desk (`AnswersAll`). What the desk entered meanwhile is named by
+//! just one of the items that came.
 #![tactic(auto)]
 
 mod feeds;

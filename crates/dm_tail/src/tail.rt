@@ -1,4 +1,4 @@
-//! A feed that grows, and what of it is not yet answered.
+//! A feed that grows, and the part of it that is not yet answered.
 ghost use Rattle.std.specs.Prelude.{◌≡◌, ◌+◌, ◌≤◌, ◌++◌, false, [], length, drop, None, IfOk, OnOk};
 
 use crate::growing::Growing;

@@ -1,9 +1,9 @@
 //! Feeds that are answered part by part, and rounds that are printed, read back, cut and broken.
 //!
-//! For each case it prints `NAME ok`, or after how many steps it came out otherwise. What feeds are answered and what is told of
-//! rounds was worked out by hand; the answers to drawn feeds in drawn parts stand beside those to the whole feed. It stands on
-//! dm_desk and dm_tape for what it tries, on dm_table_desk and dm_search for what answers, and on dm_samples for networks, and
-//! promises nothing.
+//! For each case it prints `NAME ok`, or after how many steps it came out otherwise. The answers to feeds, and what is told of
+//! rounds, were worked out by hand. The answers to drawn feeds in drawn parts are compared with those to the whole feed. It
+//! stands on dm_desk and dm_tape for what it tries, on dm_table_desk and dm_search for what answers, and on dm_samples for
+//! networks. It promises nothing.
 #![tactic(auto)]
 
 mod broken;

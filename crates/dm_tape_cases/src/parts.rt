@@ -1,4 +1,4 @@
-//! Feeds in parts, beside what is due or what the whole is answered.
+//! Feeds in parts, compared with what is due or with the answers to the whole feed.
 
 use crate::drawing::{drawn_cuts, drawn_feed};
 use crate::feeding::log_of;

@@ -1,4 +1,4 @@
-//! Feeds and what they are answered, and rounds.
+//! Feeds with their answers, and rounds.
 
 use dm_cert::CertKind;
 

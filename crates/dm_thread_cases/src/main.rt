@@ -1,10 +1,12 @@
 //! Feeds and workers that threads run at once.
 //!
 //! Two feeds of a thousand delays each are run twenty times, and each text is checked. Two feeds wait for each other at the gate,
-//! before their lines and behind them, so that one reads while the other waits; so do two workers that search for a plan, and a worker
-//! and a feed that is read during the search. The nodes that one worker expands are counted, and each write of the text of two feeds
-//! fails in turn. What is due was worked out by hand, and holds however the threads take turns. For each case it prints `NAME ok`, or
-//! after how many runs it came out otherwise. It stands on dm_program for what it tries, and promises nothing.
+//! before their lines and behind them, so that one reads while the other waits. Two workers that search for a plan do the same,
+//! and so do a worker and a feed that is read during the search. The nodes that one worker expands are counted. Each write of the
+//! text of two feeds fails in turn.
+//!
+//! What is due was worked out by hand, and holds however the threads take turns. For each case it prints `NAME ok`, or the number
+//! of runs after which the result differed. It stands on dm_program for what it tries, and promises nothing.
 #![tactic(auto)]
 
 mod delays;

@@ -1,19 +1,18 @@
 //! One history over passes: a lock that hands a state to one holder at a time, in the order of drawn tickets.
 //!
-//! It stands on dm_rows for the entries of a history, and on atomic_table for the words and the slot. A [`Pass`] is what
-//! one caller knows: which beginning of the history it has seen, and which entries are its own, with their numbers. The
-//! rule in `specs/Rule.antt` holds between any two steps, so whoever takes the state sees all that was seen before, and
-//! at the end the own entries of all passes are the history from its opening on, each once. No call but `new` takes
-//! memory. That a call which waits returns is not promised.
+//! It stands on dm_rows for the entries of a history, and on atomic_table for the words and the slot. A [`Pass`] is what one
+//! caller knows: which beginning of the history it has seen, and which entries are its own, with their numbers. The rule in
+//! `specs/Rule.antt` holds between any two steps. So whoever takes the state sees all that was seen before. At the end the
+//! own entries of all passes are the history from its opening on, each once.
 //!
 //! # What is promised
 //!
-//! `Turn::new`, `split`, `join`, `take`, `add`, `give`, `close`: one history over all passes. What a pass has seen is a
-//! front of it; `take` gives the state whose history is what the pass has then seen; `add` enters exactly one entry under
-//! its number; at `close` the pass's own numbers are exactly those above the opening length. `take` waits, so it promises
-//! if it returns. All but `new` take no memory.
+//! `Turn::new`, `split`, `join`, `take`, `add`, `give` and `close` keep one history over all passes. What a pass has seen is
+//! a front of it. `take` gives the state whose history is what the pass has then seen. `add` enters exactly one entry under
+//! its number. At `close` the pass's own numbers are exactly those above the opening length. `take` waits, so it promises
+//! only if it returns. That it returns is not promised. All but `new` take no memory.
 //!
-//! `rest` has no clause: it is to wake one caller that stands back, and how soon anybody is served is not promised.
+//! `rest` has no clause. It is to wake one caller that stands back. How soon anybody is served is not promised.
 #![tactic(auto)]
 
 mod parking;

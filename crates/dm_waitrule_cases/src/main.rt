@@ -1,9 +1,11 @@
 //! Waiting rules beside cases worked out by hand, and beside their slow reading.
 //!
+//! It stands on dm_samples for days and messages, and promises nothing.
+//!
 //! At one station each case comes to choices that were worked out by hand: a change kept and dropped, a passed head, a clock,
-//! ties of all kinds, a change that would close a cycle. On generated days a rule is tried after drawn messages, and compared with
-//! a reading of its definition that computes every timetable from scratch and looks for the next change among all. For each
-//! case it prints `NAME ok`. It stands on dm_samples for days and messages, and promises nothing.
+//! ties of all kinds, a change that would close a cycle. On generated days a rule is tried after drawn messages. It is compared
+//! with a slow reading of its definition, which computes every timetable from scratch and looks for the next change among all.
+//! For each case it prints `NAME ok`.
 #![tactic(auto)]
 
 mod day;

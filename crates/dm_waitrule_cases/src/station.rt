@@ -1,7 +1,7 @@
 //! One station, at which each case is worked out by hand.
 //!
-//! The first train, late by a minute, comes there at 250, event 2, and goes on at 260, event 3. The second train, event 5, leaves
-//! behind it, at 268, where it waits for nobody.
+//! The first train is a minute late. It comes there at 250 (event 2), and goes on at 260 (event 3). Where the second train waits
+//! for nobody, it leaves behind the first, at 268 (event 5).
 
 use crate::day::Day;
 use dm_base::{ActId, ActKind, ActRow, EventId, EventKind, EventRow, Secs, StopId};

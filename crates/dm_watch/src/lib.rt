@@ -2,18 +2,20 @@
 //!
 //! It stands on dm_tail for feeds, on dm_table_desk for a table that answers, on dm_store for the journal and the reply files, on
 //! dm_book for what a crash may leave, and on dm_tape and dm_items for what stands in the journal and in the reply files. A
-//! [`Watch`] is a table with feeds, and [`Watch::round`] goes once over the feeds: it answers their new lines, syncs the feeds that
-//! lines came of, commits the answers as one block, and then appends them to the reply files.
+//! [`Watch`] is a table with feeds. [`Watch::round`] goes once over the feeds. It answers their new lines, and syncs the feeds
+//! from which lines came. It commits the answers as one block, and then appends them to the reply files.
 //!
 //! # What is promised
 //!
-//! `Watch::round` asks that the logs answer what the feeds have given (`IsWatching`) and that all of them were shown; so it is after
-//! the round (`watching`, `shown`). `answers`: the next due lines of each feed were answered, in the order of the feeds
-//! (`GoesRound`). `rounds`: where the logs were settled in the journal and in the reply files, a crash at any moment of the round
-//! leaves a true book between that from before and a later one, of whose logs all that was shown is a front; at `Ok` the later one is
-//! that of the watch, and it is settled (`Rounds`). `idle`, `new`: where no log has grown nothing was done to the journal, and the
-//! answer says so. `cause`: each stop has its cause (`StopsRound`); want of memory is always one. `later`: the count of the store's
-//! faults never falls. At `Err` the watch is gone: a later start goes on with what is in the journal.
+//! `Watch::round` asks that the logs answer what the feeds have given (`IsWatching`), and that all of them were shown. Both hold
+//! again after the round (`watching`, `shown`). `answers`: the next due lines of each feed were answered, in the order of the
+//! feeds (`GoesRound`). `idle`, `new`: where no log has grown, nothing was done to the journal, and the answer says so. `cause`:
+//! each stop has its cause (`StopsRound`); want of memory always counts as one. `later`: the count of the store's faults never
+//! falls. At `Err` the watch is gone: a later start goes on with what is in the journal.
+//!
+//! `rounds` (`Rounds`) is for logs that were settled in the journal and in the reply files before the round. The round leads from
+//! the book before it to a later book. A crash at any moment of the round leaves a true book between the two, and all that was
+//! shown is a front of the logs of the book that is left. At `Ok` the later book is that of the watch, and it is settled.
 #![tactic(auto)]
 
 mod keeping;

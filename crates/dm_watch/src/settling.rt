@@ -1,4 +1,4 @@
-//! A round that is settled: its items come into the journal, and are shown then.
+//! A round that is settled: its items come into the journal, and are then shown.
 ghost use Rattle.std.specs.Prelude.{◌≡◌, ◌≤◌, ℕ, List, All, length, map, IfOk, IfErr};
 ghost use Rattle.dm_cert.specs.Answers.{Setting};
 ghost use Rattle.dm_cert.specs.RunTexts.{IsSpelledItem};

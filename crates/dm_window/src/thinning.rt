@@ -1,4 +1,4 @@
-//! Plans with as few choices as serve.
+//! Plans without the choices that are worth little.
 ghost use Rattle.std.specs.Prelude.{ℕ, ◌≡◌, ◌+◌, ◌<◌, ◌≤◌, ◌↔◌, length, IsTrue, IfOk, IfSome, MatchOption};
 ghost use Rattle.std.specs.List.{remove};
 ghost use Rattle.dm_base.specs.declared.limits.TheConstants.{PENALTY};

@@ -1,16 +1,14 @@
 //! The words of a command line, and what they ask for.
 //!
-//! It stands on dm_lintim for column words and on dm_base for numbers and limits. [`read_words`] gives what the words of a
-//! command ask for, exactly where they ask for something, and takes no memory. [`board_words`] gives the stops of the boards
-//! that a run is to have. [`read_serve_words`] gives what words ask of the live server. That words ask for one thing at most is
-//! a law.
+//! It stands on dm_lintim for column words and on dm_base for numbers and limits.
 //!
 //! # What is promised
 //!
-//! `read_words` reads the words of `run`, `check`, `gen`, `follow`, `window`, `rules` and `journey` exactly as the tables have
-//! them, without memory: what is asked for exactly where the words are in them, and nothing exactly outside. `board_words` gives
-//! the stops of the boards of a run's words, else none, and may want memory. `read_serve_words` reads the words of `serve` and
-//! `text` as exactly, without memory. Words ask for one thing at most, and those of a server ask for no command.
+//! [`read_words`] reads the words of `run`, `check`, `gen`, `follow`, `window`, `rules` and `journey` exactly as `specs/` has
+//! them. It gives what is asked for exactly where the words have a meaning there, and nothing elsewhere. [`board_words`] gives
+//! the stops of the boards that a run's words ask for, and none for other words. It may want memory. [`read_serve_words`] reads
+//! the words of `serve` and `text` just as exactly, and gives what they ask of the live server. It and `read_words` take no
+//! memory. Laws: words ask for one thing at most, and those of a server ask for no command.
 #![tactic(auto)]
 
 mod boards;

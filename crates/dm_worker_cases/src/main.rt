@@ -1,13 +1,18 @@
 //! Searches by several workers.
 //!
-//! A thief takes the first task of a deque. Nodes of the plan where the first train of a connection is a minute late are
-//! expanded by hands of one word, with an evaluator and without, and this plan is searched by 1, 2 and 16 workers; on a
-//! generated day of 100 trains 16 workers search 50 times. Of two workers one is held up by a gate until the other has stolen a
-//! node of it. Two days on which more than 64 choices are violated at the root are planned by 1, 2 and 4 workers, who expand the
-//! tree from their deques, and each of whom passes the gate as it starts and as it ends. Of the late one of these days the plan by
-//! several workers is compared with that by one. All else that is due was worked out by hand, and holds however the threads take
-//! turns. For each case it prints `NAME ok`, or after how many steps it came out otherwise. It stands on dm_workers for what it
-//! tries and on dm_samples for networks, and promises nothing.
+//! It stands on dm_workers for what it tries and on dm_samples for networks, and promises nothing. For each case it prints
+//! `NAME ok`, or the number of steps after which it came out otherwise.
+//!
+//! - A thief takes the first task of a deque.
+//! - Nodes of the plan where the first train of a connection is a minute late are expanded by hands of one word, with an
+//!   evaluator and without. This plan is searched by 1, 2 and 16 workers.
+//! - One of two workers is held up by a gate until the other has stolen one of its nodes.
+//! - Two days on which more than 64 choices are violated at the root are planned by 1, 2 and 4 workers. The workers expand the
+//!   tree from their deques. Each of them passes the gate as it starts and as it ends. On the late one of these days, the plan by
+//!   several workers is compared with the plan by one.
+//! - On a generated day of 100 trains, 16 workers search 50 times.
+//!
+//! All else that is due was worked out by hand, and holds however the threads take turns.
 #![tactic(auto)]
 
 mod crowded;

@@ -1,4 +1,4 @@
-//! A worker that is slow, of whose nodes another takes one.
+//! A slow worker, and another that steals one of its nodes.
 
 use crate::late::late_rows;
 use crate::passing::EXPANDS;

@@ -1,5 +1,5 @@
-//! The protocol of the deques that the workers share; the call that a worker makes once a node, with an evaluator or without; what all
-//! workers find; and the plan of it.
+//! The protocol of the shared deques, a worker's call at one node, what all workers find, and the plan of it. The call stands
+//! here with an evaluator and without one.
 
 pub use crate::expanding::{expand, expand_with};
 pub use crate::finding::{Beginning, Found, find};

@@ -5,35 +5,38 @@
 //!
 //! # What is promised
 //!
-//! `search` gives a true plan of the rows of a snapshot, or wants memory: the clause of dm_search's `finish`. `search_task` does
-//! so for any task, with an entry. [`laws::expand`] is what a worker does at one node, for a path over the rows of a snapshot: it
-//! looks at the word once, answers dm_search's `step` for the value that the word has, and lowers the word where it has found
-//! choices. Where it wants memory it has looked, and lowered the word by nothing. [`laws::expand_with`] does so behind the base of a
-//! task by an evaluator that goes there, and branches on a choice that it is hinted at, where that one is violated: this is what
-//! workers call.
+//! `search` gives a true plan of the rows of a snapshot, or wants memory. This is the clause of dm_search's `finish`.
+//! `search_task` does so for any task, with an entry: it is `find` and then `plan_of`.
+//!
+//! [`laws::expand`] is what a worker does at one node, for a path over the rows of a snapshot. It looks at the word once, and
+//! answers dm_search's `step` for the value that the word has. Where it has found choices, it lowers the word. Where it wants
+//! memory, it has looked, and has lowered the word by nothing. [`laws::expand_with`] does the same behind the base of a task, by
+//! an evaluator that goes there. It branches on the choice that it is hinted at, where that one is violated. Workers call this
+//! one.
 //!
 //! [`laws::find`] is what all workers do with a guide's tree, from choices that are kept. Each path that was put on a deque was
-//! taken, once: in the end no tally is out, and each deque is empty. No path of a leaf that is handed in is a front of
-//! another's. Each leaf is a cycle, a bound with its relaxed cost, or an open leaf at which some choice is violated. The
-//! choices that come out cost no more than those that went in, and than any bound that is handed in: a worker lowers the word
-//! by the costs of choices that it keeps alone (that none is dearer than a value of the word at which one pruned is proved
-//! inside, and is no clause of `find`). [`laws::plan_of`] gives a true plan of what was found. It costs no more than these
-//! choices; and each choice, cycle and bound of the least tree with the leaves stands in its tree at the same path, where that
-//! tree keeps to the budget. So each bound that is handed in is then a true bound of the plan. `search_task` is `find` and then
-//! `plan_of`.
+//! taken, once. In the end no tally is out, and each deque is empty. No path of a leaf that is handed in is a front of another's.
+//! Each leaf is a cycle, a bound with its relaxed cost, or an open leaf at which some choice is violated. The choices that come
+//! out cost no more than those that went in, and no more than any bound that is handed in. This is because a worker lowers the
+//! word only by the costs of choices that it keeps. (That the choices that come out are no dearer than a value of the word at
+//! which a worker pruned is proved inside, and is no clause of `find`.)
+//!
+//! [`laws::plan_of`] gives a true plan of what was found. It costs no more than these choices. Where the least tree with the
+//! leaves keeps to the budget, each choice, cycle and bound of it stands in the plan's tree at the same path. So each bound that
+//! is handed in is then a true bound of the plan.
 //!
 //! # How the workers search
 //!
 //! No clause of a public call says what stands here. A guide is found first, by searchers in threads, and its choices are made
-//! out. Meanwhile other threads make an evaluator for each worker; one of them comes back to the calling thread. Each worker
-//! has a deque of its own, takes its last node, or the first of another's, and expands it: it looks at a word that all lower by
-//! the costs that they find, and goes to the node with its evaluator. A node becomes two where the guide's tree goes on and its
-//! choice is violated there, and else a leaf that is handed in. A worker makes at most its share of branchings, (budget - 1) /
-//! (2 * workers), and leaves nodes to the others then; what all leave is a hole. The calling thread puts the leaves together
-//! and goes on from there, so every hole is still searched.
+//! out. Meanwhile other threads make an evaluator for each worker; one of them comes back to the calling thread. Each worker has
+//! a deque of its own. It takes the last node of that deque, or the first of another's, and expands it. For that it looks at a
+//! word that all lower by the costs that they find, and goes to the node with its evaluator. A node becomes two where the guide's
+//! tree goes on and its choice is violated there. Otherwise it becomes a leaf that is handed in. A worker makes at most its share
+//! of branchings, (budget - 1) / (2 * workers), and then leaves nodes to the others. What all leave is a hole. The calling thread
+//! puts the leaves together and goes on from there, so every hole is still searched.
 //!
-//! `search` waits for its threads, so it promises if it returns. A gate is passed at point 3 when a worker starts, 5 before each
-//! node that it expands, 4 when it ends, with the worker's number from 1.
+//! `search` waits for its threads, so its promise holds if it returns. A gate is passed at point 3 when a worker starts, at point
+//! 5 before each node that it expands, and at point 4 when it ends, with the worker's number from 1.
 #![tactic(auto)]
 
 mod expanding;
