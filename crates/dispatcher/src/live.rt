@@ -7,7 +7,7 @@ ghost use Rattle.dm_store_text.specs.Asked.{IsAsked};
 
 use crate::pace::FilePace;
 use dm_outside::{Board, FolderShelf, OpenGate, Sink};
-use dm_serve::{Means, Server, serve_day};
+use dm_serve::{Server, ServerMeans, serve_day};
 use dm_store::{FileStore, Journal, OpenError};
 use dm_store_text::{Status, end_server_usage, end_store, end_unread, text_of_store};
 use dm_tail::FileFeed;
@@ -100,7 +100,7 @@ fn serve<
         pauses: 0,
         since,
     };
-    let means = Means {
+    let means = ServerMeans {
         rt,
         alloc,
         gate: &OpenGate,

@@ -1,5 +1,5 @@
 //! Readers of decimal texts.
-ghost use Rattle.std.specs.Prelude.{◌≡◌, ◌≢◌, ℕ, ◌+◌, ◌-◌, ◌*◌, ◌^◌, ◌<◌, ◌≤◌, ◌↔◌, length, take, drop, All, slice_index, slice_index_or, SomeIff, MatchOption};
+ghost use Rattle.std.specs.Prelude.{◌≡◌, ℕ, ◌+◌, ◌-◌, ◌*◌, ◌^◌, ◌<◌, ◌≤◌, ◌↔◌, length, take, drop, All, slice_index, slice_index_or, SomeIff, MatchOption};
 ghost use Rattle.std.specs.Char.{IsAsciiDigit};
 ghost use Rattle.std.specs.List.{AllWithin};
 ghost use Rattle.dm_base.specs.Numbers.{IsDigits, IsEnding, IsMilliText, ReadsNumber, whole_value, milli_value, thousandths_value};

@@ -1,7 +1,7 @@
 //! A board in memory.
-ghost use Rattle.std.specs.Prelude.{◌≡◌, ◌==◌, ◌⊎◌, ◌↔◌, ◌<◌, true, false, ℕ, Bool, List, All, Contains, Some, None, IsSome, IsOk, IsErr, IfOk, OnOk, OnErr, IsTrue, is_some, length, position, replicate, vec_len};
-ghost use Rattle.dm_outside.specs.Board.{Sets, IsShown, times_after};
-ghost use Rattle.dm_outside.specs.Calls.{IsListed, NoneListed, next_call};
+ghost use Rattle.std.specs.Prelude.{◌≡◌, ◌==◌, ◌↔◌, ◌<◌, true, ℕ, All, Some, None, IsOk, IsErr, IfOk, OnOk, OnErr, IsTrue, is_some, length, position, replicate, vec_len};
+ghost use Rattle.dm_outside.specs.Board.{Sets, times_after};
+ghost use Rattle.dm_outside.specs.Calls.{NoneListed, next_call};
 ghost use Rattle.dm_outside.specs.Faults.{Counts};
 ghost use Rattle.dm_boards.specs.Memory.{time_shown, knows, knows_all, Fails};
 

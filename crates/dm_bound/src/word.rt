@@ -1,5 +1,5 @@
 //! The word and its hands.
-ghost use Rattle.std.specs.Prelude.{◌≡◌, ℕ, ◌+◌, ◌-◌, ◌≤◌, [], ◌∷◌, ◌++◌, min, IfOk};
+ghost use Rattle.std.specs.Prelude.{◌≡◌, ◌+◌, ◌-◌, ◌≤◌, [], ◌∷◌, ◌++◌, min, IfOk};
 ghost use Rattle.dm_bound.specs.Words.{lowest, nothing_looked};
 
 use crate::rule::{About, Cut, Glue, Least, Look, Lower, WordSeat};

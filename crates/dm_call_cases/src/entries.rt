@@ -1,5 +1,4 @@
 //! Entries that are kept one by one.
-ghost use Rattle.std.specs.Prelude.{◌≡◌};
 
 use crate::day::LATE;
 use dm_base::limits::ENTRIES;

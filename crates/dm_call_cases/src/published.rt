@@ -1,5 +1,5 @@
 //! Times on boards in memory.
-ghost use Rattle.std.specs.Prelude.{◌≡◌, length, IfOk, vec_len};
+ghost use Rattle.std.specs.Prelude.{◌≡◌, length};
 
 use crate::day::{LATE, rows_after, times_of};
 use dm_boards::MemBoard;

@@ -72,7 +72,7 @@ fn ends_line(bytes: &[u8]) -> bool
     hear_first(bytes).is_some()
 }
 
-/// Reads more of a feed, of which so many items are answered, and passes the lines that the next ones answer. It answers how many
+/// Reads more of a feed, of which so many items are answered, and skips the lines that the next ones answer. It answers how many
 /// are answered then.
 fn skip_more<T: Growing + Drop>(
     alloc: Global,

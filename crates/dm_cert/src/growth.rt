@@ -1,7 +1,7 @@
 //! Trees that grow from their leaves in preorder.
 ghost use Rattle.dm_tree.specs.declared.forms.Leaf.{Leaf as LeafValue};
 ghost use Rattle.dm_rows.specs.declared.messages.Decision.{Decision as DecisionValue};
-ghost use Rattle.std.specs.Prelude.{◌≡◌, ◌∷◌, ◌++◌, ◌<◌, ◌≤◌, [], List, length, take, drop, IfOk, OnOk, MatchBool, MatchOption, false, true};
+ghost use Rattle.std.specs.Prelude.{◌≡◌, ◌∷◌, ◌++◌, ◌<◌, [], List, IfOk, OnOk, MatchBool, MatchOption, false, true};
 ghost use Rattle.dm_tree.specs.Pending.{pending};
 ghost use Rattle.dm_cert.specs.PlansRead.{IsSpelledLeaf};
 ghost use Rattle.dm_cert.specs.Inside.Growing.{Grows, IsBroken, IsDown, IsGrown};

@@ -1,5 +1,5 @@
 //! Leaves read with their paths.
-ghost use Rattle.std.specs.Prelude.{◌≡◌, [], IfOk, MatchOption};
+ghost use Rattle.std.specs.Prelude.{IfOk, MatchOption};
 ghost use Rattle.dm_text.specs.Judging.{Line};
 ghost use Rattle.dm_cert.specs.PlansRead.{Answers, IsLeafLine, cut_line, misshapen_line};
 ghost use Rattle.dm_cert.specs.Inside.PlanPaths.{IsPath, IsNoPath};

@@ -1,10 +1,10 @@
 //! The lines of a plan's text, each read from its front. Nothing here takes memory.
-ghost use Rattle.std.specs.Prelude.{◌≡◌, ◌⊎◌, codes};
+ghost use Rattle.std.specs.Prelude.{◌≡◌};
 ghost use Rattle.std.specs.Option.{option_map};
 ghost use Rattle.dm_feed.specs.Parts.{largest_id};
 ghost use Rattle.dm_cert.specs.PlanTexts.{largest_cost};
 ghost use Rattle.dm_cert.specs.PlansRead.{size_words};
-ghost use Rattle.dm_cert.specs.Inside.PlanLines.{number_behind, keep_in, drop_in, first_in, decision_in, choice_in, mark_in, counts_in, costs_in, heading_in, leaf_in, leaf_behind, change_in, pair_in, node_in, bound_in, open_in, end_in, node_in_front};
+ghost use Rattle.dm_cert.specs.Inside.PlanLines.{number_behind, first_in, decision_in, choice_in, mark_in, counts_in, costs_in, heading_in, leaf_in, leaf_behind, change_in, pair_in, node_in, bound_in, open_in, end_in, node_in_front};
 
 use dm_base::{ActId, Cost, EventId};
 use dm_rows::{Choice, Decision};

@@ -1,5 +1,5 @@
 //! Which entries are named as accepted by some log.
-ghost use Rattle.std.specs.Prelude.{ℕ, ◌≡◌, ◌++◌, [], ◌∷◌, ◌<◌, ◌≤◌, List, length, IfOk, true, false, slice_index_or};
+ghost use Rattle.std.specs.Prelude.{ℕ, ◌≡◌, ◌++◌, [], ◌∷◌, ◌<◌, List, length, true, false, slice_index_or};
 ghost use Rattle.dm_rows.specs.declared.messages.Entry.{Entry as EntryValue};
 ghost use Rattle.dm_feed.specs.declared.grammar.Line.{Line as Said};
 ghost use Rattle.dm_cert.specs.declared.replies.LogItem.{LogItem};
@@ -8,7 +8,7 @@ ghost use Rattle.dm_cert.specs.declared.replies.FeedLog.{FeedLog};
 ghost use Rattle.dm_cert.specs.Logs.{all_items};
 ghost use Rattle.dm_check_rows.specs.Claims.{Tells};
 ghost use Rattle.dm_records.specs.Readings.{reply_of};
-ghost use Rattle.dm_check.specs.FalseRecords.{AreNamed, TellsBoards};
+ghost use Rattle.dm_check.specs.FalseRecords.{TellsBoards};
 ghost use Rattle.dm_check.specs.Judged.{AreFlagged, IsFlaggedAt, Judges};
 
 use crate::faults::Fault;

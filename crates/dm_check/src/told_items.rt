@@ -1,5 +1,5 @@
 //! The items of a log. Each is true, and in order after those before it.
-ghost use Rattle.std.specs.Prelude.{ℕ, ◌≡◌, ◌+◌, ◌<◌, ◌≤◌, List, length, Bool, true, Ok, IfOk};
+ghost use Rattle.std.specs.Prelude.{ℕ, ◌≡◌, ◌<◌, ◌≤◌, List, Bool, true, Ok, IfOk};
 ghost use Rattle.dm_cert.specs.declared.limits.TheConstants.{PLANS};
 ghost use Rattle.dm_feed.specs.Lines.{IsSpelledLine};
 ghost use Rattle.dm_text.specs.Places.{Place};

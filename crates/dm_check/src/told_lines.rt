@@ -1,5 +1,4 @@
 //! The next line of a text, read as each kind of record. A line that is cut or misshapen stops the judgement.
-ghost use Rattle.std.specs.Prelude.{◌≡◌};
 ghost use Rattle.dm_records.specs.RunLines.{IsNumberLine, IsVersionLine, IsEntryLine, IsOpeningLine, IsStopLine, IsNoteLine, IsTimeLine, IsWordLine, IsItemLine};
 ghost use Rattle.dm_records.specs.Readings.{numbered, opening, note, timed, item_of};
 ghost use Rattle.dm_check.specs.FalseRecords.{Reads};

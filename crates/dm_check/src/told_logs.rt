@@ -1,5 +1,5 @@
 //! The logs of all feeds.
-ghost use Rattle.std.specs.Prelude.{ℕ, ◌≡◌, ◌+◌, ◌<◌, ◌≤◌, List, [], length};
+ghost use Rattle.std.specs.Prelude.{◌≡◌, ◌+◌, ◌<◌, ◌≤◌, List, [], length};
 ghost use Rattle.dm_base.specs.declared.limits.TheConstants.{FEEDS};
 ghost use Rattle.dm_cert.specs.declared.replies.FeedLog.{FeedLog};
 ghost use Rattle.dm_records.specs.RunLines.{IsOpeningLine};

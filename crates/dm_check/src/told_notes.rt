@@ -1,12 +1,12 @@
 //! Boards that were dropped, each noted once.
-ghost use Rattle.std.specs.Prelude.{ℕ, ◌≡◌, ◌++◌, [], ◌∷◌, ◌<◌, ◌≤◌, List, length, All};
-ghost use Rattle.dm_base.specs.declared.limits.TheConstants.{BOARDS, ENTRIES};
+ghost use Rattle.std.specs.Prelude.{◌≡◌, [], ◌<◌, List, length, All};
+ghost use Rattle.dm_base.specs.declared.limits.TheConstants.{BOARDS};
 ghost use Rattle.dm_rows.specs.declared.messages.Entry.{Entry as EntryValue};
 ghost use Rattle.dm_cert.specs.declared.notes.Note.{Note};
 ghost use Rattle.dm_check_rows.specs.Claims.{Tells};
 ghost use Rattle.dm_records.specs.Readings.{note};
-ghost use Rattle.dm_check.specs.FalseRecords.{IsNextNote, TellsNote};
-ghost use Rattle.dm_check.specs.Judged.{AreBefore, Judged, NotesOn, TellsNotes};
+ghost use Rattle.dm_check.specs.FalseRecords.{IsNextNote};
+ghost use Rattle.dm_check.specs.Judged.{AreBefore, NotesOn, TellsNotes};
 
 use crate::faults::{Fault, Stop};
 use crate::told_lines::note_told;

@@ -1,9 +1,6 @@
 //! A plan in a log: the line of its item, followed by its block.
-ghost use Rattle.std.specs.Prelude.{◌≡◌, ◌≤◌, List, length, IfOk};
+ghost use Rattle.std.specs.Prelude.{◌≡◌, ◌≤◌};
 ghost use Rattle.dm_cert.specs.PlanTexts.{IsVersion};
-ghost use Rattle.dm_cert.specs.declared.replies.LogItem.{LogItem};
-ghost use Rattle.dm_cert.specs.declared.replies.LogItem.TheVariants.{Answered};
-ghost use Rattle.dm_cert.specs.declared.replies.Reply.TheVariants.{Planned};
 ghost use Rattle.dm_records.specs.Readings.{opening_of};
 ghost use Rattle.dm_check.specs.Judged.{TellsBlock};
 ghost use Rattle.dm_check.specs.Inside.Blocks.{without_plan};

@@ -1,5 +1,5 @@
 //! Answers to `adopt`.
-ghost use Rattle.std.specs.Prelude.{◌≡◌, List};
+ghost use Rattle.std.specs.Prelude.{List};
 ghost use Rattle.dm_feed.specs.declared.grammar.Line.TheVariants.{Adopt as AskAdopt};
 ghost use Rattle.dm_cert.specs.declared.replies.LogItem.{LogItem};
 ghost use Rattle.dm_cert.specs.Answers.{IsOld, HasNoRoom, IsTrueReply};

@@ -1,5 +1,5 @@
 //! What the next answer of a feed needs of the items before it.
-ghost use Rattle.std.specs.Prelude.{◌≡◌, ◌++◌, [], ◌∷◌, ◌<◌, ◌≤◌, List, true, length};
+ghost use Rattle.std.specs.Prelude.{◌++◌, [], ◌∷◌, ◌<◌, List, true};
 ghost use Rattle.dm_cert.specs.declared.limits.TheConstants.{PLANS};
 ghost use Rattle.dm_feed.specs.declared.grammar.Line.{Line as Said};
 ghost use Rattle.dm_cert.specs.declared.replies.LogItem.{LogItem};

@@ -83,7 +83,7 @@ impl HeldTimetable {
     }
 
     /// Makes an activity held, or no longer. It takes no memory.
-    pub fn hold(&mut self, net: &Network, a: usize, value: bool)
+    pub fn set_held(&mut self, net: &Network, a: usize, value: bool)
         requires timetable { IsTimetableOf net.now self.old }
         requires is_activity { a < length net.now.activities }
         ensures timetable { IsTimetableOf net.now self.new }
@@ -91,7 +91,7 @@ impl HeldTimetable {
         ensures times { self.new.kept.times ≡ self.old.kept.times }
         ensures keeps { KeepsSpans self.old self.new }
     {
-        self.kept.hold(net, a, value);
+        self.kept.set_held(net, a, value);
     }
 
     /// Computes the least times for what is held. `Err` comes exactly where it has a cycle. It takes no memory, and costs what has

@@ -1,5 +1,5 @@
 //! The relaxed problem of a path, as decisions are made and taken back.
-ghost use Rattle.std.specs.Prelude.{ℕ, ◌≡◌, ◌≤◌, ◌++◌, [], ◌∷◌, List, IsTrue, ◌↔◌, length, IfOk, IfSome, IfNone, OnOk, OnErr};
+ghost use Rattle.std.specs.Prelude.{◌≡◌, ◌≤◌, ◌++◌, [], ◌∷◌, IsTrue, ◌↔◌, length, IfOk, IfSome, IfNone, OnOk, OnErr};
 ghost use Rattle.dm_base.specs.declared.limits.TheConstants.{PENALTY};
 ghost use Rattle.dm_rows.specs.Rows.{IsSized};
 ghost use Rattle.dm_rows.specs.Decide.{choice_of};

@@ -1,5 +1,5 @@
 //! What a decision holds and charges for, flagged or no longer.
-ghost use Rattle.std.specs.Prelude.{ℕ, ◌≡◌, ◌<◌, true, Bool, List, length, slice_set, MatchBool};
+ghost use Rattle.std.specs.Prelude.{◌≡◌, ◌<◌, Bool, List, length, slice_set, MatchBool};
 ghost use Rattle.dm_network.specs.Net.{activity_at};
 ghost use Rattle.dm_network.specs.Start.{first_event};
 ghost use Rattle.dm_rows.specs.Relax.{is_of_pair};
@@ -33,7 +33,7 @@ pub fn turn(
     ensures charged { AreSetWhere (is_charged_by flip) value (length net.now.activities) charged.old charged.new }
 {
     match flip {
-        Flip::Keep { act } => timetable.hold(net, act, value),
+        Flip::Keep { act } => timetable.set_held(net, act, value),
         Flip::Drop { act } => charged[act] = value,
         Flip::First { pair, small } => {
             let first = first_event(net, pair, small);
@@ -95,7 +95,7 @@ fn turn_one(net: &Network, pair: usize, a: usize, value: bool, timetable: &mut H
         (timetable.new.kept.held ≡ timetable.old.kept.held) }
 {
     if is_headway_of(net, a, pair) {
-        timetable.hold(net, a, value);
+        timetable.set_held(net, a, value);
     }
 }
 

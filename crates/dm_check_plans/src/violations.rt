@@ -1,5 +1,5 @@
 //! Undecided choices that a timetable violates.
-ghost use Rattle.std.specs.Prelude.{ℕ, ◌≡◌, ◌<◌, IsTrue, ◌↔◌, List, length, true, false};
+ghost use Rattle.std.specs.Prelude.{◌≡◌, ◌<◌, IsTrue, ◌↔◌, List, length, true, false};
 ghost use Rattle.dm_rows.specs.declared.messages.Decision.{Decision};
 ghost use Rattle.dm_rows.specs.Relax.{has_unmet_from};
 ghost use Rattle.dm_tree.specs.Relaxed.{IsViolated};

@@ -2,11 +2,11 @@
 ghost use Rattle.std.specs.Prelude.{◌≡◌, ◌<◌, ◌≤◌, true, false, length, IsTrue, IfOk, IfErr, OnOk, OnErr};
 ghost use Rattle.dm_base.specs.declared.limits.TheConstants.{ENTRIES, PENALTY};
 ghost use Rattle.dm_network.specs.Net.{Net};
-ghost use Rattle.dm_rows.specs.Rows.{RowsValue, IsSized, AreAsLong};
+ghost use Rattle.dm_rows.specs.Rows.{RowsValue, IsSized};
 ghost use Rattle.dm_rows.specs.Active.{HasNoCycle};
 ghost use Rattle.dm_rows.specs.Resolve.{after, after_change};
 ghost use Rattle.dm_rows.specs.Refuse.{PassesAtOnce, RefusesAdmission, IsNow};
-ghost use Rattle.dm_rows.specs.Timetable.{IsLeast, time_at};
+ghost use Rattle.dm_rows.specs.Timetable.{IsLeast};
 ghost use Rattle.dm_rows.specs.Cost.{Costs, cost_of};
 ghost use Rattle.dm_rows.specs.declared.messages.Refusal.TheVariants.{OutOfMemory};
 ghost use Rattle.dm_schedule.specs.Schedule.{IsScheduleOf};

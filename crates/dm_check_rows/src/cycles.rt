@@ -1,6 +1,5 @@
 //! Whether ids show a cycle of rows.
-ghost use Rattle.std.specs.Prelude.{ℕ, ◌≡◌, ◌<◌, ◌≤◌, List, length, IsTrue, IfSome, MatchOption};
-ghost use Rattle.dm_network.specs.Net.{activity_at, activity_place};
+ghost use Rattle.std.specs.Prelude.{◌<◌};
 ghost use Rattle.dm_rows.specs.Rows.{IsSized};
 ghost use Rattle.dm_rows.specs.Active.{is_active, ShowsCycle};
 ghost use Rattle.dm_check_rows.specs.Claims.{Tells};

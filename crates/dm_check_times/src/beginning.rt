@@ -1,5 +1,5 @@
 //! Which events are stale where the times are those of other activities than the held ones.
-ghost use Rattle.std.specs.Prelude.{ℕ, ◌≡◌, ◌<◌, length};
+ghost use Rattle.std.specs.Prelude.{◌≡◌, ◌<◌, length};
 ghost use Rattle.dm_check_times.specs.Inside.Beginning.{MarksHead, HasMarkedHeads};
 
 use dm_marks::Marks;

@@ -315,7 +315,7 @@ impl KeptTimetable {
     }
 
     /// Makes an activity held, or no longer. It takes no memory.
-    pub fn hold(&mut self, net: &Network, a: usize, value: bool)
+    pub fn set_held(&mut self, net: &Network, a: usize, value: bool)
         requires timetable { IsTimetableOf net.now self.old }
         requires is_activity { a < length net.now.activities }
         ensures timetable { IsTimetableOf net.now self.new }

@@ -1,6 +1,5 @@
 //! Rounds of relaxation.
-ghost use Rattle.std.specs.Prelude.{ℕ, ◌≡◌, ◌+◌, ◌^◌, ◌<◌, ◌≤◌, true, false, length, slice_index, OnOk, OnErr};
-ghost use Rattle.dm_base.specs.declared.limits.TheConstants.{BOUND, DELAY};
+ghost use Rattle.std.specs.Prelude.{ℕ, ◌≡◌, ◌+◌, ◌^◌, ◌<◌, ◌≤◌, false, length, slice_index, OnOk, OnErr};
 ghost use Rattle.dm_graph.specs.Arcs.{HasNoCycle};
 ghost use Rattle.dm_graph.specs.Graph.{IsLeast};
 ghost use Rattle.dm_check_times.specs.Binding.{is_due, MayBegin};

@@ -1,5 +1,5 @@
 //! A generated day, from its words to its summary.
-ghost use Rattle.std.specs.Prelude.{◌≡◌, ◌≤◌};
+ghost use Rattle.std.specs.Prelude.{◌≤◌};
 ghost use Rattle.dm_words.specs.Asked.{gen_of};
 ghost use Rattle.dm_commands.specs.Inside.Generating.{IsDayWithin, EndsGenerated};
 

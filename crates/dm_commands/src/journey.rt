@@ -1,5 +1,5 @@
 //! Journeys of passengers, in print.
-ghost use Rattle.std.specs.Prelude.{◌≡◌, ◌<◌, ◌≤◌, length};
+ghost use Rattle.std.specs.Prelude.{◌<◌, ◌≤◌, length};
 ghost use Rattle.dm_outside.specs.Printing.{Prints, Puts};
 ghost use Rattle.dm_commands.specs.Ends.{EndsAs};
 ghost use Rattle.dm_commands.specs.Travelled.{journey_text, journeys_text, step_text};

@@ -15,7 +15,7 @@
 //!
 //! # What is promised
 //!
-//! `dispatch_with` does what the words ask, with what its [`Means`] give. It asks for plans of rows within the limits and without
+//! `dispatch_with` does what the words ask, with what its [`CommandMeans`] give. It asks for plans of rows within the limits and without
 //! a cycle, and is handed true ones (`specs/Searching`).
 //!
 //! `ends`: the call ends as its status says (`Ends`). All clauses of `dispatch` follow from it.
@@ -46,6 +46,6 @@ mod verdicts;
 mod window;
 
 pub use ending::{BoardList, Ending};
-pub use means::Means;
+pub use means::CommandMeans;
 pub use status::Status;
 pub use top::dispatch_with;

@@ -4,7 +4,7 @@ use std::alloc::Global;
 
 /// What a call may use: threads, memory, what searches for plans, and the gate that threads pass.
 #[derive(Drop)]
-pub struct Means<'r, 's, 'g, R, F, G> {
+pub struct CommandMeans<'r, 's, 'g, R, F, G> {
     pub rt: &'r R,
     pub alloc: Global,
     pub search: &'s F,

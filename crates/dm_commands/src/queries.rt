@@ -1,5 +1,5 @@
 //! What is asked of the journal of a text, from its words to its answer.
-ghost use Rattle.std.specs.Prelude.{◌≡◌, ◌≤◌, ℕ, List};
+ghost use Rattle.std.specs.Prelude.{◌≤◌, ℕ, List};
 ghost use Rattle.dm_base.specs.declared.limits.TheConstants.{PENALTY};
 ghost use Rattle.dm_network.specs.Net.{Net};
 ghost use Rattle.dm_rows.specs.Rows.{IsSized, RowsValue};

@@ -15,11 +15,11 @@ ghost use Rattle.dm_commands.specs.Inside.Stages.{AreWithin, IsAtStart};
 use crate::ending::{BoardList, Ending};
 use crate::ends::end_stopped;
 use crate::feeds::{names_of, open_feeds};
-use crate::means::Means;
+use crate::means::CommandMeans;
 use crate::print::end_run;
 use crate::status::Status;
 use dm_crew::{AnsweredDay, answer_at_once};
-use dm_desk::Hold;
+use dm_desk::HoldPoint;
 use dm_input::{Opened, read_opening};
 use dm_network::Network;
 use dm_outside::{Board, Shelf, Sink, Source};
@@ -34,11 +34,11 @@ use std::thread::Threads;
 pub fn run_feeds<
     R: Threads + Wait + Sync,
     F: Fn(&Network, u64, &Snapshot, u64, u32) -> Result<Plan, AllocError> + Sync,
-    G: Hold + Sync,
+    G: HoldPoint + Sync,
     H: Shelf,
     K: Sink,
 >(
-    means: &Means<'_, '_, '_, R, F, G>,
+    means: &CommandMeans<'_, '_, '_, R, F, G>,
     run: &RunWords<'_>,
     shelf: &mut H,
     boards: &mut Vec<Box<dyn Board>>,
@@ -89,10 +89,10 @@ pub fn answer_run<
     'n,
     R: Threads + Wait + Sync,
     F: Fn(&Network, u64, &Snapshot, u64, u32) -> Result<Plan, AllocError> + Sync,
-    G: Hold + Sync,
+    G: HoldPoint + Sync,
     S: Source + Send + Drop,
 >(
-    means: &Means<'_, '_, '_, R, F, G>,
+    means: &CommandMeans<'_, '_, '_, R, F, G>,
     net: &'n Network,
     rows: Rows,
     penalty: u64,

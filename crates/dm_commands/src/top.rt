@@ -12,11 +12,11 @@ use crate::checking::check_text;
 use crate::ending::{BoardList, Ending};
 use crate::ends::end_usage;
 use crate::generate::generate;
-use crate::means::Means;
+use crate::means::CommandMeans;
 use crate::queries::answer_query;
 use crate::run::run_feeds;
 use crate::status::Status;
-use dm_desk::Hold;
+use dm_desk::HoldPoint;
 use dm_network::Network;
 use dm_outside::{Board, Shelf, Sink};
 use dm_rows::Snapshot;
@@ -31,11 +31,11 @@ use std::thread::Threads;
 pub fn dispatch_with<
     R: Threads + Wait + Sync,
     F: Fn(&Network, u64, &Snapshot, u64, u32) -> Result<Plan, AllocError> + Sync,
-    G: Hold + Sync,
+    G: HoldPoint + Sync,
     H: Shelf,
     K: Sink,
 >(
-    means: &Means<'_, '_, '_, R, F, G>,
+    means: &CommandMeans<'_, '_, '_, R, F, G>,
     words: &[String],
     shelf: &mut H,
     boards: &mut Vec<Box<dyn Board>>,
@@ -60,11 +60,11 @@ pub fn dispatch_with<
 fn do_command<
     R: Threads + Wait + Sync,
     F: Fn(&Network, u64, &Snapshot, u64, u32) -> Result<Plan, AllocError> + Sync,
-    G: Hold + Sync,
+    G: HoldPoint + Sync,
     H: Shelf,
     K: Sink,
 >(
-    means: &Means<'_, '_, '_, R, F, G>,
+    means: &CommandMeans<'_, '_, '_, R, F, G>,
     command: &CommandWords<'_>,
     shelf: &mut H,
     boards: &mut Vec<Box<dyn Board>>,

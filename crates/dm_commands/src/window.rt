@@ -1,5 +1,5 @@
 //! Plans of a window, in print.
-ghost use Rattle.std.specs.Prelude.{◌≡◌, ◌≤◌, length, IfErr, IfOk};
+ghost use Rattle.std.specs.Prelude.{◌≤◌, IfErr, IfOk};
 ghost use Rattle.dm_outlook.specs.Texts.{outlook_text};
 ghost use Rattle.dm_outside.specs.Printing.{Puts};
 ghost use Rattle.dm_commands.specs.Ends.{EndsAs};

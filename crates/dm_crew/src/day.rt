@@ -11,7 +11,7 @@ ghost use Rattle.dm_crew.specs.Inside.Works.{first_pass};
 
 use crate::rounds::Crew;
 use dm_cert::FeedLog;
-use dm_desk::Hold;
+use dm_desk::HoldPoint;
 use dm_display::Display;
 use dm_network::Network;
 use dm_outside::{Board, Source};
@@ -54,7 +54,7 @@ pub fn answer_at_once<
     R: Threads + Wait + Sync,
     S: Source + Send + Drop,
     L: Fn(&Snapshot, u64) -> Result<Plan, AllocError> + Sync,
-    H: Hold + Sync,
+    H: HoldPoint + Sync,
 >(
     rt: &R,
     alloc: Global,

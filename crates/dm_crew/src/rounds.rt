@@ -1,6 +1,6 @@
 //! Rounds whose feeds are answered at once.
 
-ghost use Rattle.std.specs.Prelude.{◌≡◌, ℕ, ◌+◌, ◌-◌, ◌<◌, ◌≤◌, false, [], length, map, Some, All, slice_get, vec_len, IfOk, OnOk, IsOk};
+ghost use Rattle.std.specs.Prelude.{◌≡◌, ℕ, ◌+◌, ◌-◌, ◌<◌, ◌≤◌, false, length, map, Some, All, slice_get, vec_len, IfOk, OnOk, IsOk};
 ghost use mathlib.Core.List.{IsPrefix};
 ghost use Rattle.dm_base.specs.declared.limits.TheConstants.{FEEDS};
 ghost use Rattle.dm_rows.specs.History.{IsLegal};
@@ -17,7 +17,7 @@ use crate::desk::Seat;
 use crate::display::{show, show_growth};
 use crate::work::{Work, count_read};
 use dm_cert::FeedLog;
-use dm_desk::Hold;
+use dm_desk::HoldPoint;
 use dm_display::Display;
 use dm_outside::{Board, Source};
 use dm_rounds::{Job, begin, have_ended, logs_of};
@@ -47,7 +47,7 @@ impl<
     'n,
     R: Threads + Wait + Sync,
     L: Fn(&Snapshot, u64) -> Result<Plan, AllocError> + Sync,
-    H: Hold + Sync,
+    H: HoldPoint + Sync,
 > Crew<'_, 'n, R, L, H> {
     /// Answers feeds over the server until each has ended, each round's feeds at once. Boards are shown the times before the first
     /// round, and after each round those that have moved. It may answer want of memory at any point up to the end of the last round,

@@ -1,13 +1,13 @@
 //! The feeds' parts of a round.
 
-ghost use Rattle.std.specs.Prelude.{◌≡◌, false, Some, count_by};
+ghost use Rattle.std.specs.Prelude.{◌≡◌, count_by};
 ghost use Rattle.dm_desk.specs.Planning.{PlansUnder};
-ghost use Rattle.dm_crew.specs.Passes.{setting_of, desk_of};
+ghost use Rattle.dm_crew.specs.Passes.{setting_of};
 ghost use Rattle.dm_crew.specs.Inside.Works.{IsReady, IsWorked, is_read};
 
 use crate::desk::{Caller, Seat, ServerDesk};
 use crate::rounds::Crew;
-use dm_desk::Hold;
+use dm_desk::HoldPoint;
 use dm_outside::Source;
 use dm_rounds::{Job, Progress, answer_job};
 use dm_rows::Snapshot;
@@ -32,15 +32,17 @@ pub struct Work<'n, S> {
 
 impl<'n, S: Source + Drop> Work<'n, S> {
     /// Answers the feed's next lines over its pass, and leaves the server to the others.
-    pub fn worked<P: Seat, R: Wait, L: Fn(&Snapshot, u64) -> Result<Plan, AllocError>, H: Hold>(
-        self,
-        crew: &Crew<'_, 'n, R, L, H>,
-    ) -> Work<'n, S>
+    pub fn worked<
+        P: Seat,
+        R: Wait,
+        L: Fn(&Snapshot, u64) -> Result<Plan, AllocError>,
+        H: HoldPoint,
+    >(self, crew: &Crew<'_, 'n, R, L, H>) -> Work<'n, S>
         requires ready { IsReady crew.now.server.now.id crew.now.plans P.base self.feed self.pass self.job.value }
         requires plans { PlansUnder (L.pre crew.now.planner.now) (L.post crew.now.planner.now) (setting_of crew.now.plans P.base) }
         ensures feed { result.feed ≡ self.entry.feed }
-        ensures worked { IsWorked S.left S.is_sound crew.now.plans P.base crew.now.batch self.entry.feed self.entry.pass self.entry.job.value
-            result.pass result.job.value result.answer }
+        ensures worked { IsWorked S.left S.is_sound crew.now.plans P.base crew.now.batch self.entry.feed self.entry.pass
+            self.entry.job.value result.pass result.job.value result.answer }
     {
         let Work {
             pass,
@@ -66,7 +68,7 @@ fn answer_seated<
     R: Wait,
     S: Source + Drop,
     L: Fn(&Snapshot, u64) -> Result<Plan, AllocError>,
-    H: Hold,
+    H: HoldPoint,
 >(
     crew: &Crew<'_, 'n, R, L, H>,
     pass: Pass<Kept<'n>>,

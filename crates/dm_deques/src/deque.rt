@@ -1,5 +1,5 @@
 //! An owner's deque, the thieves of other threads, and their tallies.
-ghost use Rattle.std.specs.Prelude.{◌≡◌, List, [], ◌∷◌, ◌++◌, length, IfOk, IfSome, IfNone, OnOk, IfErr};
+ghost use Rattle.std.specs.Prelude.{◌≡◌, List, [], ◌∷◌, length, IfOk, IfSome, IfNone, OnOk, IfErr};
 ghost use Rattle.dm_deques.specs.Rule.{WasEmpty, Held, opening, fresh};
 ghost use Rattle.dm_deques.specs.Deques.{lending, settled, having_put, having_taken};
 

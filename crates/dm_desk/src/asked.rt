@@ -1,6 +1,6 @@
 //! The replies to what asks for a plan and to what adopts one.
 
-ghost use Rattle.std.specs.Prelude.{◌≡◌, ℕ, ◌≤◌, IfOk};
+ghost use Rattle.std.specs.Prelude.{ℕ, ◌≤◌, IfOk};
 ghost use Rattle.dm_base.specs.declared.limits.TheConstants.{BUDGET};
 ghost use Rattle.dm_feed.specs.declared.grammar.Line.TheVariants as said;
 ghost use Rattle.dm_desk.specs.Answered.{HasSeenLegal};

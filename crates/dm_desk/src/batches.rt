@@ -1,12 +1,12 @@
 //! The answers to the next lines of a feed.
 
-ghost use Rattle.std.specs.Prelude.{◌≡◌, ◌≤◌, IfOk};
+ghost use Rattle.std.specs.Prelude.{IfOk};
 ghost use Rattle.dm_desk.specs.Answered.{HasSeenLegal, IsOpen, AreTrueOf, AnswersBatch};
 ghost use Rattle.dm_desk.specs.Planning.{PlansUnder};
 
 use crate::answers::answer;
 use crate::desk::Desk;
-use crate::hold::Hold;
+use crate::hold_point::HoldPoint;
 use dm_cert::LogItem;
 use dm_feed::{FeedStop, LineReader, Next};
 use dm_outside::Source;
@@ -17,7 +17,12 @@ use std::alloc::AllocError;
 /// Answers the next due lines of a feed, so many of them or all that are left, and keeps what was answered behind its log,
 /// which is true of what the desk has seen. Where no line is left it answers why. Want of memory leaves the desk and the log at
 /// any point.
-pub fn answer_batch<S: Source, D: Desk, P: Fn(&Snapshot, u64) -> Result<Plan, AllocError>, H: Hold>(
+pub fn answer_batch<
+    S: Source,
+    D: Desk,
+    P: Fn(&Snapshot, u64) -> Result<Plan, AllocError>,
+    H: HoldPoint,
+>(
     reader: &mut LineReader<S>,
     desk: &mut D,
     planner: &P,
@@ -38,10 +43,10 @@ pub fn answer_batch<S: Source, D: Desk, P: Fn(&Snapshot, u64) -> Result<Plan, Al
         match reader.next() {
             Next::Stop(stop) => return Ok(Some(stop)),
             Next::Due { line, heard } => {
-                gate.hold(feed, 1);
+                gate.hold_up(feed, 1);
                 let item = answer(desk, planner, feed, line, log.as_slice(), heard)?;
                 log.push(item)?;
-                gate.hold(feed, 2);
+                gate.hold_up(feed, 2);
             }
         }
     }

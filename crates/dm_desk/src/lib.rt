@@ -26,11 +26,11 @@ mod answers;
 mod asked;
 mod batches;
 mod desk;
-mod hold;
+mod hold_point;
 mod parts;
 mod plans;
 
 pub use batches::answer_batch;
 pub use desk::Desk;
-pub use hold::Hold;
+pub use hold_point::HoldPoint;
 pub use parts::answer_lines;

@@ -1,5 +1,5 @@
 //! Marks of the choices that times do not keep.
-ghost use Rattle.std.specs.Prelude.{ℕ, ◌≡◌, ◌<◌, true, List, All, length, IfOk};
+ghost use Rattle.std.specs.Prelude.{ℕ, ◌≡◌, ◌<◌, true, List, length, IfOk};
 ghost use Rattle.dm_network.specs.Net.{activity_at, is_change};
 ghost use Rattle.dm_marks.specs.Marked.{is_marked};
 ghost use Rattle.dm_evaluate.specs.Marks.{MarksUnkept};

@@ -1,5 +1,5 @@
 //! Where a path decides a choice.
-ghost use Rattle.std.specs.Prelude.{◌≡◌, ◌<◌, true, length};
+ghost use Rattle.std.specs.Prelude.{◌≡◌, true};
 ghost use Rattle.dm_rows.specs.Decide.{choice_of};
 ghost use Rattle.dm_rows.specs.Relax.{is_same_choice, is_decided};
 ghost use Rattle.dm_evaluate.specs.Inside.Places.{DecidesAt};

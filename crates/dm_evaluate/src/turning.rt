@@ -1,5 +1,5 @@
 //! A decision that is made or taken back on a priced timetable.
-ghost use Rattle.std.specs.Prelude.{ℕ, ◌≡◌, ◌<◌, None, true, false, length, OnOk, OnErr};
+ghost use Rattle.std.specs.Prelude.{◌≡◌, ◌<◌, true, false, length, OnOk, OnErr};
 ghost use Rattle.dm_live.specs.Live.{IsAtRest, NoneFixed};
 ghost use Rattle.dm_network.specs.Held.{is_held, IsCycleOf};
 ghost use Rattle.dm_network.specs.Start.{first_event};

@@ -1,5 +1,5 @@
 //! Undecided choices that a timetable violates.
-ghost use Rattle.std.specs.Prelude.{ℕ, ◌≡◌, ◌<◌, IsTrue, ◌↔◌, false, List, length, slice_set, if◌then◌else◌, IfSome};
+ghost use Rattle.std.specs.Prelude.{◌≡◌, ◌<◌, IsTrue, ◌↔◌, false, List, length, slice_set, if◌then◌else◌, IfSome};
 ghost use Rattle.dm_rows.specs.declared.messages.Decision.{Decision};
 ghost use Rattle.dm_rows.specs.Relax.{has_unmet_from};
 ghost use Rattle.dm_rows.specs.Rows.{IsSized};

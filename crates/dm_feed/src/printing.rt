@@ -1,5 +1,5 @@
 //! Lines and messages in print. Nothing here takes memory.
-ghost use Rattle.std.specs.Prelude.{◌≡◌, ◌++◌, codes};
+ghost use Rattle.std.specs.Prelude.{◌++◌, codes};
 ghost use Rattle.std.specs.List.{flat_map};
 ghost use Rattle.dm_outside.specs.Printing.{Prints, Puts};
 ghost use Rattle.dm_feed.specs.Lines.{IsSpelledLine, spelling_of_decision, spelling_of_line, spelling_of_message};

@@ -1,5 +1,5 @@
 //! Lines that are read one after the other. Each entry is entered in a table as its line is read.
-ghost use Rattle.std.specs.Prelude.{◌≡◌, ◌≤◌, ◌<◌, ◌^◌, ◌↔◌, ℕ, List, length, IsTrue, IfOk, OnErr};
+ghost use Rattle.std.specs.Prelude.{◌≡◌, ◌≤◌, ◌<◌, ◌↔◌, ℕ, List, length, IsTrue, IfOk, OnErr};
 ghost use Rattle.dm_base.specs.declared.limits.TheConstants.{ENTRIES as MOST, PENALTY as LARGEST};
 ghost use Rattle.dm_records.specs.RunLines.{IsEntryLine};
 ghost use Rattle.dm_records.specs.Readings.{IsRead, numbered};

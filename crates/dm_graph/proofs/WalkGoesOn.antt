@@ -5,7 +5,7 @@ use Rattle.std.proofs.lemmas.Bool.{cases_eq}
 use Rattle.std.proofs.lemmas.Grind.{get_or_default_zero}
 use Rattle.std.proofs.lemmas.List.Sums.{sum_by-set, sum_by-le}
 use Rattle.std.proofs.lemmas.List.Elements.{All-from_get_or}
-use Rattle.dm_graph.specs.Arrays.{InRow, AreRows, AreEnds}
+use Rattle.dm_graph.specs.Arrays.{InRow, AreArcRows, AreEnds}
 use Rattle.dm_graph.specs.declared.walk.Walk.{Walk}
 use Rattle.dm_graph.specs.declared.walk.ArcsByHead.{ArcsByHead}
 use Rattle.dm_graph.specs.Inside.Walk.{IsHeldAt, tail_at, AreMarks, LeadsTo, AreLooks, IsWalk, KeepsMet, GoesOnTop, Places, SkipsArc, GoesOn}
@@ -13,7 +13,7 @@ use Rattle.dm_graph.proofs.WalkSteps.{not_met, other, same, enter_marks, enter_l
 
 -- the rows together have at most as many places as each event times all places
 next_sum : (by_head : ArcsByHead) (n arcs : ℕ) (order rank next : List ℕ) (placed top : ℕ) →
-    AreRows n arcs by_head.offsets.now by_head.places.now → AreLooks by_head n order rank next placed top → sum next ≤ n * length by_head.places.now
+    AreArcRows n arcs by_head.offsets.now by_head.places.now → AreLooks by_head n order rank next placed top → sum next ≤ n * length by_head.places.now
 next_sum by_head n arcs order rank next placed top r l =
     let count = l.next_count in
     let each = All-from_get_or (λ x. x ≤ length by_head.places.now) next 0 (λ e lt.
@@ -23,12 +23,12 @@ next_sum by_head n arcs order rank next placed top r l =
     omega arith
 
 walk_of : (by_head : ArcsByHead) (n : ℕ) (w : Walk) → length w.order.items ≡ n →
-    AreRows n (length by_head.tails.now) by_head.offsets.now by_head.places.now → AreEnds n (length by_head.tails.now) by_head.tails.now by_head.held.now →
+    AreArcRows n (length by_head.tails.now) by_head.offsets.now by_head.places.now → AreEnds n (length by_head.tails.now) by_head.tails.now by_head.held.now →
     AreMarks n w.order.items w.rank.items w.placed w.top →
     AreLooks by_head n w.order.items w.rank.items w.next.items w.placed w.top →
     IsWalk by_head w
 walk_of by_head n w is rows ends marks looks = record {
-  rows = subst (λ k. AreRows k (length by_head.tails.now) by_head.offsets.now by_head.places.now) (sym is) rows;
+  rows = subst (λ k. AreArcRows k (length by_head.tails.now) by_head.offsets.now by_head.places.now) (sym is) rows;
   ends = subst (λ k. AreEnds k (length by_head.tails.now) by_head.tails.now by_head.held.now) (sym is) ends;
   marks = subst (λ k. AreMarks k w.order.items w.rank.items w.placed w.top) (sym is) marks;
   looks = subst (λ k. AreLooks by_head k w.order.items w.rank.items w.next.items w.placed w.top) (sym is) looks;

@@ -4,7 +4,7 @@ use Rattle.std.specs.Prelude.{◌==◌}
 use Rattle.std.specs.List.{range_with_len, filter}
 use Rattle.std.proofs.lemmas.Bool.{cases_Bool, cases_eq}
 use Rattle.std.proofs.lemmas.List.Edits.{get_or-between, length-between}
-use Rattle.dm_graph.specs.Arrays.{InRow, AreRows, ListsArcs}
+use Rattle.dm_graph.specs.Arrays.{InRow, AreArcRows, ListsArcs}
 
 -- what a filter of the numbers from a on keeps at a place
 pub record Kept (p : ℕ → Bool) (a n x : ℕ) : Type 0 where
@@ -81,7 +81,7 @@ module _ (events arcs : ℕ) (end : ℕ → ℕ) (offsets places : List ℕ)
       (kept_at (λ a. end a == e) 0 arcs (place - slice_index offsets e) (omega arith))
 
   -- windows that hold, for each event, the places whose end it is, are rows that list them
-  pub rows_of_windows : AreRows events arcs offsets places
+  pub rows_of_windows : AreArcRows events arcs offsets places
   rows_of_windows = record {
     offset_count = offset_count;
     rises = rises;

@@ -25,7 +25,7 @@ pub record StandsInRow (offsets places : List ℕ) (e a : ℕ) : Type 0 where
   pub is : slice_index places place ≡ a
 
 -- each event has a row within the list of places, and the row has only arcs
-pub record AreRows (events arcs : ℕ) (offsets places : List ℕ) : Type 0 where
+pub record AreArcRows (events arcs : ℕ) (offsets places : List ℕ) : Type 0 where
   pub offset_count : length offsets ≡ events + 1
   pub rises : (e : ℕ) → e < events → slice_index offsets e ≤ slice_index offsets (e + 1)
   pub within : (e : ℕ) → e < events → slice_index offsets (e + 1) ≤ length places

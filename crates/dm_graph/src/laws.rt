@@ -4,7 +4,7 @@ ghost use Rattle.std.specs.Prelude.{◌≡◌, ℕ, ◌+◌, ◌*◌, ◌<◌, �
 ghost use Rattle.std.specs.List.{range_with_len};
 ghost use Rattle.dm_graph.specs.Arcs.{Arcs, Binds, BindsIn, IsOrder, HasNoCycle};
 ghost use Rattle.dm_graph.specs.Graph.{Graph, Meets, IsLeast, CanBeMet, HasLeast, HasPositiveCycles, AsksNoMore, IsJoin};
-ghost use Rattle.dm_graph.specs.Arrays.{arcs_in_arrays, AreArraysOf, AreRows, ListsArcs};
+ghost use Rattle.dm_graph.specs.Arrays.{arcs_in_arrays, AreArraysOf, AreArcRows, ListsArcs};
 
 /// At most one timetable is least, at the graph's events.
 pub fn one_is_least()
@@ -70,7 +70,7 @@ pub fn filtered_windows_are_rows()
         ((e : ℕ) → e < events →
         slice_range places (slice_index offsets e) (slice_index offsets (e + 1))
         ≡ filter (λ a. end a == e) (range_with_len 0 arcs)) →
-        AreRows events arcs offsets places × ListsArcs events arcs end offsets places }
+        AreArcRows events arcs offsets places × ListsArcs events arcs end offsets places }
 {}
 
 /// Arrays whose rows list the arcs by their heads give the arcs of those tails, heads and flags.

@@ -2,7 +2,7 @@
 
 ghost use Rattle.std.specs.Prelude.{◌≡◌, ◌<◌, ◌≤◌, [], length, IfOk, OnOk, OnErr};
 ghost use Rattle.dm_graph.specs.Arcs.{Arcs, IsOrder, IsCycle};
-ghost use Rattle.dm_graph.specs.Arrays.{AreRows, AreEnds, AreArraysOf, AreRanks};
+ghost use Rattle.dm_graph.specs.Arrays.{AreArcRows, AreEnds, AreArraysOf, AreRanks};
 
 use crate::walk::{ArcsByHead, Walk};
 use std::alloc::{AllocError, Global};
@@ -74,7 +74,7 @@ impl Search {
         places: &[usize],
         held: &[bool],
     ) -> Result<(), Cyclic>
-        requires rows { AreRows (length self.old.order) (length tails.now) offsets.now places.now }
+        requires rows { AreArcRows (length self.old.order) (length tails.now) offsets.now places.now }
         requires ends { AreEnds (length self.old.order) (length tails.now) tails.now held.now }
         ensures room { length self.new.order ≡ length self.old.order }
 

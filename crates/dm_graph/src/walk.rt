@@ -1,8 +1,8 @@
 //! The walk that searches for an order, depth first against the arcs, with its path kept in an array.
 
-ghost use Rattle.std.specs.Prelude.{◌≡◌, ℕ, ◌+◌, ◌^◌, ◌<◌, ◌≤◌, length, take, slice_index, vec_len, IfErr, IfOk, OnOk};
-ghost use Rattle.dm_graph.specs.Inside.Walk.{IsWalk, Closes, Finds, steps_left, KeepsMet, GoesOnTop, Places, SkipsArc, GoesOn, Returns, HasEvenLists, Starts, Visits, PlacesAll, HasPathArcs, ListsPathArcs};
-ghost use Rattle.dm_graph.specs.Arrays.{AreRows, AreEnds};
+ghost use Rattle.std.specs.Prelude.{◌≡◌, ◌+◌, ◌^◌, ◌<◌, ◌≤◌, length, take, slice_index, vec_len, IfErr, IfOk, OnOk};
+ghost use Rattle.dm_graph.specs.Inside.Walk.{IsWalk, Closes, Finds, GoesOnTop, Places, SkipsArc, GoesOn, Returns, HasEvenLists, Starts, Visits, PlacesAll, HasPathArcs, ListsPathArcs};
+ghost use Rattle.dm_graph.specs.Arrays.{AreArcRows, AreEnds};
 
 use std::alloc::{AllocError, Global};
 
@@ -200,7 +200,7 @@ impl Walk {
     /// Places every event; the error is the place of the event that closes the path.
     pub fn place_all(&mut self, by_head: &ArcsByHead<'_>) -> Result<(), usize>
         requires sized { HasEvenLists self.old }
-        requires rows { AreRows (length self.old.order.items) (length by_head.now.tails.now)
+        requires rows { AreArcRows (length self.old.order.items) (length by_head.now.tails.now)
             by_head.now.offsets.now by_head.now.places.now }
         requires ends { AreEnds (length self.old.order.items) (length by_head.now.tails.now) by_head.now.tails.now by_head.now.held.now }
         ensures as_many { length self.new.order.items ≡ length self.old.order.items }

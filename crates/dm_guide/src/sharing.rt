@@ -66,7 +66,7 @@ pub fn grow<'t, F: Fn(&Round, &mut Searcher<'t>, &mut [Searcher<'t>])>(
     first.tree.begin(&mut first.scout, nodes, best)?;
     let many = FIRST.min(first.tree.left(budget));
     first.tree.expand_first(&mut first.scout, many)?;
-    first.tree.note_table()?;
+    first.tree.note_gains()?;
     go_on(first, others, run, budget)?;
     first.tree.told(&first.scout)
 }
@@ -166,7 +166,7 @@ fn take_in(
 
 impl Tree {
     /// Has the gains of all choices told, where others are to know them.
-    fn note_table(&mut self) -> Result<(), AllocError> {
+    fn note_gains(&mut self) -> Result<(), AllocError> {
         if self.tells {
             self.changes.clear();
             for number in 0..self.tried_gains.len() {

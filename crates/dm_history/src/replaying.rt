@@ -1,5 +1,5 @@
 //! The rows after a list of entries.
-ghost use Rattle.std.specs.Prelude.{◌≡◌, ◌⊎◌, ◌≤◌, IsTrue, length, IfOk, IfErr, OnOk};
+ghost use Rattle.std.specs.Prelude.{◌≡◌, ◌⊎◌, ◌≤◌, length, IfOk, IfErr, OnOk};
 ghost use Rattle.dm_base.specs.declared.limits.TheConstants.{ENTRIES as MOST};
 ghost use Rattle.dm_network.specs.Net.{Net};
 ghost use Rattle.dm_rows.specs.Rows.{RowsValue, IsSized};

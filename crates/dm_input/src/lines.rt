@@ -1,7 +1,6 @@
 //! The lines that say why there is no run.
-ghost use Rattle.std.specs.Prelude.{◌≡◌, [], ◌++◌, codes, unwrap_or};
+ghost use Rattle.std.specs.Prelude.{[], ◌++◌, codes, unwrap_or};
 ghost use Rattle.std.specs.Option.{option_map};
-ghost use Rattle.dm_words.specs.Words.{in_folder};
 ghost use Rattle.std.specs.List.{flat_map};
 ghost use Rattle.dm_outside.specs.Printing.{Puts, Prints};
 ghost use Rattle.dm_words.specs.Asked.{files_of};

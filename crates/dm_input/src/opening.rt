@@ -1,5 +1,5 @@
 //! What the files of a folder make: the network, and the rows before any message.
-ghost use Rattle.std.specs.Prelude.{◌≡◌, Ok, IfOk, IfErr};
+ghost use Rattle.std.specs.Prelude.{Ok, IfOk, IfErr};
 ghost use Rattle.dm_rows.specs.Rows.{IsSized};
 ghost use Rattle.dm_rows.specs.StartFaults.{DelaysAreWithin};
 ghost use Rattle.dm_words.specs.Asked.{files_of};

@@ -1,5 +1,5 @@
 //! The rows of the files of a folder, which are opened, read and checked one after the other.
-ghost use Rattle.std.specs.Prelude.{◌≡◌, ◌≢◌, ◌++◌, ◌≤◌, ◌⊎◌, ℕ, List, Option, Result, Ok, Err, Some, length, codes, string_bytes, IfOk, IfErr};
+ghost use Rattle.std.specs.Prelude.{◌≡◌, ◌++◌, ◌≤◌, ◌⊎◌, ℕ, List, Option, Result, Ok, Err, Some, length, codes, string_bytes, IfOk, IfErr};
 ghost use Rattle.std.specs.Option.{option_map};
 ghost use Rattle.dm_base.specs.declared.limits.TheConstants.{FILE as LARGEST};
 ghost use Rattle.dm_lintim.specs.Columns.{FileColumns};

@@ -1,10 +1,7 @@
 //! Texts in memory.
-ghost use Rattle.std.specs.Prelude.{◌≡◌, ◌≤◌, ℕ, List, [], All, length, IfOk};
+ghost use Rattle.std.specs.Prelude.{◌≡◌, [], All, IfOk};
 ghost use Rattle.std.specs.List.{flat_map};
-ghost use Rattle.std.specs.Io.KnownBytes.{WriteAppends};
 ghost use Rattle.dm_cert.specs.RunTexts.{item_text, IsSpelledItem};
-ghost use Rattle.dm_outside.specs.Faults.{Counts, HasRisen};
-ghost use Rattle.dm_outside.specs.Printing.{Puts};
 
 use dm_cert::LogItem;
 use dm_outside::{Failed, Page, Sink};

@@ -1,5 +1,5 @@
 //! Items that a journal can keep: their numbers are ones that types hold, and memory holds their lists.
-ghost use Rattle.std.specs.Prelude.{All, length};
+ghost use Rattle.std.specs.Prelude.{All};
 ghost use Rattle.dm_records.specs.Laws.{IsHeldItem, IsHeldReply};
 ghost use Rattle.dm_items.specs.Holding.{IsHeldPart};
 

@@ -1,9 +1,8 @@
 //! A text that is read to its end, and followed on the way.
-ghost use Rattle.std.specs.Prelude.{◌≡◌, ◌<◌, ◌≤◌, [], length, vec_len, IfOk, IsErrOf};
+ghost use Rattle.std.specs.Prelude.{◌≡◌, ◌<◌, ◌≤◌, length, vec_len, IfOk, IsErrOf};
 ghost use Rattle.dm_base.specs.declared.limits.TheConstants.{PENALTY};
 ghost use Rattle.dm_rows.specs.Active.{HasNoCycle};
 ghost use Rattle.dm_rows.specs.Rows.{IsSized};
-ghost use Rattle.dm_follow.specs.Follower.{Follows};
 ghost use Rattle.dm_input.specs.Stops.{IsKept};
 ghost use Rattle.dm_journal.specs.Journals.{ReadsJournal};
 ghost use Rattle.dm_journal.specs.Inside.Giving.{FollowsPiece, ReadsFollowing, ReadsSource};

@@ -1,9 +1,9 @@
 //! The journeys of a query.
-ghost use Rattle.std.specs.Prelude.{ℕ, ◌≡◌, ◌<◌, ◌≤◌, ◌+◌, ◌↔◌, Bool, [], true, IsTrue, length, IfOk, MatchBool};
+ghost use Rattle.std.specs.Prelude.{◌≡◌, ◌<◌, ◌≤◌, ◌+◌, ◌↔◌, [], true, IsTrue, length, IfOk, MatchBool};
 ghost use Rattle.std.specs.List.{All, Any};
 ghost use Rattle.std.specs.Option.{ForSome};
 ghost use Rattle.dm_rows.specs.Rows.{IsSized};
-ghost use Rattle.dm_rows.specs.Timetable.{IsLeast, time_at};
+ghost use Rattle.dm_rows.specs.Timetable.{IsLeast};
 ghost use Rattle.dm_journey.specs.Journeys.{AreJourneys, HasNoWalk};
 ghost use Rattle.dm_journey.specs.Inside.Reaching.{AreReached};
 ghost use Rattle.dm_journey.specs.Inside.Arriving.{ArrivesAfter, ArrivesBy, IsEarliest, IsReachedArrival, IsEarlierOf, AreFound};

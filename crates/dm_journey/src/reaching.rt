@@ -1,10 +1,10 @@
 //! How events are reached from departures with the fewest changes.
-ghost use Rattle.std.specs.Prelude.{ℕ, ◌≡◌, ◌+◌, ◌<◌, ◌≤◌, ◌⊎◌, Some, IsSome, length, map, IfOk, IfSome};
+ghost use Rattle.std.specs.Prelude.{ℕ, ◌≡◌, ◌+◌, ◌<◌, ◌⊎◌, Some, IsSome, length, map, IfOk, IfSome};
 ghost use Rattle.std.specs.List.{range_with_len};
 ghost use Rattle.dm_graph.specs.Arcs.{IsOrder};
 ghost use Rattle.dm_graph.specs.Arrays.{AreRanks};
 ghost use Rattle.dm_network.specs.Held.{arcs_of, is_held};
-ghost use Rattle.dm_network.specs.Net.{activity_at, places_into};
+ghost use Rattle.dm_network.specs.Net.{places_into};
 ghost use Rattle.dm_journey.specs.Inside.Reaching.{reach_at, boarding_at, IsBeginning, IsWithin, IsOneOn, ReachesAlong, HasNoHeadway, IsReachedAlong, IsFromRow, HasReachedAll};
 
 use dm_base::{ActKind, EventKind, Secs, Steps, StopId};

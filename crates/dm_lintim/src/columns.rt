@@ -1,6 +1,6 @@
 //! The columns of the files, and the words that name them.
 ghost use Rattle.std.specs.Prelude.{◌≡◌};
-ghost use Rattle.dm_lintim.specs.Columns.{HasAll, ReadsFileColumns, activity_columns, activity_required, event_columns, event_required, standard_columns};
+ghost use Rattle.dm_lintim.specs.Columns.{HasAll, ReadsFileColumns, activity_required, event_required, standard_columns};
 
 use crate::layout::Layout;
 use crate::words::read_columns;

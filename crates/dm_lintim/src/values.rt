@@ -1,6 +1,6 @@
 //! The values of one record. Each cell is read once, and what it gave is kept here until the row is made of it.
-ghost use Rattle.std.specs.Prelude.{◌≡◌, ◌≤◌, ◌<◌, ℕ, IsSome, Some, None};
-ghost use Rattle.dm_lintim.specs.Columns.{column_number, same_column};
+ghost use Rattle.std.specs.Prelude.{◌≡◌, ◌≤◌, ◌<◌, IsSome, Some, None};
+ghost use Rattle.dm_lintim.specs.Columns.{same_column};
 ghost use Rattle.dm_lintim.specs.Files.{largest_of};
 ghost use Rattle.dm_lintim.specs.Inside.Values.{AreWithin, first_kind, number_in, put_slot, slot};
 ghost use Rattle.dm_lintim.specs.declared.columns.Column.{Column};

@@ -1,5 +1,5 @@
 //! A text of column words, separated by commas, read as the columns that the words name.
-ghost use Rattle.std.specs.Prelude.{ℕ, ◌≡◌, ◌≤◌, ◌∷◌, length, Option, Some, IfSome, IfNone, OnOk, IfOk, IfErr, MatchBool, MatchOption, option_map, true};
+ghost use Rattle.std.specs.Prelude.{◌≡◌, ◌≤◌, ◌∷◌, length, Option, Some, IfSome, IfNone, OnOk, IfOk, IfErr, MatchBool, MatchOption, option_map, true};
 ghost use Rattle.dm_lintim.specs.Columns.{AreColumns, BreaksWord, FirstMissing, HasAll, IsNew, Names, ReadsColumns, StopsAtWord, has_column, words_of};
 ghost use Rattle.dm_lintim.specs.Inside.Words.{AddsColumn};
 ghost use Rattle.dm_lintim.specs.Pieces.{is_comma, pieces, pieces_left};

@@ -1,5 +1,5 @@
 //! An order that is changed until it holds what constraints hold.
-ghost use Rattle.std.specs.Prelude.{◌≡◌, length, OnOk, OnErr};
+ghost use Rattle.std.specs.Prelude.{length, OnOk, OnErr};
 ghost use Rattle.dm_order.specs.Orders.{IsOrderOf};
 ghost use Rattle.dm_settle.specs.Constraints.{IsSizedFor};
 ghost use Rattle.dm_live.specs.Live.{HasHeldCycle};

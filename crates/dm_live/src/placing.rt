@@ -1,5 +1,5 @@
 //! Marks of events, moved to the places of the events in an order.
-ghost use Rattle.std.specs.Prelude.{ℕ, ◌≡◌, ◌<◌, length, slice_index};
+ghost use Rattle.std.specs.Prelude.{◌≡◌, length};
 ghost use Rattle.dm_marks.specs.Marked.{NoneFrom};
 ghost use Rattle.dm_live.specs.Inside.Placing.{ArePlaced, IsClear};
 ghost use Rattle.dm_graph.specs.Arrays.{AreRanks};

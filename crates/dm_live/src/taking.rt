@@ -1,5 +1,5 @@
 //! Activities that an order takes up in addition to those that it holds.
-ghost use Rattle.std.specs.Prelude.{ℕ, ◌≡◌, ◌<◌, false, true, [], ◌∷◌, ◌==◌, length, if◌then◌else◌, OnOk, OnErr};
+ghost use Rattle.std.specs.Prelude.{ℕ, ◌≡◌, ◌<◌, true, [], ◌∷◌, ◌==◌, length, if◌then◌else◌, OnOk, OnErr};
 ghost use Rattle.dm_network.specs.Net.{activity_at, places_out_of};
 ghost use Rattle.dm_network.specs.Held.{is_held, IsCycleOf, HasNoCycleOf};
 ghost use Rattle.dm_order.specs.Orders.{IsOrderOf, held_with};

@@ -1,5 +1,5 @@
 //! The timetable, its moves and its readers.
-ghost use Rattle.std.specs.Prelude.{ℕ, ◌≡◌, ◌+◌, ◌<◌, ◌≤◌, ◌⊎◌, true, false, length, replicate, slice_index, slice_set, IfOk, IfErr, OnOk, OnErr};
+ghost use Rattle.std.specs.Prelude.{◌≡◌, ◌+◌, ◌<◌, ◌≤◌, ◌⊎◌, true, false, length, replicate, slice_index, slice_set, IfOk, IfErr, OnOk, OnErr};
 ghost use Rattle.dm_base.specs.declared.limits.TheConstants.{PASSED_TIME, BOUND, DELAY};
 ghost use Rattle.dm_network.specs.Held.{is_held, IsCycleOf, HasNoCycleOf};
 ghost use Rattle.dm_network.specs.Net.{activity_at, places_out_of};
@@ -251,7 +251,7 @@ impl LiveTimetable {
     {
         net.reveal();
         self.order.remove(&[a]);
-        self.constraints.hold(a, false);
+        self.constraints.set_held(a, false);
         self.marks.mark(net.activity(a).head);
     }
 
@@ -276,7 +276,7 @@ impl LiveTimetable {
         let fixed = self.is_fixed(net.activity(a).tail);
         match add_unless_fixed(&mut self.order, net, a, fixed) {
             Ok(()) => {
-                self.constraints.hold(a, true);
+                self.constraints.set_held(a, true);
                 self.marks.mark(net.activity(a).head);
                 Ok(())
             }

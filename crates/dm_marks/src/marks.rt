@@ -1,5 +1,5 @@
 //! Marks at places.
-ghost use Rattle.std.specs.Prelude.{ℕ, ◌≡◌, ◌+◌, ◌*◌, ◌/◌, ◌<◌, ◌≤◌, true, false, List, Bool, length, replicate, slice_set, IfOk, IfSome, IfNone};
+ghost use Rattle.std.specs.Prelude.{ℕ, ◌≡◌, ◌+◌, ◌*◌, ◌/◌, ◌<◌, true, false, List, Bool, length, replicate, slice_set, IfOk, IfSome, IfNone};
 ghost use Rattle.dm_marks.specs.Marked.{is_marked, HasMark, IsFirstFrom, NoneFrom};
 ghost use Rattle.dm_marks.specs.Inside.Words.{Turns, AreCovered, AreFew, IsFirstBit, NoBitFrom, NoBitBetween};
 

@@ -1,5 +1,5 @@
 //! A set of places.
-ghost use Rattle.std.specs.Prelude.{ℕ, ◌≡◌, ◌<◌, true, false, List, [], length, replicate, slice_set, All, Contains, IfOk};
+ghost use Rattle.std.specs.Prelude.{ℕ, ◌≡◌, ◌<◌, true, false, [], length, replicate, slice_set, All, Contains, IfOk};
 ghost use Rattle.dm_marks.specs.Marked.{is_marked};
 ghost use Rattle.dm_marks.specs.Places.{IsPlaceSet};
 

@@ -1,5 +1,4 @@
 //! Entries that are kept one by one.
-ghost use Rattle.dm_rows.specs.Rows.{IsSized};
 
 use crate::case::{Case, LATE, is_due};
 use dm_base::limits::ENTRIES;

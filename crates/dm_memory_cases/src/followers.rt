@@ -1,5 +1,4 @@
 //! A journal that is followed in pieces.
-ghost use Rattle.dm_rows.specs.Rows.{IsSized};
 
 use crate::case::{Case, PENALTY, is_due};
 use dm_follow::{FollowKind, Follower, Tail};

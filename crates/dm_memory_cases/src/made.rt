@@ -1,5 +1,4 @@
 //! What computes times, and what shows them.
-ghost use Rattle.dm_rows.specs.Rows.{IsSized};
 
 use crate::case::{Case, is_due};
 use dm_marks::{Marks, PlaceSet};

@@ -1,5 +1,4 @@
 //! Relaxed problems, a tree, a plan that is carried over, and an engine.
-ghost use Rattle.std.specs.Prelude.{IfOk};
 ghost use Rattle.dm_rows.specs.Decide.{IsChoiceList};
 ghost use Rattle.dm_rows.specs.Rows.{IsSized};
 

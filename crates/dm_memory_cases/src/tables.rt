@@ -1,6 +1,5 @@
 //! Tables that are made and entered into.
-ghost use Rattle.std.specs.Prelude.{◌≡◌, ◌<◌, IfOk};
-ghost use Rattle.dm_rows.specs.Rows.{IsSized};
+ghost use Rattle.std.specs.Prelude.{◌≡◌, ◌<◌};
 ghost use Rattle.dm_table.specs.Value.{HasRoomFor};
 
 use crate::case::{Case, LATE, PENALTY, is_due};

@@ -17,7 +17,7 @@ use Rattle.dm_network.specs.Inside.Stages.{standing_at, AreSortedByStop, AreStop
 use Rattle.dm_network.specs.declared.parts.Pair.{Pair}
 use Rattle.dm_network.specs.declared.arrays.Arrays.{Arrays}
 use Rattle.dm_network.specs.declared.parts.Activity.{Activity}
-use Rattle.dm_network.specs.Inside.Flat.{AreFlatRows, row_of}
+use Rattle.dm_network.specs.Inside.Flat.{IsAdjacency, row_of}
 
 -- the order of the sort ties exactly what has one stop
 ties_are_one_stop : (stop : ℕ) (s : Standing) →
@@ -126,8 +126,8 @@ look_up_mapped f z (x ∷ xs) (suc a) = look_up_mapped f z xs a
 
 -- rows by mapped ends are rows by those ends
 pub rows_of_mapped : (f : Activity → ℕ) → f no_activity ≡ 0 → (activities : List Activity) (ends : List ℕ) → ends ≡ map f activities → (count : ℕ) (offsets places : List ℕ) →
-    AreFlatRows (row_of (λ a. get_or ends a 0) (length ends)) count offsets places →
-    AreFlatRows (λ i. filter (λ a. eqb (f (get_or activities a no_activity)) i) (range_with_len 0 (length activities))) count offsets places
+    IsAdjacency (row_of (λ a. get_or ends a 0) (length ends)) count offsets places →
+    IsAdjacency (λ i. filter (λ a. eqb (f (get_or activities a no_activity)) i) (range_with_len 0 (length activities))) count offsets places
 rows_of_mapped f z activities ends is count offsets places rows = record {
   offset_count = rows.offset_count;
   rises = rows.rises;

@@ -1,16 +1,16 @@
 -- The arrays beside a network, with flags of its activities, give the flagged ones as arcs, and may be searched.
 use Rattle.std.proofs.Common.{◌≡◌, ℕ, ◌<◌, Bool, false, List, length, map, get_or, refl, sym, ap, ◌∙◌, subst, arith}
 use Rattle.std.proofs.lemmas.List.{length-map}
-use Rattle.dm_graph.specs.Arrays.{AreRows, AreEnds, AreArraysOf}
+use Rattle.dm_graph.specs.Arrays.{AreArcRows, AreEnds, AreArraysOf}
 use Rattle.dm_graph.proofs.Windows.{rows_of_windows, windows_list}
 use Rattle.dm_network.specs.Net.{Net, activity_at, places_into, EndsAreKnown}
 use Rattle.dm_network.specs.Held.{arcs_of}
-use Rattle.dm_network.specs.Inside.Flat.{AreFlatRows}
+use Rattle.dm_network.specs.Inside.Flat.{IsAdjacency}
 use Rattle.dm_network.proofs.Arraying.{look_up_mapped}
 
 module _ (net : Net) (tails offsets places : List ℕ)
     (tails_are : tails ≡ map (λ a. a.tail) net.activities)
-    (rows : AreFlatRows (places_into net) (length net.events) offsets places)
+    (rows : IsAdjacency (places_into net) (length net.events) offsets places)
     (known : EndsAreKnown net) where
   tails_count : length tails ≡ length net.activities
   tails_count = ap length tails_are ∙ length-map net.activities (λ a. a.tail)
@@ -18,10 +18,10 @@ module _ (net : Net) (tails offsets places : List ℕ)
   tail_is : (a : ℕ) → get_or tails a 0 ≡ (activity_at net a).tail
   tail_is a = ap (λ xs. get_or xs a 0) tails_are ∙ look_up_mapped (λ a. a.tail) refl net.activities a
 
-  pub flagged_rows : (n : ℕ) → n ≡ length net.events → AreRows n (length tails) offsets places
+  pub flagged_rows : (n : ℕ) → n ≡ length net.events → AreArcRows n (length tails) offsets places
   flagged_rows n is =
-      subst (λ m. AreRows m (length tails) offsets places) (sym is)
-      (subst (λ m. AreRows (length net.events) m offsets places) (sym tails_count)
+      subst (λ m. AreArcRows m (length tails) offsets places) (sym is)
+      (subst (λ m. AreArcRows (length net.events) m offsets places) (sym tails_count)
       (rows_of_windows (length net.events) (length net.activities) (λ a. (activity_at net a).head) offsets places
       rows.offset_count rows.rises rows.within rows.row))
 

@@ -8,14 +8,14 @@ use Rattle.std.proofs.lemmas.List.Elements.{All-nil, All-cons}
 use Rattle.std.proofs.lemmas.List.Quantifiers.{position-Some}
 use Rattle.dm_base.specs.declared.ids.ActId.{ActId}
 use Rattle.dm_graph.specs.Arcs.{Arcs, Chain, IsCycle, IsOrder}
-use Rattle.dm_graph.specs.Arrays.{AreRows, AreEnds, AreArraysOf}
+use Rattle.dm_graph.specs.Arrays.{AreArcRows, AreEnds, AreArraysOf}
 use Rattle.dm_graph.proofs.Chains.{no_cycle_where_rank_rises, order_rises, place_in}
 use Rattle.dm_network.specs.declared.parts.Activity.{Activity}
 use Rattle.dm_network.specs.Net.{Net, no_activity, no_pair, activity_at, pair_at, is_headway, places_into, EndsAreKnown}
 use Rattle.dm_network.specs.Pairs.{joins, own_pair, pair_place}
 use Rattle.dm_network.specs.Start.{is_start_active, IsFormed, ShowsStartCycle}
 use Rattle.dm_network.specs.Held.{arcs_of, ids_of}
-use Rattle.dm_network.specs.Inside.Flat.{AreFlatRows}
+use Rattle.dm_network.specs.Inside.Flat.{IsAdjacency}
 use Rattle.dm_network.specs.Inside.Stages.{KnowsPair, HasNoStartCycle}
 use Rattle.dm_network.proofs.PairKeys.{joins-true}
 use Rattle.dm_network.proofs.Flagged.{flagged_rows, flagged_ends, flagged_arrays}
@@ -45,10 +45,10 @@ knows_pairs net formed k d lt =
 
 module _ (net : Net) (tails offsets places : List ℕ) (held : List Bool)
     (tails_are : tails ≡ map (λ a. a.tail) net.activities)
-    (rows : AreFlatRows (places_into net) (length net.events) offsets places)
+    (rows : IsAdjacency (places_into net) (length net.events) offsets places)
     (held_is : held ≡ map (is_start_active net) (range_with_len 0 (length net.activities)))
     (known : EndsAreKnown net) where
-  pub start_rows : (n : ℕ) → n ≡ length net.events → AreRows n (length tails) offsets places
+  pub start_rows : (n : ℕ) → n ≡ length net.events → AreArcRows n (length tails) offsets places
   start_rows n is = flagged_rows net tails offsets places tails_are rows known n is
 
   pub start_ends : (n : ℕ) → n ≡ length net.events → AreEnds n (length tails) tails held

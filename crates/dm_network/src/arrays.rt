@@ -5,7 +5,7 @@ ghost use Rattle.dm_network.specs.Net.{no_activity};
 ghost use Rattle.dm_network.specs.Start.{binds_at_start, is_start_active};
 ghost use Rattle.dm_network.specs.Inside.Stages.{standing_at, AreStopsOf, AreSortedByStop, net_with, StandBeside, KnowsPair, HasEnds, first_in};
 
-use crate::flat::{FlatRows, rows_by};
+use crate::flat::{Adjacency, adjacency_by};
 use crate::parts::{Activity, Event, Pair};
 use dm_base::limits::{ACTIVITIES, EVENTS};
 use dm_base::{ActId, StopId};
@@ -29,8 +29,8 @@ pub struct Standing {
 #[derive(Drop)]
 pub struct Arrays {
     pub tails: Vec<usize>,
-    pub incoming: FlatRows,
-    pub outgoing: FlatRows,
+    pub incoming: Adjacency,
+    pub outgoing: Adjacency,
     pub by_stop: ByStop,
 }
 
@@ -47,8 +47,8 @@ pub fn arrays_of(
 {
     let heads = heads(alloc, activities)?;
     let tails = tails(alloc, activities)?;
-    let incoming = rows_by(alloc, &heads, events.len())?;
-    let outgoing = rows_by(alloc, &tails, events.len())?;
+    let incoming = adjacency_by(alloc, &heads, events.len())?;
+    let outgoing = adjacency_by(alloc, &tails, events.len())?;
     let by_stop = by_stop(alloc, events)?;
     Ok(Arrays {
         tails,

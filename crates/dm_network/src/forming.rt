@@ -1,5 +1,5 @@
 //! The events, activities and pairs of a network, from records.
-ghost use Rattle.std.specs.Prelude.{◌≡◌, map, length, IfOk, IfErr};
+ghost use Rattle.std.specs.Prelude.{map, IfOk, IfErr};
 ghost use Rattle.std.specs.List.Sorted.{IsStrictlyIncreasing};
 ghost use Rattle.dm_network.specs.Inside.Stages.{AreEventsOf, RefusesEvents, AreActivitiesOf, RefusesActivities};
 

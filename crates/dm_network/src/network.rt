@@ -10,7 +10,7 @@ ghost use Rattle.dm_network.specs.Inside.Stages.{formed_net, with_events, StandB
 
 use crate::arrays::{Arrays, ByStop};
 use crate::find;
-use crate::flat::FlatRows;
+use crate::flat::Adjacency;
 use crate::forming::Formed;
 use crate::parts::{Activity, Event, Pair};
 use dm_base::limits::{ACTIVITIES, EVENTS};
@@ -26,8 +26,8 @@ pub struct Network {
     pairs: Vec<Pair>,
 
     /// The places of the activities, in rows by head and in rows by tail.
-    incoming: FlatRows,
-    outgoing: FlatRows,
+    incoming: Adjacency,
+    outgoing: Adjacency,
 
     /// The tail of each activity.
     tails: Vec<usize>,

@@ -1,5 +1,5 @@
 //! Events and activities from records, and what is wrong with records.
-ghost use Rattle.std.specs.Prelude.{◌≡◌, map, length, IfOk, IfErr, MatchOption, IsPermutation};
+ghost use Rattle.std.specs.Prelude.{◌≡◌, map, IfOk, IfErr, MatchOption, IsPermutation};
 ghost use Rattle.std.specs.List.Sorted.{IsStrictlyIncreasing, IsNonDecreasing};
 ghost use Rattle.dm_network.specs.Build.{event_row, event_ids, activity_ids, NamesNoEvent, IsFirst, HoldsOfNone, IsZeroHeadway, NoneStandsTwice, IsLeastDouble};
 ghost use Rattle.dm_network.specs.Inside.Stages.{event_with, Resolves, AreResolved, RefusesEnds};

@@ -1,7 +1,7 @@
 //! Which events in an interval of places the held activities lead to.
 ghost use Rattle.std.specs.Prelude.{◌≡◌, ◌<◌, ◌≤◌, length, IfOk};
 ghost use Rattle.dm_graph.specs.Arrays.{AreRanks};
-ghost use Rattle.dm_network.specs.Net.{activity_at, places_out_of};
+ghost use Rattle.dm_network.specs.Net.{places_out_of};
 ghost use Rattle.dm_order.specs.Inside.Reaching.{followed, followed_all, HasReached, IsCleared};
 
 use dm_base::Steps;

@@ -1,5 +1,5 @@
 //! What shows times to passengers.
-ghost use Rattle.std.specs.Prelude.{◌≡◌, ℕ, List, Option, All, IsOk, OnOk};
+ghost use Rattle.std.specs.Prelude.{◌≡◌, ℕ, Option, All, IsOk, OnOk};
 ghost use Rattle.dm_outside.specs.Faults.{Counts};
 ghost use Rattle.dm_outside.specs.Board.{Sets, IsShown};
 

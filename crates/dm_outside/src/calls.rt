@@ -1,6 +1,6 @@
 //! The calls that a form in memory was given, some of which fail.
-ghost use Rattle.std.specs.Prelude.{◌≡◌, ◌+◌, ◌<◌, ◌≤◌, All, Contains, IsTrue, ◌↔◌};
-ghost use Rattle.dm_outside.specs.Calls.{IsListed, NoneListed, next_call};
+ghost use Rattle.std.specs.Prelude.{◌≡◌, ◌+◌, ◌≤◌, IsTrue, ◌↔◌};
+ghost use Rattle.dm_outside.specs.Calls.{IsListed, next_call};
 ghost use Rattle.dm_outside.specs.Faults.{HasRisen};
 
 /// How many calls an object was given and how many of them failed, for a form in memory that fails

@@ -1,10 +1,10 @@
 //! Where sources are found by name.
-ghost use Rattle.std.specs.Prelude.{◌≡◌, ◌⊎◌, ℕ, ◌<◌, ◌↔◌, List, Option, None, Some, IsNone, IsErr, IfOk, OnOk, OnErr, IsOkAnd, IsSomeAnd, All, AllPairs, ◌≢◌};
+ghost use Rattle.std.specs.Prelude.{◌≡◌, ◌⊎◌, ℕ, ◌<◌, ◌↔◌, List, Option, Some, IsNone, IsErr, IfOk, OnOk, OnErr, IsOkAnd, IsSomeAnd, All, AllPairs, ◌≢◌};
 ghost use Rattle.std.specs.Option.{option_copied};
 ghost use Rattle.dm_outside.specs.Faults.{Counts};
 ghost use Rattle.dm_outside.specs.Shelf.{Opens};
 ghost use Rattle.dm_outside.specs.Calls.{IsListed, NoneListed, next_call};
-ghost use Rattle.dm_outside.specs.Memory.{SourceValue, file_named, bytes_named};
+ghost use Rattle.dm_outside.specs.Memory.{file_named, bytes_named};
 
 use crate::calls::Calls;
 use crate::{Failed, MemSource, Source};

@@ -1,5 +1,5 @@
 //! All the bytes of a source.
-ghost use Rattle.std.specs.Prelude.{◌≡◌, ℕ, ◌+◌, ◌-◌, ◌<◌, ◌≤◌, List, length, vec_len, IfOk, OnOk, IfSome, IsErrOf, OnErr};
+ghost use Rattle.std.specs.Prelude.{◌≡◌, ◌+◌, ◌-◌, ◌<◌, ◌≤◌, length, vec_len, IfOk, OnOk, IfSome, IsErrOf, OnErr};
 ghost use Rattle.std.specs.Io.KnownBytes.{Consumes, IsAtEnd};
 ghost use Rattle.dm_outside.specs.Faults.{HasRisen};
 ghost use Rattle.dm_outside.specs.Taking.{TakesAtMost, TakesCount, TakesPiece, AnswersLimit};

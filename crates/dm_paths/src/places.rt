@@ -1,5 +1,5 @@
 //! Choices by place.
-ghost use Rattle.std.specs.Prelude.{◌≡◌, ◌<◌, length, IfSome, IfNone};
+ghost use Rattle.std.specs.Prelude.{◌<◌, IfSome, IfNone};
 ghost use Rattle.dm_paths.specs.Places.{IsPlaceOf, HasNoPlace};
 
 use dm_base::{ActId, EventId};

@@ -1,5 +1,5 @@
 //! Which changes and which pairs a path leaves undecided.
-ghost use Rattle.std.specs.Prelude.{◌≡◌, ◌<◌, length};
+ghost use Rattle.std.specs.Prelude.{◌≡◌, ◌<◌};
 ghost use Rattle.dm_paths.specs.Flags.{is_flagged, with_change, with_pair, HasRoomFor};
 ghost use Rattle.dm_paths.specs.Places.{at_place, HasFlagFor};
 

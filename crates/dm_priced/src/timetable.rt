@@ -1,5 +1,5 @@
 //! The timetable with its price, its moves and its readers.
-ghost use Rattle.std.specs.Prelude.{ℕ, ◌≡◌, ◌+◌, ◌*◌, ◌^◌, ◌<◌, ◌≤◌, ◌⊎◌, Bool, true, false, length, replicate, slice_index, slice_set, IfOk, OnOk, OnErr};
+ghost use Rattle.std.specs.Prelude.{◌≡◌, ◌+◌, ◌*◌, ◌^◌, ◌<◌, ◌≤◌, ◌⊎◌, true, false, length, replicate, slice_index, slice_set, IfOk, OnOk, OnErr};
 ghost use Rattle.dm_base.specs.declared.limits.TheConstants.{PASSED_TIME, BOUND, DELAY, PENALTY};
 ghost use Rattle.dm_live.specs.Live.{IsLive, IsAtRest, IsEnteredByNone, IsFixed, ReadsFew, is_fixed, with_mark, with_head, with_floor, with_span, with_held};
 ghost use Rattle.dm_network.specs.Held.{is_held, IsCycleOf, HasNoCycleOf};

@@ -1,6 +1,4 @@
 //! The sums of the times, kept through a sweep.
-ghost use Rattle.std.specs.Prelude.{◌≡◌, length};
-ghost use Rattle.dm_priced.specs.Priced.{lateness_of};
 ghost use Rattle.dm_priced.specs.Inside.Adding.{AreKnown};
 
 use crate::adding::{cost_at, missed_between, missed_into};

@@ -16,7 +16,7 @@ ghost use Rattle.dm_commands.specs.Ends.{IsDue, Writes, FailsToWrite, WantsMemor
 ghost use Rattle.dm_commands.specs.Searching.{FindsPlan, MaySearch};
 ghost use Rattle.dm_commands.specs.Verdicts.{verdict_line, verdict_status, long_text_line};
 
-use dm_commands::{BoardList, Ending, Means, Status, dispatch_with};
+use dm_commands::{BoardList, CommandMeans, Ending, Status, dispatch_with};
 use dm_network::Network;
 use dm_outside::{Board, Gate, Shelf, Sink};
 use dm_rows::Snapshot;
@@ -144,7 +144,7 @@ pub fn dispatch<R: Threads + Wait + Sync, H: Shelf, K: Sink, G: Gate>(
         ensures { IfOk result (FindsPlan net.now penalty snapshot.now budget) }
     { search(rt, alloc, net, penalty, snapshot, budget, workers, gate) };
     dispatch_with(
-        &Means {
+        &CommandMeans {
             rt,
             alloc,
             search: &search,

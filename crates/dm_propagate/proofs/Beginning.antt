@@ -43,15 +43,6 @@ module _ (p : ℕ → Bool) (n : ℕ) (flags : List Bool) (had : AreFlaggedBefor
     behind = λ k past. had.behind k (omega arith);
   }
 
--- all events that have passed are flagged, and no others
-pub all_passed : (rows : RowsValue) (n : ℕ) (flags : List Bool) → length rows.passed ≡ n → AreFlaggedBefore (has_passed rows) n flags → FixesPassed rows flags
-all_passed rows n flags size all i = elim (cases_lt i n) [
-  | inl below ↦ all.before i below
-  | inr past ↦
-      let not_yet : has_passed rows i ≡ false = ap is_some (get_or_past rows.passed i None (omega arith)) in
-      all.behind i (omega arith) ∙ sym not_yet
-]
-
 -- a timetable that is held to rows, of which no event is fixed
 pub none_fixed : (net : Net) (rows : RowsValue) (live : LiveValue) → IsLive net live → FollowsRows net rows live.given → NoneFixed live.fixed → IsFixedBefore net rows 0 live
 none_fixed net rows live is follows none = record { live = is; follows = follows; fixed = none_flagged (has_passed rows) live.fixed none }

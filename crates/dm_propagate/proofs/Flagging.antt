@@ -158,9 +158,6 @@ no_other_set rows e before after within is but i not_yet = ap (λ (fs : List Boo
   | inr other ↦ set_off before e i (has_passed rows e) other ∙ elim (but i not_yet) [ inl free ↦ free | inr same ↦ absurd (other same) ]
 ]
 
-pub no_other_of : (rows : RowsValue) (fixed : List Bool) → FixesPassed rows fixed → FixesNoOther rows fixed
-no_other_of rows fixed is i not_yet = is i ∙ not_yet
-
 -- what a change leaves
 flip_keeps_passed : (rows : RowsValue) (flip : Flip) (i : ℕ) → has_passed (after_flip rows flip) i ≡ has_passed rows i
 flip_keeps_passed rows (Keep a) i = refl

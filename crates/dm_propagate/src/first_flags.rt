@@ -1,5 +1,5 @@
 //! The first flags of a timetable that has none set, by a look at every event and every activity.
-ghost use Rattle.std.specs.Prelude.{ℕ, ◌≡◌, ◌+◌, ◌<◌, length};
+ghost use Rattle.std.specs.Prelude.{◌≡◌, ◌+◌, ◌<◌, length};
 ghost use Rattle.dm_live.specs.Live.{IsLive, NoneFixed};
 ghost use Rattle.dm_priced.specs.Priced.{IsPriced};
 ghost use Rattle.dm_rows.specs.Active.{has_passed};

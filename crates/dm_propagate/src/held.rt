@@ -1,5 +1,5 @@
 //! Activities that are let go and taken up, as rows have them active.
-ghost use Rattle.std.specs.Prelude.{ℕ, ◌≡◌, ◌<◌, length, All, OnOk, OnErr};
+ghost use Rattle.std.specs.Prelude.{◌≡◌, ◌<◌, length, All, OnOk, OnErr};
 ghost use Rattle.dm_priced.specs.Priced.{IsPriced};
 ghost use Rattle.dm_propagate.specs.Inside.Flags.{flags_of, FixesNoOther};
 ghost use Rattle.dm_propagate.specs.Inside.Turning.{IsAmong, IsOnly, LetsGo, TakesUp, IsRefused};

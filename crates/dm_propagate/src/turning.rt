@@ -1,15 +1,14 @@
 //! A timetable that is brought to follow rows at what a change concerns.
-ghost use Rattle.std.specs.Prelude.{ℕ, ◌≡◌, ◌<◌, ◌⊎◌, Some, true, false, length, slice_set, All, OnOk, OnErr};
+ghost use Rattle.std.specs.Prelude.{ℕ, ◌≡◌, ◌<◌, Some, true, false, length, slice_set, All, OnOk, OnErr};
 ghost use Rattle.dm_network.specs.Net.{pair_at, places_into, places_out_of};
 ghost use Rattle.dm_rows.specs.Rows.{passed_at};
 ghost use Rattle.dm_rows.specs.Active.{has_passed};
-ghost use Rattle.dm_rows.specs.Reach.{Reaches, ReachesFlip};
+ghost use Rattle.dm_rows.specs.Reach.{ReachesFlip};
 ghost use Rattle.dm_rows.specs.Timetable.{floor_of};
 ghost use Rattle.dm_live.specs.Live.{IsEnteredByNone, with_floor};
 ghost use Rattle.dm_priced.specs.Priced.{IsPriced};
 ghost use Rattle.dm_propagate.specs.Inside.Flags.{flags_of, FixesNoOther};
-ghost use Rattle.dm_propagate.specs.Engine.{FollowsRows};
-ghost use Rattle.dm_propagate.specs.Inside.Concern.{FollowsBut, LeadsAt, IsDecided, IsDecidedBefore};
+ghost use Rattle.dm_propagate.specs.Inside.Concern.{LeadsAt, IsDecided, IsDecidedBefore};
 ghost use Rattle.dm_propagate.specs.Inside.Turning.{Within, LetsGo, TakesUp, IsRefused};
 ghost use Rattle.dm_propagate.specs.Inside.Changing.{HasPlace};
 

@@ -1,7 +1,6 @@
 //! What a log item's line answers.
-ghost use Rattle.std.specs.Prelude.{ℕ, ◌≡◌, ◌≤◌, IfOk, IfSome, MatchOption};
+ghost use Rattle.std.specs.Prelude.{◌≡◌, IfOk, MatchOption};
 ghost use Rattle.std.specs.Option.{option_map};
-ghost use Rattle.dm_feed.specs.Parts.{largest_id};
 ghost use Rattle.dm_records.specs.declared.kinds.TheConstants.{TOLD, FREE};
 ghost use Rattle.dm_records.specs.Inside.Fields.{row_in, whole, NumbersFit};
 ghost use Rattle.dm_records.specs.Inside.Kinds.{told_text, told_shape, told_reply, free_text, free_shape, free_reply};

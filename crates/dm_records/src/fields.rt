@@ -1,5 +1,5 @@
 //! Lines made of words and numbers, read from their front. Nothing here takes memory.
-ghost use Rattle.std.specs.Prelude.{ℕ, ◌≡◌, ◌≤◌, [], ◌∷◌, IfSome};
+ghost use Rattle.std.specs.Prelude.{◌≡◌, ◌≤◌, [], ◌∷◌, IfSome};
 ghost use Rattle.std.specs.Option.{option_map};
 ghost use Rattle.dm_records.specs.Inside.Fields.{number_behind, fields, whole, numbers_in, NumbersFit};
 

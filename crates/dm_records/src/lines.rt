@@ -1,5 +1,5 @@
 //! The lines of a run's text outside the logs' items.
-ghost use Rattle.std.specs.Prelude.{◌≡◌, ◌<◌, ◌^◌, IfOk, codes};
+ghost use Rattle.std.specs.Prelude.{◌≡◌, ◌<◌, ◌^◌, IfOk};
 ghost use Rattle.dm_records.specs.RunLines.{IsNumberLine, IsVersionLine, IsEntryLine, IsOpeningLine, IsStopLine, IsNoteLine, IsTimeLine, IsWordLine};
 ghost use Rattle.dm_records.specs.Readings.{IsRead, numbered, opening, note, timed};
 

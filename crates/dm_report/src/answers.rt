@@ -1,5 +1,5 @@
 //! What feeds were answered, in print.
-ghost use Rattle.std.specs.Prelude.{◌≡◌, ◌∷◌, ◌++◌, [], codes, length, All};
+ghost use Rattle.std.specs.Prelude.{◌∷◌, ◌++◌, [], codes, All};
 ghost use Rattle.std.specs.Fmt.{decimal};
 ghost use Rattle.std.specs.List.{flat_map};
 ghost use Rattle.dm_outside.specs.Printing.{Prints, joined};

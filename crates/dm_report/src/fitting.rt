@@ -1,7 +1,7 @@
 //! The numbers of what is printed. Each is one that its type holds; a proof knows that where the number is read.
 ghost use Rattle.std.specs.Prelude.{◌≤◌, All};
 ghost use Rattle.dm_feed.specs.Parts.{Fits, largest_id, largest_value};
-ghost use Rattle.dm_feed.specs.Lines.{parts_of_decision, parts_of_line, parts_of_message};
+ghost use Rattle.dm_feed.specs.Lines.{parts_of_line, parts_of_message};
 ghost use Rattle.dm_cert.specs.PlanTexts.{FitsDecision, FitsNode, FitsPlan};
 ghost use Rattle.dm_cert.specs.RunTexts.{FitsEntry, FitsItem, FitsLog, FitsNote, FitsReason, FitsReply};
 

@@ -1,5 +1,4 @@
 //! The summary of a generated day in print.
-ghost use Rattle.std.specs.Prelude.{◌≡◌};
 ghost use Rattle.dm_outside.specs.Printing.{Prints, Puts};
 ghost use Rattle.dm_report.specs.Summaries.{summary_text};
 

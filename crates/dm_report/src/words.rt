@@ -1,5 +1,5 @@
 //! Words and numbers in print.
-ghost use Rattle.std.specs.Prelude.{◌≡◌, ◌∷◌, ◌++◌, []};
+ghost use Rattle.std.specs.Prelude.{◌∷◌, []};
 ghost use Rattle.std.specs.Fmt.{decimal};
 ghost use Rattle.dm_outside.specs.Printing.{Prints, joined};
 ghost use Rattle.dm_report.specs.Printed.{labelled};

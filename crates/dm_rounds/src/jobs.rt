@@ -1,12 +1,12 @@
 //! A feed that is being answered.
 
-ghost use Rattle.std.specs.Prelude.{◌≡◌, OnOk};
+ghost use Rattle.std.specs.Prelude.{OnOk};
 ghost use Rattle.dm_rounds.specs.Inside.Jobs.{CanRead, StepsFrom};
 ghost use Rattle.dm_desk.specs.Answered.{HasSeenLegal, AreTrueOf};
 ghost use Rattle.dm_desk.specs.Planning.{PlansUnder};
 
 use dm_cert::LogItem;
-use dm_desk::{Desk, Hold, answer_batch};
+use dm_desk::{Desk, HoldPoint, answer_batch};
 use dm_feed::{FeedStop, LineReader};
 use dm_outside::Source;
 use dm_rows::Snapshot;
@@ -35,7 +35,7 @@ pub fn answer_job<
     S: Source + Drop,
     D: Desk,
     P: Fn(&Snapshot, u64) -> Result<Plan, AllocError>,
-    H: Hold,
+    H: HoldPoint,
 >(
     job: &mut Job<S>,
     desk: &mut D,

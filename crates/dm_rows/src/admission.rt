@@ -1,10 +1,10 @@
 //! What a message comes to by place, or why it is refused.
-ghost use Rattle.std.specs.Prelude.{◌≡◌, ◌<◌, ◌≤◌, Some, None, true, false, All, IfOk, IfErr, IfSome, IfNone, OnOk, length};
-ghost use Rattle.dm_network.specs.Net.{activity_at, event_at, activity_place, event_place, is_change};
+ghost use Rattle.std.specs.Prelude.{◌≡◌, ◌<◌, ◌≤◌, Some, None, All, IfOk, IfErr, IfSome, IfNone, OnOk, length};
+ghost use Rattle.dm_network.specs.Net.{activity_at, activity_place, event_place};
 ghost use Rattle.dm_rows.specs.Rows.{IsSized, passed_at};
 ghost use Rattle.dm_rows.specs.Reach.{Reaches, ReachesFlip};
-ghost use Rattle.dm_rows.specs.Resolve.{change_named, flip_named, flips_named, named_pair};
-ghost use Rattle.dm_rows.specs.Refuse.{RefusesAtOnce, PassesAtOnce, RefusesDecision, PassesDecision, RefusesSome, RefusesChange, RefusesFirst, RefusesNumberFor, RefusesDelayOf, RefusesRecall, HeadHasPassed, passed_time, RefusesNothing, RefusesAdmission, RefusesClock};
+ghost use Rattle.dm_rows.specs.Resolve.{change_named, flip_named, flips_named};
+ghost use Rattle.dm_rows.specs.Refuse.{PassesAtOnce, RefusesDecision, PassesDecision, RefusesSome, RefusesChange, RefusesFirst, RefusesNumberFor, RefusesDelayOf, RefusesRecall, HeadHasPassed, RefusesNothing, RefusesAdmission, RefusesClock};
 
 use crate::messages::{Change, Decision, Flip, Message, Refusal};
 use crate::rows::Rows;

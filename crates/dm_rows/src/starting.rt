@@ -1,11 +1,10 @@
 //! The rows at the start of a day.
-ghost use Rattle.std.specs.Prelude.{ℕ, ◌≡◌, ◌<◌, ◌≤◌, map, length, IfOk, IfErr, OnOk, OnErr};
+ghost use Rattle.std.specs.Prelude.{◌≡◌, ◌<◌, map, length, IfOk, IfErr, OnOk};
 ghost use Rattle.std.specs.List.{range_with_len};
-ghost use Rattle.dm_network.specs.Net.{event_at, activity_at};
 ghost use Rattle.dm_network.specs.Start.{starts_small_first};
 ghost use Rattle.dm_rows.specs.Rows.{IsSized, start_rows_of};
 ghost use Rattle.dm_rows.specs.Inside.Delays.{AreDelaysOf, count_of, number_of, place_numbered, unknown, RefusesDelays};
-ghost use Rattle.dm_rows.specs.StartFaults.{DelaysAreWithin, RefusesDelayRecords, AllAreKnown, IsFirstUnknown, event_numbered, activity_numbered};
+ghost use Rattle.dm_rows.specs.StartFaults.{DelaysAreWithin, RefusesDelayRecords, AllAreKnown, event_numbered, activity_numbered};
 
 use crate::messages::StartFault;
 use crate::rows::Rows;

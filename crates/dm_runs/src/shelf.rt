@@ -1,6 +1,5 @@
 //! The shelf of a case: its own files, and behind them those of its network.
-ghost use Rattle.std.specs.Prelude.{◌≡◌, ◌≤◌, IfSome};
-ghost use Rattle.dm_outside.specs.Faults.{HasRisen};
+ghost use Rattle.std.specs.Prelude.{◌≡◌, IfSome};
 
 use crate::case::Case;
 use dm_outside::{Failed, FileSource, FolderShelf, Shelf};

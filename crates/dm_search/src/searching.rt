@@ -1,5 +1,5 @@
 //! A tree that is searched node by node in preorder.
-ghost use Rattle.std.specs.Prelude.{◌≡◌, ◌∷◌, ◌++◌, ◌+◌, ◌⊎◌, ◌≤◌, [], length, reverse, List, IfOk, OnOk, MatchBool, None};
+ghost use Rattle.std.specs.Prelude.{◌≡◌, ◌∷◌, ◌++◌, ◌+◌, ◌⊎◌, ◌≤◌, [], length, reverse, List, IfOk, OnOk, None};
 ghost use Rattle.dm_base.specs.declared.limits.TheConstants.{BUDGET};
 ghost use Rattle.dm_network.specs.Start.{IsNetwork};
 ghost use Rattle.dm_rows.specs.declared.messages.Decision.{Decision as DecisionValue};

@@ -14,14 +14,6 @@ use Rattle.dm_catch_up.specs.declared.catching.CatchUpStop.TheVariants as feed
 use Rattle.dm_serve.specs.Inside.Stages.{AllGoOn, CaughtUpTo, GoesOnWith, StopsCatchingUp}
 use Rattle.dm_serve.specs.Inside.Telling.{stop_of_feed}
 
--- none so far
-pub none_caught : {T : Type 0} (given : T → Option (List ℕ)) (feeds : List (Watched T)) → CaughtUpTo given [] feeds feeds
-none_caught given feeds = record {
-  as_many = refl;
-  each = λ place log watched of stands. absurd (omega (arith, slice_get_within [] place log of));
-  others = λ place le. refl;
-}
-
 -- one feed more goes on with its log
 pub one_caught : {T : Type 0} (given : T → Option (List ℕ)) (yielded : List FeedLog) (before now : List (Watched T)) (place : ℕ) (log : FeedLog) (one : Watched T)
     → CaughtUpTo given yielded before now → place ≡ length yielded → place < length now → GoesOnWith given log.items one → CaughtUpTo given (yielded ++ log ∷ []) before (set now place one)

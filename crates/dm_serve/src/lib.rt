@@ -36,4 +36,4 @@ mod starting;
 pub use boards::{BoardList, Shown};
 pub use ending::DayEnd;
 pub use pace::Pace;
-pub use serving::{Means, Server, serve_day};
+pub use serving::{Server, ServerMeans, serve_day};

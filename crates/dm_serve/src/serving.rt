@@ -28,7 +28,7 @@ use crate::going::go_round;
 use crate::opening::watched_of;
 use crate::pace::Pace;
 use crate::starting::{catch_up_all, read_back, take_up};
-use dm_desk::Hold;
+use dm_desk::HoldPoint;
 use dm_display::Display;
 use dm_input::{Opened, read_opening};
 use dm_network::Network;
@@ -48,7 +48,7 @@ use std::thread::Threads;
 
 /// What a server may use: threads, memory, and the gate that workers pass.
 #[derive(Drop)]
-pub struct Means<'s, R, G> {
+pub struct ServerMeans<'s, R, G> {
     pub rt: &'s R,
     pub alloc: Global,
     pub gate: &'s G,
@@ -69,10 +69,10 @@ pub fn serve_day<
     T: Growing + Drop,
     S: Store,
     W: Pace,
-    G: Hold + Sync,
+    G: HoldPoint + Sync,
     K: Sink,
 >(
-    means: &Means<'_, R, G>,
+    means: &ServerMeans<'_, R, G>,
     server: Server<'_, T>,
     shelf: &mut H,
     journal: &mut Journal<S>,
@@ -129,10 +129,10 @@ fn serve_files<
     T: Growing + Drop,
     S: Store,
     W: Pace,
-    G: Hold + Sync,
+    G: HoldPoint + Sync,
     K: Sink,
 >(
-    means: &Means<'_, R, G>,
+    means: &ServerMeans<'_, R, G>,
     server: Server<'_, T>,
     shelf: &mut H,
     journal: &mut Journal<S>,
@@ -173,10 +173,10 @@ fn serve_over<
     T: Growing + Drop,
     S: Store,
     W: Pace,
-    G: Hold + Sync,
+    G: HoldPoint + Sync,
     K: Sink,
 >(
-    means: &Means<'_, R, G>,
+    means: &ServerMeans<'_, R, G>,
     words: &ServeWords<'_>,
     net: &Network,
     rows: Rows,
@@ -231,10 +231,10 @@ fn serve_feeds<
     T: Growing + Drop,
     S: Store,
     W: Pace,
-    G: Hold + Sync,
+    G: HoldPoint + Sync,
     K: Sink,
 >(
-    means: &Means<'_, R, G>,
+    means: &ServerMeans<'_, R, G>,
     words: &ServeWords<'_>,
     net: &Network,
     restored: Restored<'_>,
@@ -299,10 +299,10 @@ fn serve_found<
     T: Growing + Drop,
     S: Store,
     W: Pace,
-    G: Hold + Sync,
+    G: HoldPoint + Sync,
     K: Sink,
 >(
-    means: &Means<'_, R, G>,
+    means: &ServerMeans<'_, R, G>,
     words: &ServeWords<'_>,
     net: &Network,
     is_new: bool,
@@ -365,10 +365,10 @@ fn serve_watch<
     T: Growing + Drop,
     S: Store,
     W: Pace,
-    G: Hold + Sync,
+    G: HoldPoint + Sync,
     K: Sink,
 >(
-    means: &Means<'_, R, G>,
+    means: &ServerMeans<'_, R, G>,
     words: &ServeWords<'_>,
     net: &Network,
     watch: Watch<'_, T>,

@@ -8,7 +8,7 @@ use crate::day::{ACTIVITIES, EVENTS, FIRST, SECOND, WORDS};
 use crate::outside::{AtOnce, LastFeed};
 use dm_outside::{Board, MemFile, MemShelf, MemSink, OpenGate};
 use dm_samples::Failure;
-use dm_serve::{Means, Server, serve_day};
+use dm_serve::{Server, ServerMeans, serve_day};
 use dm_store::{Journal, MemStore};
 use dm_store_text::Status;
 use dm_words::{LiveWords, Names, ServeWords, read_serve_words};
@@ -72,7 +72,7 @@ fn serve<R: Threads + Wait + Sync + AllocGlobal>(
     let mut journal = Journal::new(store);
     let mut boards: Vec<Box<dyn Board>> = Vec::new(alloc);
     let mut out = MemSink::new(alloc, ROOM, ROOM, Vec::new(alloc))?;
-    let means = Means {
+    let means = ServerMeans {
         rt,
         alloc,
         gate: &OpenGate,

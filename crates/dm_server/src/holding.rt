@@ -6,7 +6,7 @@ ghost use Rattle.dm_rows.specs.Rows.{IsSized};
 ghost use Rattle.dm_rows.specs.Timetable.{IsLeast};
 ghost use Rattle.dm_table.specs.Answers.{RefusesTime, RefusesPost};
 ghost use Rattle.dm_table.specs.Value.{HasRoomFor, IsTable};
-ghost use Rattle.dm_server.specs.Answers.{base_of, rows_after, AreTimesAfter, ShowsTime, CostsAfter, RefusesAfter, RefusesAdopt, IsTrueOf, adopts};
+ghost use Rattle.dm_server.specs.Answers.{base_of, AreTimesAfter, ShowsTime, CostsAfter, RefusesAfter, RefusesAdopt, IsTrueOf, adopts};
 ghost use Rattle.dm_server.specs.Inside.Holding.{Gains, Stays};
 
 use crate::kept::Kept;

@@ -1,7 +1,6 @@
 //! Plans of copied rows that are adopted.
 ghost use Rattle.std.specs.Prelude.{◌≡◌, false, IfSome};
 ghost use Rattle.std.specs.Option.{ForSome};
-ghost use Rattle.dm_rows.specs.Rows.{IsSized};
 ghost use Rattle.dm_server.specs.Answers.{IsTrueOf};
 ghost use Rattle.dm_server_cases.specs.Passes.{IsOver, IsSame};
 

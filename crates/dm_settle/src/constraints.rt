@@ -93,7 +93,7 @@ impl Constraints {
     }
 
     /// Holds the activity at a place, or lets it go.
-    pub fn hold(&mut self, a: usize, held: bool)
+    pub fn set_held(&mut self, a: usize, held: bool)
         requires { a < length self.old.held }
         ensures { self.new ≡ record self.old { held = slice_set self.old.held a held } }
     {

@@ -58,7 +58,7 @@ abbrev pub IsJudged : List (List ℕ) → List ℕ → Result (Vec ℕ Global) S
 IsJudged contents end (Ok bytes) = refusal contents end ≡ None
 IsJudged contents end (Err error) = IsRefusal contents end error
 
--- nothing of a journal that is refused was changed
+-- nothing was changed of a journal that is refused, or could not be read
 pub record Untouched {S : Type 0} (seen : S → List ℕ) (may_leave : S → Image → Type 0) (old new : S) : Type 0 where
   pub same : seen new ≡ seen old
   pub none : AddsNone (may_leave old) (may_leave new)

@@ -1,5 +1,5 @@
 //! A store in memory, which fails and tears as it is told.
-ghost use Rattle.std.specs.Prelude.{◌≡◌, ◌+◌, ◌<◌, ◌≤◌, ◌++◌, ℕ, List, [], ◌∷◌, length, map, min, IfOk, OnOk, slice_set, slice_index_or, false};
+ghost use Rattle.std.specs.Prelude.{◌≡◌, ◌+◌, ◌<◌, ◌≤◌, ◌++◌, ℕ, List, [], length, map, min, IfOk, OnOk, slice_set, slice_index_or, false};
 ghost use Rattle.dm_outside.specs.Faults.{HasRisen};
 ghost use Rattle.dm_store.specs.Calls.{LeavesJournal, HasCause, Torn, Cut, written, shown_behind};
 ghost use Rattle.dm_store.specs.Memory.{step_of, image_of, shown_then, shown_after};

@@ -51,7 +51,8 @@ pub trait Store {
         ensures cut { tells self.old → len ≤ length (seen self.old) → OnOk result (seen self.new ≡ take len (seen self.old)) }
         ensures crash { tells self.old → len ≤ length (seen self.old)
             → Follows (OnJournal (Cut len)) (may_leave self.old) (may_leave self.new) }
-        ensures goes { tells self.old → len ≤ length (seen self.old) → Goes tells shown moment left_since may_leave self.old self.new }
+        ensures goes { tells self.old → len ≤ length (seen self.old)
+            → Goes tells shown moment left_since may_leave self.old self.new }
         ensures cause { HasCause (faults self.old) (faults self.new) result };
 
     /// After it a crash leaves of the journal what a read returns.

@@ -1,5 +1,5 @@
 //! One message that is entered, or refused.
-ghost use Rattle.std.specs.Prelude.{◌≡◌, ◌≤◌, [], All, fold, length, Some, OnOk, OnErr, IfErr, vec_capacity};
+ghost use Rattle.std.specs.Prelude.{◌≡◌, ◌≤◌, [], All, fold, length, OnOk, OnErr, IfErr, vec_capacity};
 ghost use Rattle.dm_base.specs.declared.limits.TheConstants.{ENTRIES as MOST};
 ghost use Rattle.dm_propagate.specs.Engine.{IsEngineOf, times_of};
 ghost use Rattle.dm_propagate.specs.Moved.{TakesInMoved};

@@ -1,5 +1,5 @@
 //! Why rows were refused.
-ghost use Rattle.std.specs.Prelude.{ℕ, ◌≡◌, ◌<◌, ◌≤◌, OnOk, OnErr, IfErr, IsOk, length, slice_index};
+ghost use Rattle.std.specs.Prelude.{ℕ, ◌<◌, ◌≤◌, OnOk, OnErr, IfErr, IsOk, length, slice_index};
 ghost use Rattle.dm_base.specs.declared.limits.TheConstants.{ENTRIES as MOST};
 ghost use Rattle.dm_rows.specs.Rows.{RowsValue};
 ghost use Rattle.dm_rows.specs.declared.messages.Message.{Message as MessageValue};

@@ -3,7 +3,6 @@ ghost use Rattle.std.specs.Prelude.{◌≡◌, ◌+◌, ◌-◌, ◌^◌, ◌<�
 ghost use Rattle.dm_base.specs.declared.limits.TheConstants.{PENALTY, ENTRIES};
 ghost use Rattle.dm_marks.specs.Moved.{ListsMoved};
 ghost use Rattle.dm_rows.specs.Rows.{IsSized};
-ghost use Rattle.dm_rows.specs.Active.{HasNoCycle};
 ghost use Rattle.dm_rows.specs.Cost.{cost_of};
 ghost use Rattle.dm_rows.specs.History.{rows_at};
 ghost use Rattle.dm_rows.specs.Refuse.{Refuses, RefusesNothing};

@@ -1,8 +1,5 @@
 //! A table as a desk.
 
-ghost use Rattle.std.specs.Prelude.{◌≡◌, IfOk};
-ghost use Rattle.dm_desk.specs.Desks.{Posts, TellsTime, TellsCost, TellsLength, IsCopied, IsTrueOf, AdoptsPlan};
-
 use crate::entering::{adopt, enter};
 use dm_base::{Cost, EventId, Secs};
 use dm_desk::Desk;

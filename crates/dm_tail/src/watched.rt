@@ -1,5 +1,5 @@
 //! A feed that grows, with its log.
-ghost use Rattle.std.specs.Prelude.{◌≡◌, ◌<◌, length, OnOk, IsTrue, ◌↔◌};
+ghost use Rattle.std.specs.Prelude.{◌<◌, length, OnOk, IsTrue, ◌↔◌};
 ghost use Rattle.dm_desk.specs.Answered.{HasSeenLegal, AreTrueOf};
 ghost use Rattle.dm_desk.specs.Planning.{PlansUnder};
 

@@ -1,10 +1,10 @@
 //! Words and numbers in front of a line.
-ghost use Rattle.std.specs.Prelude.{◌≡◌, ◌^◌, ◌<◌, ◌≤◌, ℕ, ◌+◌, ◌*◌, ◌-◌, length, All, SomeIff, IfSome};
+ghost use Rattle.std.specs.Prelude.{◌≡◌, ◌^◌, ◌<◌, ◌≤◌, ℕ, ◌+◌, ◌*◌, ◌-◌, All, SomeIff, IfSome};
 ghost use Rattle.std.specs.Option.{option_map};
 ghost use Rattle.std.specs.List.{prefix_len};
 ghost use Rattle.std.specs.Char.{is_ascii_digit, IsAsciiDigit};
 ghost use Rattle.dm_base.specs.Numbers.{whole_value};
-ghost use Rattle.dm_text.specs.Inside.Parts.{behind, number_in_front, is_plain, plain_value};
+ghost use Rattle.dm_text.specs.Inside.Parts.{behind, number_in_front, is_plain};
 
 use dm_base::{FEW, few_digits};
 

@@ -42,7 +42,7 @@ fn set_activities<H: Holding>(
     ensures { ActivitiesTo net.now rows.now (H.held holding.now) (length net.now.activities) constraints.old constraints.new }
 {
     for a in 0..net.activities() {
-        constraints.hold(a, holding.is_held(a));
+        constraints.set_held(a, holding.is_held(a));
         constraints.set_span(a, span_of(net, rows, a));
     }
 }

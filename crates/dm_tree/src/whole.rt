@@ -1,5 +1,5 @@
 //! Whole trees.
-ghost use Rattle.std.specs.Prelude.{◌≡◌, ◌+◌, ◌<◌, length, IfOk, IfErr, MatchOption, false, true, Ok, Err};
+ghost use Rattle.std.specs.Prelude.{◌≡◌, ◌+◌, ◌<◌, length, IfOk, MatchOption, false, true, Ok, Err};
 ghost use Rattle.dm_tree.specs.Trees.{IsTree, IsTreeBetween, IsSecondChild, HasNoChoiceAt, IsChildTowards, LiesNotBelow};
 ghost use Rattle.dm_tree.specs.Inside.Filling.{fills, AreEndsFrom, IsSideOf};
 

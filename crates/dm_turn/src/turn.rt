@@ -1,5 +1,5 @@
 //! The turn, its passes, and what a holder has.
-ghost use Rattle.std.specs.Prelude.{◌≡◌, ℕ, ◌+◌, ◌-◌, ◌^◌, ◌<◌, ◌≤◌, true, false, [], ◌∷◌, ◌++◌, length, Some, IfOk};
+ghost use Rattle.std.specs.Prelude.{◌≡◌, ◌+◌, ◌-◌, ◌^◌, ◌<◌, ◌≤◌, true, false, [], ◌∷◌, ◌++◌, length, Some, IfOk};
 ghost use mathlib.Core.List.{IsPrefix};
 ghost use Rattle.dm_rows.specs.declared.messages.Entry.{Entry as AnEntry};
 ghost use Rattle.dm_turn.specs.Passes.{numbered, longer, AreEntriesOf, AreAllAbove};

@@ -1,5 +1,5 @@
 //! Many seats that add at once.
-ghost use Rattle.std.specs.Prelude.{◌≡◌, ℕ, ◌+◌, ◌<◌, false, All, IfOk, vec_len};
+ghost use Rattle.std.specs.Prelude.{◌≡◌, ◌+◌, ◌<◌, false, All, IfOk, vec_len};
 
 use crate::jobs::{Job, work_all};
 use crate::log::Log;

@@ -1,5 +1,5 @@
 //! A state that is handed out: entries over a name that never changes.
-ghost use Rattle.std.specs.Prelude.{◌≡◌, ◌<◌, ◌≤◌, [], ◌∷◌, ◌++◌, length, vec_len, IfOk, OnErr};
+ghost use Rattle.std.specs.Prelude.{◌≡◌, ◌<◌, ◌≤◌, [], ◌∷◌, ◌++◌, vec_len, IfOk, OnErr};
 ghost use Rattle.dm_turn_cases.specs.declared.log.TheConstants.{MOST};
 
 use dm_base::EventId;

@@ -1,5 +1,5 @@
 //! What stands outside a window.
-ghost use Rattle.std.specs.Prelude.{◌≡◌, ◌<◌, ◌++◌, [], length, IfOk};
+ghost use Rattle.std.specs.Prelude.{◌≡◌, ◌<◌, ◌++◌, length, IfOk};
 ghost use Rattle.dm_rows.specs.Rows.{IsSized};
 ghost use Rattle.dm_window.specs.Windows.{is_held, is_within, is_change_within, is_pair_within, window_base};
 ghost use Rattle.dm_window.specs.Inside.Standing.{standing_change, standing_pair, standing_changes, standing_pairs};

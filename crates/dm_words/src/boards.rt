@@ -1,5 +1,5 @@
 //! The stops of the boards of a run.
-ghost use Rattle.std.specs.Prelude.{ℕ, ◌≡◌, ◌≤◌, List, [], map, string_bytes, vec_len, IfOk};
+ghost use Rattle.std.specs.Prelude.{◌≤◌, map, string_bytes, vec_len, IfOk};
 ghost use Rattle.dm_base.specs.declared.limits.TheConstants.{BOARDS};
 ghost use Rattle.dm_words.specs.Words.{AreStopsOf};
 

@@ -1,7 +1,7 @@
 //! What the words of a command line ask for.
-ghost use Rattle.std.specs.Prelude.{ℕ, ◌≡◌, ◌∷◌, List, map, filter, string_bytes, MatchOption};
+ghost use Rattle.std.specs.Prelude.{ℕ, ◌∷◌, List, map, string_bytes, MatchOption};
 ghost use Rattle.dm_words.specs.Words.{Asks, AsksCheck, AsksGen, AsksNothing, AsksRun, CheckAsked, GenAsked, IsBatch, HasBoards, QueryAsked, QueryOf, RunAsked};
-ghost use Rattle.dm_words.specs.Asked.{check_of, command_of, gen_of, query_of, run_of};
+ghost use Rattle.dm_words.specs.Asked.{check_of, command_of, gen_of, run_of};
 
 use crate::files::{FileWords, number_of, number_or, penalty_of, read_files};
 use crate::ids::{Ids, ids_of};

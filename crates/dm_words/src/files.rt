@@ -1,5 +1,5 @@
 //! The words of the files of a folder.
-ghost use Rattle.std.specs.Prelude.{ℕ, ◌≡◌, ◌≤◌, Option, List, Some, None, Ok, map, string_bytes, MatchOption, unwrap_or};
+ghost use Rattle.std.specs.Prelude.{ℕ, ◌≡◌, Option, Some, None, Ok, map, string_bytes, MatchOption, unwrap_or};
 ghost use Rattle.std.specs.Option.{option_map};
 ghost use Rattle.dm_lintim.specs.Columns.{FileColumns, ReadsFileColumns};
 ghost use Rattle.dm_words.specs.Values.{IsNumber, IsNumberOr};

@@ -1,8 +1,7 @@
 //! Lists of different ids.
-ghost use Rattle.std.specs.Prelude.{ℕ, ◌≡◌, ◌≤◌, List, [], Option, length, nat_le, option_map, IfOk, MatchOption};
+ghost use Rattle.std.specs.Prelude.{ℕ, ◌≡◌, List, [], Option, length, nat_le, option_map, IfOk, MatchOption};
 ghost use Rattle.std.specs.List.{list_any};
 ghost use Rattle.std.specs.Prelude.{◌==◌};
-ghost use Rattle.dm_base.specs.Numbers.{whole_value};
 ghost use Rattle.dm_lintim.specs.Pieces.{is_comma, pieces, pieces_left};
 ghost use Rattle.dm_words.specs.Ids.{AreIds, AreIdsOrNone, IsId, Spell, are_different};
 ghost use Rattle.dm_words.specs.Inside.Pieces.{AreAllIds, BeginsWithId, numbers_left};

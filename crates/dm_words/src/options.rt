@@ -1,5 +1,5 @@
 //! Words that are names, and words that are options.
-ghost use Rattle.std.specs.Prelude.{◌≡◌, ◌≤◌, ◌∷◌, [], ◌||◌, ℕ, Option, List, Some, None, map, filter, length, string_bytes, MatchOption};
+ghost use Rattle.std.specs.Prelude.{◌≡◌, ◌∷◌, [], ◌||◌, ℕ, Option, List, Some, None, map, filter, length, string_bytes, MatchOption};
 ghost use Rattle.std.specs.Option.{option_map};
 ghost use Rattle.std.specs.List.{list_all};
 ghost use Rattle.dm_words.specs.Asked.{names_in};

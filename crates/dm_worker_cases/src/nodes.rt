@@ -1,6 +1,5 @@
 //! Nodes of a search whose workers share the least cost that they have found, expanded with an evaluator and without.
-ghost use Rattle.std.specs.Prelude.{◌≡◌, IsTrue, Contains};
-ghost use Rattle.dm_rows.specs.Decide.{choice_of};
+ghost use Rattle.std.specs.Prelude.{◌≡◌};
 ghost use Rattle.dm_rows.specs.Rows.{IsSized};
 
 use crate::late::late_rows;

@@ -1,5 +1,5 @@
 //! Plans that a given number of workers search.
-ghost use Rattle.std.specs.Prelude.{◌≤◌, IfOk};
+ghost use Rattle.std.specs.Prelude.{◌≤◌};
 ghost use Rattle.dm_base.specs.declared.limits.TheConstants.{BUDGET, WORKERS};
 ghost use Rattle.dm_rows.specs.Rows.{IsSized};
 

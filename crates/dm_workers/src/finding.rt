@@ -16,7 +16,7 @@ use crate::pace::Pace;
 use crate::working::{Best, Path, Team, Worker};
 use dm_base::Cost;
 use dm_deques::{Grown, Owner};
-use dm_desk::Hold;
+use dm_desk::HoldPoint;
 use dm_evaluate::Evaluator;
 use dm_guide::Guide;
 use dm_search::{BoundWord, Hand, Task};
@@ -49,7 +49,7 @@ pub struct Found<F: Grown<Path>> {
 /// begin with the root, with what the rows cost by themselves, and with choices that are kept. Each node that was put on a deque was
 /// taken, once, and each owner finds its deque empty in the end. No leaf's path is a front of another's. The choices cost no more than
 /// those that they began with, and than each bound that is handed in.
-pub fn find<F: Grown<Path> + Send + Sync, R: Threads + Wait + Sync, H: Hold + Sync>(
+pub fn find<F: Grown<Path> + Send + Sync, R: Threads + Wait + Sync, H: HoldPoint + Sync>(
     rt: &R,
     task: &Task<'_>,
     guide: &Guide,
@@ -99,7 +99,7 @@ pub fn find<F: Grown<Path> + Send + Sync, R: Threads + Wait + Sync, H: Hold + Sy
 }
 
 /// All workers do their work at once, each in a thread of its own where one can be made.
-fn work_all<F: Grown<Path> + Send + Sync, R: Threads + Wait + Sync, H: Hold + Sync>(
+fn work_all<F: Grown<Path> + Send + Sync, R: Threads + Wait + Sync, H: HoldPoint + Sync>(
     rt: &R,
     team: &Team<'_, '_, F>,
     crew: Vec<Worker<F>>,

@@ -1,6 +1,5 @@
 //! What the workers hand in, put together.
 ghost use Rattle.std.specs.Prelude.{ℕ, ◌≡◌, ◌+◌, ◌<◌, ◌≤◌, ◌⊎◌, Bool, List, [], ◌∷◌, ◌++◌, length, map, All, IfOk, IfSome, None, OnOk};
-ghost use Rattle.atomic_table.specs.Seated.{TableId};
 ghost use Rattle.atomic_blocks.specs.Lent.{RowsId};
 ghost use Rattle.dm_deques.specs.Sharing.{deque_of};
 ghost use Rattle.dm_search.specs.Moving.{IsOver};
@@ -40,8 +39,8 @@ impl<F: Grown<Path>> Gathered<F> {
         ensures word { IfOk result (λ g. g.hand.word ≡ word.now.id) }
         ensures owners { IfOk result (λ g. g.owners.items ≡ self.owners.items ++ worker.owner ∷ []) }
         ensures tallies { IfOk result (λ g. g.tallies.items ≡ self.tallies.items ++ worker.tallies.items ∷ []) }
-        ensures evaluator { IfOk result (λ g. (task : Task) → IfSome self.evaluator (IsOver task) → IfSome worker.evaluator (IsOver task)
-            → IfSome g.evaluator (IsOver task)) }
+        ensures evaluator { IfOk result (λ g. (task : Task) → IfSome self.evaluator (IsOver task)
+            → IfSome worker.evaluator (IsOver task) → IfSome g.evaluator (IsOver task)) }
         ensures gathered { IfOk result (λ g. (task : GuidedTask) (own start rooms : ℕ) (given more : List Bool → ℕ)
             → IsGathered task own word.now.id start rooms given self
             → IsWorking task own word.now.id start more nothing worker
@@ -83,8 +82,8 @@ impl<F: Grown<Path>> Gathered<F> {
 
 /// What is gathered before any worker's, with a hand and choices that are kept.
 pub(crate) fn nothing_gathered<F: Grown<Path>>(alloc: Global, best: Best, hand: Hand) -> Gathered<F>
-    ensures nothing { (result.owners.items ≡ []) × (result.tallies.items ≡ []) × (result.hand ≡ hand) × (result.leaves.items ≡ [])
-        × (result.best.choices ≡ best.choices) × (result.best.cost ≡ best.cost) }
+    ensures nothing { (result.owners.items ≡ []) × (result.tallies.items ≡ []) × (result.hand ≡ hand)
+        × (result.leaves.items ≡ []) × (result.best.choices ≡ best.choices) × (result.best.cost ≡ best.cost) }
     ensures evaluator { result.evaluator ≡ None }
 {
     Gathered {

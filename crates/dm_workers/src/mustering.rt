@@ -1,5 +1,5 @@
 //! The workers of a search, before it begins.
-ghost use Rattle.std.specs.Prelude.{ℕ, ◌≡◌, ◌-◌, ◌<◌, ◌≤◌, Bool, List, [], ◌∷◌, map, All, length, IfOk, OnOk};
+ghost use Rattle.std.specs.Prelude.{◌≡◌, ◌-◌, ◌<◌, ◌≤◌, Bool, List, [], ◌∷◌, map, All, length, IfOk, OnOk};
 ghost use Rattle.dm_deques.specs.Sharing.{deque_of, new_tally};
 ghost use Rattle.dm_workers.specs.Inside.Gathering.{owners_put, HasTakenNothing, HasLentOnly, AreEquipped};
 ghost use Rattle.dm_search.specs.Moving.{IsOver};

@@ -17,7 +17,7 @@ use crate::rounds::{begin, judge_and_guide};
 use crate::working::{Best, Path, lend, made};
 use dm_base::{Cost, Items};
 use dm_deques::Grown;
-use dm_desk::Hold;
+use dm_desk::HoldPoint;
 use dm_evaluate::Evaluator;
 use dm_guide::Guide;
 use dm_network::Network;
@@ -32,7 +32,7 @@ use std::thread::Threads;
 /// A true plan for the rows of a snapshot, which have no cycle, with the snapshot's entry and a tree of at most `budget` nodes,
 /// of which there are 1 to 16,384, searched by 1 to 16 workers in threads of their own. The penalty is in seconds for each
 /// passenger, at most 1,000,000.
-pub fn search<R: Threads + Wait + Sync, H: Hold + Sync>(
+pub fn search<R: Threads + Wait + Sync, H: HoldPoint + Sync>(
     rt: &R,
     alloc: Global,
     net: &Network,
@@ -57,7 +57,7 @@ pub fn search<R: Threads + Wait + Sync, H: Hold + Sync>(
 
 /// The same for a task, with an entry: the guide's choices and its tree, the workers' part of that tree, and a search that goes on from
 /// there. The plan costs no more than the guide's choices and than those of any worker.
-pub fn search_task<R: Threads + Wait + Sync, H: Hold + Sync>(
+pub fn search_task<R: Threads + Wait + Sync, H: HoldPoint + Sync>(
     rt: &R,
     task: &Task<'_>,
     entry: u32,
@@ -105,7 +105,7 @@ fn begin_with(
 }
 
 /// What the workers find, and the plan of it.
-fn go_on<F: Grown<Path> + Send + Sync, R: Threads + Wait + Sync, H: Hold + Sync>(
+fn go_on<F: Grown<Path> + Send + Sync, R: Threads + Wait + Sync, H: HoldPoint + Sync>(
     rt: &R,
     task: &Task<'_>,
     entry: u32,

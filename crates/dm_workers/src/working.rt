@@ -19,7 +19,7 @@ use crate::hints::{branching, is_hinted};
 use crate::pace::Pace;
 use dm_base::{Cost, Items};
 use dm_deques::{Grown, Owner, Tally, Thief};
-use dm_desk::Hold;
+use dm_desk::HoldPoint;
 use dm_evaluate::Evaluator;
 use dm_guide::Guide;
 use dm_rows::{Choice, Decision};
@@ -216,7 +216,7 @@ impl<F: Grown<Path>> Worker<F> {
 
     /// Works until no node is left, or until some worker wants memory. What is taken and not expanded is left to the search that
     /// follows.
-    fn work_on<R: Wait, H: Hold>(
+    fn work_on<R: Wait, H: HoldPoint>(
         self,
         rt: &R,
         team: &Team<'_, '_, F>,
@@ -243,7 +243,7 @@ impl<F: Grown<Path>> Worker<F> {
     }
 
     /// Takes nodes until none is left.
-    fn take_all<R: Wait, H: Hold>(
+    fn take_all<R: Wait, H: HoldPoint>(
         &mut self,
         rt: &R,
         team: &Team<'_, '_, F>,
@@ -287,7 +287,7 @@ impl<F: Grown<Path>> Worker<F> {
     }
 
     /// Expands a node, or gives it up where no further one is expanded.
-    fn take_on<H: Hold>(
+    fn take_on<H: HoldPoint>(
         &mut self,
         team: &Team<'_, '_, F>,
         evaluator: &mut Evaluator,
@@ -310,7 +310,7 @@ impl<F: Grown<Path>> Worker<F> {
             team.pace.done();
             return Ok(());
         }
-        gate.hold(self.who, EXPANDS);
+        gate.hold_up(self.who, EXPANDS);
         self.expand(team, evaluator, path)
     }
 }
@@ -340,7 +340,7 @@ pub(crate) fn made(task: &Task<'_>, evaluator: Option<Evaluator>) -> Result<Eval
 
 impl<F: Grown<Path>> Worker<F> {
     /// Does the worker's part of a search. Where it wants memory the others stop too.
-    pub(crate) fn work<R: Wait, H: Hold>(
+    pub(crate) fn work<R: Wait, H: HoldPoint>(
         self,
         rt: &R,
         team: &Team<'_, '_, F>,
@@ -354,16 +354,16 @@ impl<F: Grown<Path>> Worker<F> {
         ensures { IfOk result (IsDoneIn team.now self) }
     {
         let who = self.who;
-        gate.hold(who, STARTS);
+        gate.hold_up(who, STARTS);
         let worked = self.work_from_root(rt, team, gate);
         if worked.is_err() {
             team.pace.stop();
         }
-        gate.hold(who, ENDS);
+        gate.hold_up(who, ENDS);
         worked
     }
 
-    fn work_from_root<R: Wait, H: Hold>(
+    fn work_from_root<R: Wait, H: HoldPoint>(
         self,
         rt: &R,
         team: &Team<'_, '_, F>,

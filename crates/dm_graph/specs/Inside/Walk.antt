@@ -1,6 +1,6 @@
 -- The walk that searches for an order: the events that are placed, those on the path, and how far each row is looked through.
 use Rattle.std.specs.Prelude.{◌≡◌, ℕ, ◌+◌, ◌-◌, ◌*◌, ◌<◌, ◌≤◌, ◌⊎◌, ◌==◌, false, IsTrue, List, length, slice_index, slice_index_or, slice_set, take, replicate, sum, count_by}
-use Rattle.dm_graph.specs.Arrays.{InRow, AreRows, AreEnds}
+use Rattle.dm_graph.specs.Arrays.{InRow, AreArcRows, AreEnds}
 use Rattle.dm_graph.specs.declared.walk.Walk.{Walk}
 use Rattle.dm_graph.specs.declared.walk.ArcsByHead.{ArcsByHead}
 use Rattle.dm_graph.specs.declared.walk.Look.{Look}
@@ -52,7 +52,7 @@ pub record AreLooks (by_head : ArcsByHead) (n : ℕ) (order rank next : List ℕ
 
 -- what holds of the walk between its steps
 pub record IsWalk (by_head : ArcsByHead) (walk : Walk) : Type 0 where
-  pub rows : AreRows (length walk.order.items) (length by_head.tails.now) by_head.offsets.now by_head.places.now
+  pub rows : AreArcRows (length walk.order.items) (length by_head.tails.now) by_head.offsets.now by_head.places.now
   pub ends : AreEnds (length walk.order.items) (length by_head.tails.now) by_head.tails.now by_head.held.now
   pub marks : AreMarks (length walk.order.items) walk.order.items walk.rank.items walk.placed walk.top
   pub looks : AreLooks by_head (length walk.order.items) walk.order.items walk.rank.items walk.next.items walk.placed walk.top
@@ -105,7 +105,7 @@ pub record Places (old : Walk) (e : ℕ) (new : Walk) : Type 0 where
   pub rank : new.rank.items ≡ slice_set old.rank.items e old.placed
   pub next : new.next.items ≡ old.next.items
 
--- the next arc into an event is passed over
+-- the next arc into an event is skipped
 pub record SkipsArc (old : Walk) (e : ℕ) (new : Walk) : Type 0 where
   pub top : new.top ≡ old.top
   pub placed : new.placed ≡ old.placed

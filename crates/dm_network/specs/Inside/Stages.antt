@@ -14,7 +14,7 @@ use Rattle.dm_network.specs.declared.arrays.Standing.{Standing}
 use Rattle.dm_network.specs.Net.{Net, no_event, no_activity, no_pair, pair_at, is_headway, places_into, places_out_of}
 use Rattle.dm_network.specs.declared.arrays.Arrays.{Arrays}
 use Rattle.dm_network.specs.Start.{IsStartCycle, ShowsStartCycle}
-use Rattle.dm_network.specs.Inside.Flat.{AreByStop, AreFlatRows}
+use Rattle.dm_network.specs.Inside.Flat.{AreByStop, IsAdjacency}
 use Rattle.dm_network.specs.Pairs.{joins, ComesBefore}
 use Rattle.dm_network.specs.Build.{event_row, activity_row, event_ids, activity_ids, NamesNoEvent, IsFirst, HoldsOfNone, NoneStandsTwice, IsLeastDouble, IsZeroHeadway}
 
@@ -140,8 +140,8 @@ net_with events activities pairs = record { events = events; activities = activi
 
 -- what stands beside a network
 pub record StandBeside (net : Net) (arrays : Arrays) : Type 0 where
-  pub rows_in : AreFlatRows (places_into net) (length net.events) arrays.incoming.offsets.items arrays.incoming.places.items
-  pub rows_out : AreFlatRows (places_out_of net) (length net.events) arrays.outgoing.offsets.items arrays.outgoing.places.items
+  pub rows_in : IsAdjacency (places_into net) (length net.events) arrays.incoming.offsets.items arrays.incoming.places.items
+  pub rows_out : IsAdjacency (places_out_of net) (length net.events) arrays.outgoing.offsets.items arrays.outgoing.places.items
   pub tails_are : arrays.tails.items ≡ map (λ a. a.tail) net.activities
   pub at_stops : AreByStop net arrays.by_stop.stops.items arrays.by_stop.places.items
 

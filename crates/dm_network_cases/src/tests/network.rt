@@ -1,6 +1,5 @@
 //! Networks from records: the connection at one station, its faults, and a long line.
-ghost use Rattle.std.specs.Prelude.{◌≡◌, ◌<◌, ◌≤◌, length, IsTrue, All};
-ghost use Rattle.dm_network.specs.Build.{AreWithinLimits};
+ghost use Rattle.std.specs.Prelude.{◌≡◌, ◌<◌, length, IsTrue};
 ghost use Rattle.dm_network_cases.specs.Records.{AreSmallEvents, AreSmallActivities};
 
 use dm_base::limits::{BOUND, TIME, WEIGHT};

@@ -1,7 +1,7 @@
 //! Relaxed problems where two trains meet and the first is a minute late.
-ghost use Rattle.std.specs.Prelude.{◌≡◌, [], ◌∷◌, IfOk, Contains};
+ghost use Rattle.std.specs.Prelude.{[], IfOk};
 ghost use Rattle.dm_rows.specs.Rows.{IsSized};
-ghost use Rattle.dm_rows.specs.Decide.{IsChoiceList, choice_of, free_choices_of};
+ghost use Rattle.dm_rows.specs.Decide.{IsChoiceList};
 
 use dm_base::{ActId, EventId};
 use dm_network::Network;

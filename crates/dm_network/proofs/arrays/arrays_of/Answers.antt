@@ -3,13 +3,13 @@ use Rattle.dm_network.specs.Net.{no_activity}
 use Rattle.dm_network.proofs.Arraying.{rows_of_mapped, mapped_ends_known}
 use Rattle.dm_network.proofs.arrays.arrays_of.Goals as goal
 
-pub rows_by-requires-clause-known : goal.rows_by-requires-clause-known
-rows_by-requires-clause-known c =
+pub adjacency_by-requires-clause-known : goal.adjacency_by-requires-clause-known
+adjacency_by-requires-clause-known c =
     mapped_ends_known (λ a. a.head) (length c.args.events.now) c.args.activities.now c.deref.result.now refl
     (c.deref.ensures.value ∙ c.in_ok-heads.ensures) (λ a lt. (c.requires.ends a no_activity lt).head)
 
-pub rows_by-requires-2-clause-known : goal.rows_by-requires-2-clause-known
-rows_by-requires-2-clause-known c =
+pub adjacency_by-requires-2-clause-known : goal.adjacency_by-requires-2-clause-known
+adjacency_by-requires-2-clause-known c =
     mapped_ends_known (λ a. a.tail) (length c.args.events.now) c.args.activities.now c.deref-2.result.now refl
     (c.deref-2.ensures.value ∙ c.in_ok-tails.ensures) (λ a lt. (c.requires.ends a no_activity lt).tail)
 

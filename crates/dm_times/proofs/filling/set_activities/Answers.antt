@@ -12,6 +12,6 @@ loop-a-preserved g c =
     let within : c.loop-a.a < length c.args.constraints.now.spans =
     omega (arith, c.loop-a-test.true, c.activities-a-end.ensures.count, c.requires.spans) in
     subst (ActivitiesTo c.args.net.now c.args.rows.now held (c.loop-a.a + 1) c.args.constraints.now)
-    (sym (c.set_span.ensures ∙ ap (λ (k : ConstraintsValue). record k { spans = set k.spans c.loop-a.a c.span_of.result }) c.hold.ensures))
+    (sym (c.set_span.ensures ∙ ap (λ (k : ConstraintsValue). record k { spans = set k.spans c.loop-a.a c.span_of.result }) c.set_held.ensures))
     (activities_next c.args.net.now c.args.rows.now held c.loop-a.a c.args.constraints.now c.loop-a.constraints c.is_held.result c.span_of.result below within
     c.is_held.ensures c.span_of.ensures.value c.loop-a.invariant)

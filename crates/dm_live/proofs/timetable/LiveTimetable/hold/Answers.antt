@@ -19,15 +19,15 @@ returns-in-Ok-clause-live c =
     c.is_fixed-fixed.result
     (c.is_fixed-fixed.ensures ∙ ap (λ (v : Activity). is_fixed c.args.self.now.fixed v.tail) c.activity.ensures
     ∙ ap (λ (v : LiveValue). is_fixed v.fixed (activity_at c.args.net.now c.args.a).tail) (sym c.self.view_is))
-    c.add_unless_fixed.new.order c.hold.new.self c.mark.new.self c.add_unless_fixed.ensures.ordered c.in-Ok.ensures.held c.hold.ensures
+    c.add_unless_fixed.new.order c.set_held.new.self c.mark.new.self c.add_unless_fixed.ensures.ordered c.in-Ok.ensures.held c.set_held.ensures
     (c.mark.ensures ∙ ap (λ (v : Activity). slice_set c.self.inside.marks v.head true) c.activity-in-Ok.ensures)
 
 pub returns-in-Ok-clause-no_cycle : goal.returns-in-Ok-clause-no_cycle
 returns-in-Ok-clause-no_cycle c =
     subst (λ (v : LiveValue). HasNoCycleOf c.args.net.now (is_held (slice_set v.given.held c.args.a true))) c.self.view_is
-    (subst (λ (g : ConstraintsValue). HasNoCycleOf c.args.net.now (is_held g.held)) c.hold.ensures
+    (subst (λ (g : ConstraintsValue). HasNoCycleOf c.args.net.now (is_held g.held)) c.set_held.ensures
     (live_has_no_cycle c.args.net.now
-    (record { given = c.hold.new.self; order = c.add_unless_fixed.new.order; times = c.self.inside.times; marks = c.mark.new.self; fixed = c.self.inside.fixed.items })
+    (record { given = c.set_held.new.self; order = c.add_unless_fixed.new.order; times = c.self.inside.times; marks = c.mark.new.self; fixed = c.self.inside.fixed.items })
     (returns-in-Ok-clause-live c)))
 
 pub returns-in-Err-clause-cycle : goal.returns-in-Err-clause-cycle

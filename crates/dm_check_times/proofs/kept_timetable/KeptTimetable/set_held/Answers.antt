@@ -1,7 +1,7 @@
 use Rattle.std.proofs.Common.{ℕ, ap, ◌∙◌, arith}
 use Rattle.std.specs.Prelude.{slice_set}
 use Rattle.std.proofs.lemmas.List.{set-get_or}
-use Rattle.dm_check_times.proofs.kept_timetable.KeptTimetable.hold.Goals as goal
+use Rattle.dm_check_times.proofs.kept_timetable.KeptTimetable.set_held.Goals as goal
 
 pub returns-clause-keeps : goal.returns-clause-keeps
 returns-clause-keeps c = record {
