@@ -1,7 +1,8 @@
-"""Runs a command of tools/ or of bench/ by its name: python3 -m tools COMMAND [WORD ..], at the top of the repository
+"""Runs a command of tools/ or of bench/ by its name: python3 -m tools COMMAND [WORD ..]
 
-Without a command it lists all, each with the first line of its page; `python3 -m tools COMMAND --help` prints the whole page.
-A command is the script of that name, which may be called by its path as well.
+Run it at the top of the repository. Without a command it lists all of them, each with the first line of its help text. `python3
+-m tools COMMAND --help` prints the whole help text of one. A command is the script of that name. You can also call the script by
+its path.
 """
 from __future__ import annotations
 

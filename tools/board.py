@@ -1,11 +1,11 @@
 #!/usr/bin/env python3
-"""Says all times of a board in one line, each time that one has changed: tail -n +1 -f BOARD | board.py | mosquitto_pub -l -r ..
+"""Prints all times of a board in one line whenever one has changed: tail -n +1 -f BOARD | board.py | mosquitto_pub -l -r ..
 
-From standard input it reads lines `event; time`, as boards in files have them, and writes one line `event; time, event; time, ..` of
-all events so far, each with its last time. So a broker that retains the last line of a topic retains the whole board, and whoever
-has one line of it has lost nothing. Lines that come together are answered by one.
+It reads the lines `event; time` of a board from standard input. When a time has changed, it writes one line `event; time, event;
+time, ..` with the last time of every event so far. So a broker that retains the last line of a topic retains the whole board.
+Whoever has this one line has lost nothing. If several lines come together, it writes one line for all of them.
 
-A line of another form is skipped; the first few are told on standard error, and at the end how many there were.
+It skips lines of another form. Standard error shows the first few of these, and at the end how many there were.
 """
 from __future__ import annotations
 

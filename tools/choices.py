@@ -1,16 +1,20 @@
 #!/usr/bin/env python3
 """Prints the choices of a plan as lines of a feed, such as `drop 5` and `first 5 3`: choices.py TEXT [--feed=K]
 
-TEXT is the text of a run or what `dispatcher window` printed; `-` is standard input. Of a run the plan for the most entries is
-taken, the last one where several are for as many, of all feeds or of feed K. Of a window that lists which choices are left when
-others are given back, these are printed; of one that was carried over to the last entry, those that still differ from the rows
-there. The journal has such lines as a dispatcher's own.
+TEXT is the text of a run, or what `dispatcher window` printed. `-` is standard input. It prints
 
-Status 0 where there is a plan, 1 where there is none or it could not be carried over, 2 where the text is none of these.
+    of a run                     the choices of the plan for the most entries; of several such plans it takes the last one
+    of a window                  the choices of its plan
+    of a window with --minimal   the choices on its list, those that matter most
+    of a window with --at        of these only those that still differ from the rows after the last entry
+
+Append the lines to a feed. In the journal they are then a dispatcher's own lines.
+
+The status is 0 if there is a plan. It is 1 if there is none, or if it could not be carried over to the last entry. It is 2 if
+TEXT is neither of these texts, or cannot be read.
 """
 from __future__ import annotations
 
-import argparse
 import sys
 from typing import Iterator
 
@@ -18,7 +22,7 @@ from railway import MOST_ENTRIES, Decision, Plan
 from runtext import (
     DECISIONS, MOST_FEEDS, NUMBER, VALUE, Answer, Bad, Text, fits, read_form, read_journal, read_log, read_plan, read_plan_head,
 )
-from words import whole_between
+from words import command_line, whole_between
 
 
 class NoPlan(Exception):
@@ -112,9 +116,9 @@ def bytes_of(name: str) -> bytes:
 
 
 def main() -> None:
-    words = argparse.ArgumentParser(description='Prints the choices of a plan as lines of a feed.', allow_abbrev=False)
-    words.add_argument('text', metavar='TEXT')
-    words.add_argument('--feed', type=whole_between(1, MOST_FEEDS), metavar='K', help='the plans of this feed alone')
+    words = command_line(__doc__, allow_abbrev=False)
+    words.add_argument('text', metavar='TEXT', help='the text of a run, or what `dispatcher window` printed; - is standard input')
+    words.add_argument('--feed', type=whole_between(1, MOST_FEEDS), metavar='K', help='only the plans of this feed of a run')
     given = words.parse_args()
     try:
         print(lines_of(choices_in(bytes_of(given.text), given.feed)), end='')

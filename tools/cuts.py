@@ -1,4 +1,4 @@
-"""Stations at which a railway falls into parts: where a network that is too large may be cut."""
+"""Finds the stations at which a railway falls into parts. There a network that is too large may be cut."""
 from __future__ import annotations
 
 from collections import Counter

@@ -1,9 +1,11 @@
-"""Decisions said one after the other, so that none of them closes a cycle on the way.
+"""Puts decisions in an order in which none of them closes a cycle on the way.
 
-A feed has a line for each decision, and a line that closes a cycle is refused, though all decisions together may close none. First
-come the changes that are dropped, then the pairs that are turned, then the changes that are kept. The pairs are turned as one order of
-all events, each at its place in a line, goes over into the other, all events at even speed: a pair is turned when its two events meet.
-What is held before and after is held all the while.
+A feed has a line for each decision. A line that closes a cycle is refused, even if the decisions close none once all are made. So
+the changes that are dropped come first, then the pairs that are turned, then the changes that are kept.
+
+The pairs are turned while one order of all events goes over into the other. Each event moves at even speed from its place in the
+one order to its place in the other. A pair is turned when its two events meet. If one event is before another one in both orders,
+it stays before it all the while.
 """
 from __future__ import annotations
 

@@ -1,7 +1,7 @@
-"""Days of source delays, drawn over any network: which messages are told, and when.
+"""Draws days of source delays over any network: which messages are reported, and when.
 
-A day is drawn from its seed and number alone. What is told of an event or an activity is told at the scheduled time of that event, or
-of the activity's tail; a blocked stretch is told when it is blocked.
+The network, the seed and the number of a day determine the day. A delay of an event is reported at the scheduled time of that
+event, and a delay of an activity at that of its tail. A blocked stretch is reported when it is blocked.
 """
 from __future__ import annotations
 

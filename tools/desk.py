@@ -1,18 +1,20 @@
 #!/usr/bin/env python3
 """Serves the dispatcher's desk, a page that is live: desk.py NET STORE FEED [--port=8080] [--token=FILE] [--program=DISPATCHER]
 
-NET is the folder of a network, STORE the folder in which a server (`dispatcher serve NET STORE FEED ..`) keeps its journal, FEED the
-desk's own feed among those of the server, the K-th where --feed=K says so. Open http://127.0.0.1:8080/ in a browser.
+NET is the folder of a network. STORE is the folder in which a server (`dispatcher serve NET STORE FEED ..`) keeps its day. FEED
+is the desk's own feed, one of those of the server: the first, or the K-th with --feed=K. Open http://127.0.0.1:8080/ in a
+browser.
 
-The page shows the day as the journal tells it: late trains, the diagram of a line, the board of a stop, alerts, the last entries.
-Whoever types the token of FILE may tell: each thing that is told is a line put behind FEED, and the server's answer comes beside it.
-Without --token the page only shows.
+The page shows the day of the journal: late trains, the diagram of a line, the board of a stop, alerts, the last entries. Whoever
+types the token of FILE may report and decide. Each report or decision is a line that the desk appends to FEED. The server's reply
+appears beside it. Without --token the page only shows.
 
-Times are worked out here at once, by a second reading of the rules, and compared with those of DISPATCHER (`follow`), which is right
-where they differ; the page says up to which entry they agree. What a plan would change, windows and waiting rules are DISPATCHER's.
+The desk first works out times itself, by a second reading of the rules. It then compares them with those of DISPATCHER
+(`follow`), which is right if they differ. The page says up to which entry the two agree. What a plan would change, windows and
+waiting rules always come from DISPATCHER.
 
-The page listens on the loopback address. For another, --listen=ADDRESS: then TLS belongs before it, and --host=NAME says by which name
-it is called there.
+The page listens on the loopback address. For another address give --listen=ADDRESS. Then put a proxy with TLS before it, and say
+with --host=NAME by which name the page is called there. docs/DESK.md describes the page.
 """
 from __future__ import annotations
 
@@ -41,18 +43,22 @@ TOP = os.path.dirname(os.path.dirname(os.path.abspath(__file__)))
 def arguments() -> argparse.ArgumentParser:
     words = command_line(__doc__, allow_abbrev=False)
     add_network(words)
-    words.add_argument('store', metavar='STORE', help='folder of the journal')
-    words.add_argument('own', metavar='FEED', help="the desk's own feed; it is made where it is not there")
-    words.add_argument('--feed', type=whole_between(1, 64), default=1, metavar='K', help='its number among the feeds of the server (1)')
-    words.add_argument('--feeds', default='', metavar='NAME,NAME,..', help='names of the feeds of the server, in their order')
-    words.add_argument('--port', type=whole_between(0, 65_535), default=8080, metavar='N', help='(8080)')
-    words.add_argument('--token', metavar='FILE', help='file of the token that lets tell; without it the page only shows')
-    words.add_argument('--program', metavar='DISPATCHER', help='the built program (DISPATCHER of the environment, or where it was built)')
-    words.add_argument('--listen', default='127.0.0.1', metavar='ADDRESS', help='(127.0.0.1)')
-    words.add_argument('--host', action='append', default=[], metavar='NAME', help='a name by which the page is called, as behind TLS')
-    for name, minutes, what in (('late', 5, 'a train is late'), ('waits', 3, 'a kept change is waited for'), ('silent', 5, 'a feed is silent')):
+    words.add_argument('store', metavar='STORE', help='folder in which the server keeps its day')
+    words.add_argument('own', metavar='FEED', help="the desk's own feed; created if it does not exist")
+    number = 'number of FEED among the feeds of the server, from 1 to 64 (1)'
+    words.add_argument('--feed', type=whole_between(1, 64), default=1, metavar='K', help=number)
+    words.add_argument('--feeds', default='', metavar='NAME,NAME,..', help='names of the feeds of the server, for the page')
+    words.add_argument('--port', type=whole_between(0, 65_535), default=8080, metavar='N', help='port, 0 for a free one (8080)')
+    words.add_argument('--token', metavar='FILE', help='file with the token; without it the page only shows')
+    program = 'the built program (DISPATCHER in the environment, else where it was built)'
+    words.add_argument('--program', metavar='DISPATCHER', help=program)
+    words.add_argument('--listen', default='127.0.0.1', metavar='ADDRESS', help='address of the page (127.0.0.1)')
+    called = 'a name by which the page is called, such as that of a proxy with TLS; may be given several times'
+    words.add_argument('--host', action='append', default=[], metavar='NAME', help=called)
+    alerts = ('late', 5, 'a train is late by'), ('waits', 3, 'a train waits for another'), ('silent', 5, 'a feed says nothing for')
+    for name, minutes, what in alerts:
         words.add_argument(f'--{name}', type=whole_between(1, 1_440), default=minutes, metavar='MINUTES',
-                           help=f'from when on {what} ({minutes})')
+                           help=f'an alert says that {what} so many minutes or more ({minutes})')
     add_delays(words)
     return words
 

@@ -1,14 +1,15 @@
 #!/usr/bin/env python3
 """Draws the time-distance diagram of a line (Bildfahrplan) as SVG: diagram.py NET TEXT [--line S1,S2,..] > day.svg
 
-NET is the folder of a network, TEXT the text of a run over it (`dispatcher run` prints it, and the penalty stands in it). Time runs
-across and the stops of the line stand below one another, as far apart as trains drive between them. Each train's scheduled path is
-thin; its path in the timetable after all entries is strong, and its colour says how late it is. Changes between trains are dotted
-links, kept, dropped or missed; pairs of trains whose order was turned, events that have passed and the clock are marked. A change
-to a train that runs elsewhere is a short stub. Names of stops come from NET/Stops.csv (`id;name`), names of trains from
-NET/Trains.csv (`first event;name`), where these files are there.
+NET is the folder of a network, and TEXT the text of a run over it, which `dispatcher run` prints. Time runs across. The stops of
+the line stand below one another, as far apart as trains drive between them.
 
-Without --line the line is the one whose stretches most trains run over; the other lines are told on standard error.
+A thin line is a train's schedule. A thick line is the train in the timetable after all entries, and its colour says how late it
+is. Dotted links are changes between trains: kept, dropped or missed. A short stub is a change to a train that runs elsewhere. The
+diagram also marks pairs whose order was turned, events that have passed, and the clock.
+
+Names of stops come from NET/Stops.csv (`id;name`), and names of trains from NET/Trains.csv (`first event;name`), if these files
+exist. Without --line the diagram shows the line over whose stretches most trains run. Standard error then names the other lines.
 """
 from __future__ import annotations
 
@@ -349,8 +350,8 @@ def arguments() -> argparse.ArgumentParser:
     words = command_line(__doc__)
     add_run(words)
     words.add_argument('--line', type=stops_of, metavar='S1,S2,..', help='ids of the stops of the line, in their order')
-    words.add_argument('--from', dest='begin', type=int, metavar='T', help='first time, in seconds')
-    words.add_argument('--to', dest='end', type=int, metavar='T', help='last time, in seconds')
+    words.add_argument('--from', dest='begin', type=int, metavar='T', help='first time of the picture, in seconds')
+    words.add_argument('--to', dest='end', type=int, metavar='T', help='last time of the picture, in seconds')
     return words
 
 

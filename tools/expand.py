@@ -1,7 +1,7 @@
-"""The event-activity network of trips: events of their trains, and the activities that the rules of a planner make of them.
+"""The event-activity network of trips: the events of their trains, and the activities that a planner's rules make of them.
 
-The timetable meets all bounds that are made here, and no activities make a circle that takes no time: so the network is one that
-the program loads, and without delays its times are those of the timetable.
+The timetable keeps all lower bounds that are made here, and no activities form a cycle that takes no time. So the program loads
+the network, and without delays its times are those of the timetable.
 """
 from __future__ import annotations
 

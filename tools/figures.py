@@ -1,18 +1,18 @@
 #!/usr/bin/env python3
 """Makes the figures of a study of waiting rules: figures.py NET TEXT FOLDER [--dispatcher PROGRAM]
 
-NET is the folder of a network, TEXT the text of a run over it. For the rows after all entries of the text FOLDER gets these curves,
-each as a picture (.svg) and as a table (.csv):
+NET is the folder of a network, and TEXT the text of a run over it. The figures are about the rows after all entries of TEXT.
+FOLDER gets three of them, each as a picture (.svg) and as a table (.csv). Costs are in thousandths of passenger seconds:
 
-    rules      what the fixed rules `never`, `wait at most k seconds` and `always` cost, beside the cost and the proved bound of a plan
-    budgets    the cost and the proved bound of a plan by its budget of nodes
+    rules      the cost of each waiting rule: `never`, at most k seconds, `always`; beside them the cost and the bound of a plan
+    budgets    the cost and the bound of a plan by its budget of nodes
     lateness   how late the arrivals of each quarter of an hour are, before and after a plan is adopted
 
-The last column of a table is the command that made the numbers of its row. `feed`, which the last of them answers, brings the rows
-of the text back, asks for a plan and adopts it. PROGRAM is the built dispatcher (by default `dispatcher` on the search path); its
-commands `rules` and `run` are called, some forty times, and how far they are stands on standard error.
+The last column of a table is the command that made the numbers of its row. The last figure comes from a run of the file `feed` in
+FOLDER. Its lines bring back the rows of TEXT, ask for a plan and adopt it. PROGRAM is the built program. The script calls its
+commands `rules` and `run` some forty times. Standard error shows how far it is.
 
-The status is 2 where a file or a text is not good, or the program says that it is not, and no picture is written then.
+The status is 2, and no picture is written, if a file or a text is not good, or if PROGRAM says so.
 """
 from __future__ import annotations
 
@@ -320,8 +320,8 @@ def main() -> None:
     words = command_line(__doc__)
     add_network(words)
     words.add_argument('text', metavar='TEXT', help='the text of a run over it')
-    words.add_argument('folder', metavar='FOLDER', help='where the figures go')
-    words.add_argument('--dispatcher', default='dispatcher', metavar='PROGRAM', help='the built program')
+    words.add_argument('folder', metavar='FOLDER', help='folder for the figures')
+    words.add_argument('--dispatcher', default='dispatcher', metavar='PROGRAM', help='the built program (dispatcher in the path)')
     add_delays(words)
     given = words.parse_args()
     try:

@@ -1,4 +1,4 @@
-"""Files that are read whole, files that are written all or not at all, what is told of a bad one, and standard output in UTF-8."""
+"""Reads files whole, writes them completely or not at all, says what is wrong with a bad one, and prints UTF-8."""
 from __future__ import annotations
 
 import io

@@ -3,11 +3,12 @@
 
     python3 tools/find.py NET FROM TO [STOP] [--line keep|drop]
 
-NET is a network that from_gtfs.py made, with Changes.csv. FROM and TO are trains: what a train is called ("RB 2 09:08"), its route
-("RB 2") or its trip; STOP is a station's name or a stop's id. Each change is told in a line: its number, and what it joins. With --line
-the lines of a feed that keep or drop them are written, and nothing else.
+NET is a network that from_gtfs.py made, with its Changes.csv. FROM is the train that arrives, and TO the train that leaves. Name
+a train by its name ("RB 2 09:08"), its route ("RB 2") or its trip. STOP is the name of a station, or the id of a stop. The script
+prints a line for each change: its number, and what it joins. With --line it prints only the lines of a feed that keep or drop
+these changes.
 
-The status is 0, 1 where there is no such change, or 2 where a file is not as it should be.
+The status is 0. It is 1 if there is no such change, and 2 if a file is not good.
 """
 from __future__ import annotations
 
@@ -74,11 +75,11 @@ def find(net: str, train: str, next_train: str, stop: Optional[str]) -> list[Fou
 
 def main(given: Optional[Sequence[str]] = None) -> int:
     words = command_line(__doc__, allow_abbrev=False)
-    words.add_argument('net', metavar='NET', help='the folder of a network, with its names')
+    words.add_argument('net', metavar='NET', help='folder of a network, with its files of names')
     words.add_argument('train', metavar='FROM', help='the train that arrives')
     words.add_argument('next_train', metavar='TO', help='the train that leaves')
-    words.add_argument('stop', metavar='STOP', nargs='?', help='where')
-    words.add_argument('--line', choices=('keep', 'drop'), help='write lines of a feed')
+    words.add_argument('stop', metavar='STOP', nargs='?', help='station or stop (all)')
+    words.add_argument('--line', choices=('keep', 'drop'), help='print lines of a feed that keep or drop the changes')
     read = words.parse_args(given)
     speak_utf8()
     try:

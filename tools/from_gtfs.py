@@ -3,30 +3,33 @@
 
     python3 tools/from_gtfs.py FEED DATE DIR [OPTION..]
 
-FEED is a zip file or a folder, and DATE a service day, as 20261128. DIR gets the two files of a network, Events-expanded.giv and
-Activities-expanded.giv, and files that say what its numbers stand for: Stops.csv, Events.csv, Trains.csv, Changes.csv and Day.csv. A
-service day runs past midnight, and its times count on: 25:10:00. A trip of frequencies.txt becomes one train for each departure, named
-as TRIP@06:30:00. With --day-before the trains of the service day before that run past midnight are there, from their first stop behind
-it on, named as TRIP@20261127.
+FEED is the timetable, a zip file or a folder. DATE is a service day, such as 20261128. DIR gets the two files of a network,
+Events-expanded.giv and Activities-expanded.giv. It also gets five files that say what the numbers stand for: Stops.csv,
+Events.csv, Trains.csv, Changes.csv and Day.csv. docs/GTFS_RULES.md has all rules. In short:
 
-  events       each departure and arrival of a trip; a stop of the network is a station (parent_station)
-  drives       at least the scheduled time less --reserve
-  waits        at least --dwell seconds, or the scheduled ones where these are fewer
-  turnarounds  between trips of one block_id, at least --turn seconds, or the scheduled ones where these are fewer; and between
-               trips that transfers.txt links: where passengers stay in their seats (type 4) --dwell seconds are enough
-  changes      from an arrival to the next departure of each other route and direction at the station, or at one to which
-               transfers.txt leads, that leaves at most --longest-change seconds later and not before the change is made, which takes
-               the min_transfer_time of transfers.txt or else --change seconds; never to a train of the same route or vehicle, nor to
-               one that goes next to the station from which the arriving train has come. Of rows of transfers.txt those for trips go
-               before those for routes, and these before those for stops. A row of type 1 for two trips is a guaranteed connection:
-               it is made whatever the routes are and however long it takes
-  headways     both ways between departures of one kind of vehicle (rail, bus ..) that follow each other from one station to the
-               next, --headway seconds, those of --headways, or the scheduled ones where these are fewer; on a stretch of
-               --single-track also between departures from its two ends: the second train leaves when the first one has come
-               through and the seconds of the file are over
+  events       each departure and arrival of a trip. A stop of the network is a station (parent_station)
+  drives       take at least the scheduled time less --reserve of it
+  waits        take at least --dwell seconds, or the scheduled time if that is shorter
+  turnarounds  join trips of one block_id. They take at least --turn seconds, or the scheduled time if that is shorter. They also
+               join trips that transfers.txt links. If passengers stay in their seats (type 4), --dwell seconds are enough
+  changes      lead from an arrival to the next departure of each other route and direction at the station, or at a station to
+               which transfers.txt leads. That train leaves once the change can be made, and at most --longest-change seconds
+               after the arrival. A change takes the min_transfer_time of transfers.txt, or else --change seconds. It never leads
+               to the same vehicle, nor to a train that next goes to the station from which the arriving train has come. It leads
+               to the same route only on another branch. In transfers.txt rows for trips count before rows for routes, and these
+               before rows for stops. A row of type 1 for two trips is a guaranteed connection: it becomes a change whatever the
+               routes are, and however long it takes
+  headways     join departures of one kind of vehicle (rail, bus ..) that follow each other from one station to the next, in both
+               directions. They take --headway seconds, those of --headways, or the scheduled time if that is shorter. On a
+               stretch of --single-track they also join departures from its two ends. The second train leaves when the first one
+               has come through and the seconds of the file are over
 
-What a feed has and a network cannot hold is told on standard error, with how many there are of everything. The status is 0; or 2,
-and no file is written, where the words or the feed are not as they should be, or where the network would be too large.
+A service day runs past midnight, and its times count on: 25:10:00. A trip of frequencies.txt becomes a train for each departure,
+with a name such as TRIP@06:30:00. With --day-before the network also has the trains of the service day before that run past
+midnight, from their first stop after midnight on. They have names such as TRIP@20261127.
+
+Standard error says how many there are of everything, and what was left out. The status is 0. It is 2, and no file is written, if
+the words or the timetable are not good, or if the network would be too large.
 """
 from __future__ import annotations
 
@@ -101,9 +104,9 @@ def names_of_routes(text: str) -> list[str]:
 def words_read(given: Optional[Sequence[str]]) -> argparse.Namespace:
     words = command_line(__doc__, allow_abbrev=False)
     words.usage = '%(prog)s FEED DATE DIR [OPTION..]'
-    words.add_argument('feed', metavar='FEED', help='a zip file or a folder')
-    words.add_argument('date', metavar='DATE', type=service_day, help='a service day')
-    words.add_argument('folder', metavar='DIR', help='where the network is written')
+    words.add_argument('feed', metavar='FEED', help='timetable in GTFS, a zip file or a folder')
+    words.add_argument('date', metavar='DATE', type=service_day, help='service day, such as 20261128')
+    words.add_argument('folder', metavar='DIR', help='folder for the network')
     add_choices(words)
     add_rules(words)
     return words.parse_args(given)
@@ -111,28 +114,38 @@ def words_read(given: Optional[Sequence[str]]) -> argparse.Namespace:
 
 def add_choices(words: argparse.ArgumentParser) -> None:
     """The options that choose trains, and say how many passengers they have."""
-    kinds = f'all, or some of {", ".join(TYPES)} and numbers of route_type, with commas (rail)'
+    kinds = f'all, or some of {", ".join(TYPES)} and numbers of route_type, separated by commas (rail)'
     words.add_argument('--types', metavar='KINDS', type=kinds_of_routes, default='rail', help=kinds)
-    words.add_argument('--routes', metavar='NAMES', type=names_of_routes, help='routes by id or short name, with commas (all)')
-    words.add_argument('--from', metavar='TIME', type=time_of_day, dest='start', default=0, help='trains that run then or later')
-    words.add_argument('--to', metavar='TIME', type=time_of_day, dest='end', default=EVER, help='trains that run then or earlier')
-    words.add_argument('--day-before', action='store_true', help='trains of the service day before that run past midnight, too')
-    numbers = 'trip_id,stop_id,number: how many leave a trip at a stop (1 each); with to_trip_id, how many of them change to it'
+    some = 'routes by id or short name, separated by commas (all)'
+    words.add_argument('--routes', metavar='NAMES', type=names_of_routes, help=some)
+    later = 'only trains that run at this time or later, such as 06:30'
+    words.add_argument('--from', metavar='TIME', type=time_of_day, dest='start', default=0, help=later)
+    earlier = 'only trains that run at this time or earlier'
+    words.add_argument('--to', metavar='TIME', type=time_of_day, dest='end', default=EVER, help=earlier)
+    words.add_argument('--day-before', action='store_true', help='also trains of the day before that run past midnight')
+    numbers = 'file trip_id,stop_id,number: how many leave a trip at a stop (1 each); with to_trip_id, how many change to it'
     words.add_argument('--passengers', metavar='FILE', help=numbers)
-    words.add_argument('--changing', metavar='SHARE', type=share, default='10%', help='of these, how many take each change (10%%)')
-    guaranteed = 'how many take a guaranteed connection (as other changes)'
+    taking = 'share of these passengers who take each change (10%%)'
+    words.add_argument('--changing', metavar='SHARE', type=share, default='10%', help=taking)
+    guaranteed = 'passengers who take a guaranteed connection (as for other changes)'
     words.add_argument('--guaranteed', metavar='NUMBER', type=passengers_given, help=guaranteed)
 
 
 def add_rules(words: argparse.ArgumentParser) -> None:
     """The options that say how long activities take."""
-    words.add_argument('--reserve', metavar='SHARE', type=share, default='7%', help='of a scheduled drive (7%%)')
-    for name, usual in ('dwell', 30), ('turn', 300), ('change', 180), ('longest-change', 1800), ('headway', 120):
+    spare = 'share of a scheduled drive that a late train can make up (7%%)'
+    words.add_argument('--reserve', metavar='SHARE', type=share, default='7%', help=spare)
+    for name, usual, what in (
+        ('dwell', 30, 'least seconds of a wait'), ('turn', 300, 'least seconds of a turnaround'),
+        ('change', 180, 'seconds of a change if transfers.txt gives none'),
+        ('longest-change', 1800, 'most seconds from the arrival to the departure of a change'),
+        ('headway', 120, 'seconds that a train keeps behind another one'),
+    ):
         seconds = whole_between(1 if name == 'headway' else 0, LONGEST_BOUND)
-        words.add_argument(f'--{name}', metavar='SECONDS', type=seconds, default=usual, help=f'({usual})')
-    stretches = 'from_stop_id,to_stop_id,seconds[,type]: headways by stretch, by kind of vehicle, or both; 0 for none'
+        words.add_argument(f'--{name}', metavar='SECONDS', type=seconds, default=usual, help=f'{what} ({usual})')
+    stretches = 'file from_stop_id,to_stop_id,seconds[,type]: headways of a stretch, of a kind of vehicle, or of both; 0 for none'
     words.add_argument('--headways', metavar='FILE', help=stretches)
-    single = 'from_stop_id,to_stop_id,seconds: stretches with one track, and the seconds until it is clear for the other direction'
+    single = 'file from_stop_id,to_stop_id,seconds: stretches with one track, and the seconds until the other direction may enter'
     words.add_argument('--single-track', metavar='FILE', help=single)
     words.add_argument('--no-headways', action='store_true', help='make no headways')
 

@@ -1,21 +1,22 @@
 #!/usr/bin/env python3
-"""Makes a network of LinTim's files, where the program cannot read them as they are:
+"""Makes a network of LinTim's files that the program cannot read as they are:
 
     python3 tools/from_lintim.py SOURCE DIR [OPTION..]
     python3 tools/from_lintim.py SOURCE DIR --period=T [--unit=S] --from=TIME --to=TIME
 
-The first reads Events-expanded.giv and Activities-expanded.giv in SOURCE and writes them anew into DIR: numbers without exponents,
-times and bounds in whole seconds, events and activities of the kinds that the program knows. Ids stay, so delay files stay true;
-those that --event-delays and --activity-delays name are written anew too.
+The first form reads Events-expanded.giv and Activities-expanded.giv in SOURCE, and writes them anew into DIR. The new files have
+numbers without exponents, times and bounds in whole seconds, and only those kinds of events and activities that the program
+knows. Ids stay, so files of delays stay valid. The files that --event-delays and --activity-delays name are written anew, too.
 
-The second rolls a periodic timetable out, from Events-periodic.giv, Activities-periodic.giv and Timetable-periodic.tim in SOURCE.
-T is the period in time units, and a time unit has S seconds. Each event comes once in every period from TIME to TIME, and each
-activity leads from there to the first time of its head that its lower bound allows. A headway becomes a pair between times that
-follow each other, the other way with the period less its upper bound. Ids count from 1; the column of periodic ids says where they
-come from.
+The second form rolls a periodic timetable out. It reads Events-periodic.giv, Activities-periodic.giv and Timetable-periodic.tim
+in SOURCE. The period has T time units, and a time unit has S seconds. Each event happens once in every period from TIME to TIME.
+Each activity leads from there to the first time of its head that its lower bound allows. A headway becomes a pair between times
+that follow each other. In the other direction it takes the period less its upper bound. Ids count from 1, and the column of
+periodic ids says where they come from.
 
-Columns are found by the names in a file's first line, a comment; without one they stand in the usual order of these files. What is
-left out is told on standard error. The status is 0; or 2, and no file is written, where a file is not as it should be.
+The script finds columns by the names in a file's first line, a comment. Without that line they must be in the usual order of
+these files. Standard error says what was left out. The status is 0. It is 2, and no file is written, if a file is not good.
+docs/LINTIM.md has the details.
 """
 from __future__ import annotations
 
@@ -350,15 +351,17 @@ def summary(network: Network, notes: Notes) -> Iterator[str]:
 def words_read(given: Optional[Sequence[str]]) -> argparse.Namespace:
     words = command_line(__doc__, allow_abbrev=False)
     words.usage = '%(prog)s SOURCE DIR [OPTION..]'
-    words.add_argument('source', metavar='SOURCE', help='the folder with the files of LinTim')
-    words.add_argument('folder', metavar='DIR', help='where the network is written')
-    words.add_argument('--event-delays', metavar='NAME', help='a delay file in SOURCE')
-    words.add_argument('--activity-delays', metavar='NAME', help='a delay file in SOURCE')
-    words.add_argument('--stops', metavar='FILE', help='a file of stops, as Stop.giv, of which Stops.csv is made')
-    words.add_argument('--unit', metavar='SECONDS', type=whole_between(1, 3600), help='of a time unit (1; 60 with --period)')
-    words.add_argument('--period', metavar='UNITS', type=whole_between(1, LARGEST_BOUND), help='rolls a periodic timetable out')
-    words.add_argument('--from', metavar='TIME', type=time_of_day, dest='start', help='with --period: the first time')
-    words.add_argument('--to', metavar='TIME', type=time_of_day, dest='end', help='with --period: the last time')
+    words.add_argument('source', metavar='SOURCE', help='folder with the files of LinTim')
+    words.add_argument('folder', metavar='DIR', help='folder for the network')
+    words.add_argument('--event-delays', metavar='NAME', help='file in SOURCE with delays of events')
+    words.add_argument('--activity-delays', metavar='NAME', help='file in SOURCE with delays of activities')
+    words.add_argument('--stops', metavar='FILE', help='file of stops, such as Stop.giv, of which Stops.csv is made')
+    unit = 'seconds of a time unit, from 1 to 3600 (1; 60 with --period)'
+    words.add_argument('--unit', metavar='SECONDS', type=whole_between(1, 3600), help=unit)
+    period = 'time units of a period; the script then rolls a periodic timetable out'
+    words.add_argument('--period', metavar='UNITS', type=whole_between(1, LARGEST_BOUND), help=period)
+    words.add_argument('--from', metavar='TIME', type=time_of_day, dest='start', help='with --period: first time, such as 06:30')
+    words.add_argument('--to', metavar='TIME', type=time_of_day, dest='end', help='with --period: last time')
     read = words.parse_args(given)
     if (read.period is None) != (read.start is None) or (read.period is None) != (read.end is None):
         words.error('--period, --from and --to belong together')

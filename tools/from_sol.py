@@ -1,12 +1,14 @@
 #!/usr/bin/env python3
 """Turns a solver's solution into lines of a feed: from_sol.py NET TEXT SOLUTION [--at=N] [--from=F --to=T] [--whole] > LINES
 
-NET, TEXT and the options are those that tools/to_mps.py was given; SOLUTION is what CBC (`cbc FILE -solve -solu SOLUTION`) or GLPK
-(`glpsol --freemps FILE -o SOLUTION`) wrote. Printed is a line `drop A`, `keep A` or `first E F` for each choice that the solution
-makes otherwise than the rows, in an order in which none of them closes a cycle. With --whole the first N entries of the journal stand
-before them as lines, an adopted plan by its decisions, and `cost` behind them: a run of that feed says what the solution costs.
+NET, TEXT and the options are those that tools/to_mps.py got. SOLUTION is what CBC (`cbc FILE -solve -solu SOLUTION`) or GLPK
+(`glpsol --freemps FILE -o SOLUTION`) wrote. The script prints a line `drop A`, `keep A` or `first E F` for each choice of the
+solution that differs from the rows. It prints them in an order in which none closes a cycle.
 
-The status is 2 where a file is not good, or the solution is of another problem or none.
+With --whole it prints a whole feed: first the first N entries of the journal as lines, with the decisions of an adopted plan one
+by one; then the choices; then `cost`. A run of that feed says what the solution costs.
+
+The status is 2 if a file is not good, if SOLUTION has no solution, or if it is of another problem.
 """
 from __future__ import annotations
 
@@ -53,7 +55,7 @@ def lines_of_solution(given: argparse.Namespace, words: argparse.ArgumentParser)
 def main(asked: Optional[Sequence[str]] = None) -> None:
     words = command_line(__doc__)
     add_rows_words(words)
-    words.add_argument('solution', metavar='SOLUTION', help='the file of a solution of CBC or GLPK')
+    words.add_argument('solution', metavar='SOLUTION', help='solution file of CBC or GLPK')
     add_window_words(words)
     words.add_argument('--whole', action='store_true', help='print a whole feed, which ends with `cost`')
     given = words.parse_args(asked)

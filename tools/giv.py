@@ -1,6 +1,7 @@
-"""The files of a network in LinTim's form: how a record is read, and how one is written.
+"""Reads and writes the files of a network in LinTim's form, record by record.
 
-A reader takes the standard order of columns alone. Weights are in thousandths of passengers, and in files in passengers.
+The standard order of columns is the only one that it reads. Here weights are in thousandths of passengers; the files have
+passengers.
 """
 from __future__ import annotations
 

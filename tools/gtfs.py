@@ -1,8 +1,8 @@
-"""Timetables in GTFS, read: which trips a feed has on a service day, and where and when they call.
+"""Reads timetables in GTFS: which trips run on a service day, and where and when they call.
 
 A feed is a zip file or a folder with the files of the GTFS reference (https://gtfs.org/documentation/schedule/reference/). Times
-are in seconds from the beginning of the service day, and go on past midnight. What is not as the reference wants it is told by
-`railway.BadFile`, with the file, the line and the column; rows of trips that nobody asks for are not looked at.
+are in seconds from the beginning of the service day, and go on past midnight. If something breaks the reference, `files.BadFile`
+names the file, the line and the column. Rows of trips that nobody asks for are not looked at.
 """
 from __future__ import annotations
 

@@ -1,20 +1,26 @@
 #!/usr/bin/env python3
-"""Reads TripUpdates and VehiclePositions of GTFS-Realtime, and appends what they tell to a feed:
+"""Reads TripUpdates and VehiclePositions of GTFS-Realtime, and appends what they report to a feed:
 
     python3 tools/gtfs_rt_in.py NET FEEDFILE SOURCE.. [--text KNOWN [--number K]] [--zone ZONE] [--every SECONDS]
 
-NET is a network that from_gtfs.py made. FEEDFILE is a feed of the program, which may be missing; a SOURCE is a file with a FeedMessage,
-or the URL (http, https) of one. Sources are read once, in their order; with --every again and again, so many seconds apart.
+NET is a network that from_gtfs.py made. FEEDFILE is a feed of the program; it need not exist yet. Each SOURCE is a file with a
+FeedMessage, or the URL (http, https) of one. The script reads the sources once, in their order. With --every it reads them again
+and again, so many seconds apart.
 
-What is told is set beside what the network shows after the entries of KNOWN and after the lines of FEEDFILE. KNOWN is the text of a
-run; or the folder of a live server's store, of which FEEDFILE is feed K: then the entries are those that have come whenever sources are
-read, and the lines those that are not answered yet. A call that is told later than it would be by all that stands before it is a
-source delay, `delay event E S`; so a train that is late at each later call has one. A source delay that is larger than what is told now
-is put down. A call that is past is `pass E T`, and the time of the header is `now T`.
+It compares a message with what is known: the entries of KNOWN, and after them the lines of FEEDFILE. KNOWN is the text of a run,
+or the folder of a live server's store, of which FEEDFILE is feed K. Of a store it takes the entries that are there whenever it
+reads the sources, and the lines of FEEDFILE that are not answered yet. It appends these lines:
 
-On standard error stands a line for each thing that cannot be said or that is not as it should be: calls that are skipped, trips that
-are cancelled, trips and calls that the network has not, messages that are out of order or come twice, times that fall; and what they
-come to. The status is 0; or 2 where a file is not as it should be.
+    delay event E S   if the message has event E later than all that is before it explains. So a train that is late at each later
+                      call gets one source delay. A source delay that is larger than what the message says now is made smaller
+    pass E T          if event E has happened, at T
+    now T             the time in the header of the message
+
+T is in seconds of the service day, and S in seconds. Standard error has a line for each thing that the script cannot report or
+that is not good: calls that are skipped, trips that are cancelled, trips and calls that the network does not have, messages that
+are out of order or come twice, times that decrease. At the end it says how many there were of each.
+
+The status is 0. It is 2 if a file is not good, or if a source cannot be read.
 """
 from __future__ import annotations
 
@@ -337,13 +343,14 @@ def listen(listener: Listener, feed: str, source: str) -> bool:
 
 def main(given: Optional[Sequence[str]] = None) -> int:
     words = command_line(__doc__, allow_abbrev=False)
-    words.add_argument('net', metavar='NET', help='the folder of a network, with its names')
-    words.add_argument('feed', metavar='FEEDFILE', help='the feed to which lines are appended')
+    words.add_argument('net', metavar='NET', help='folder of a network, with its files of names')
+    words.add_argument('feed', metavar='FEEDFILE', help='feed to which the script appends')
     words.add_argument('sources', metavar='SOURCE', nargs='+', help='files, or URLs of http and https')
-    words.add_argument('--text', metavar='KNOWN', help='the text of a run, or the folder of a store, which says what is known besides')
-    words.add_argument('--number', metavar='K', type=whole_between(1, MOST_FEEDS), default=1, help='which feed of a store FEEDFILE is (1)')
-    words.add_argument('--zone', metavar='ZONE', help='the time zone, as Europe/Berlin (that of Day.csv)')
-    words.add_argument('--every', metavar='SECONDS', type=int, help='read the sources again, so many seconds apart')
+    words.add_argument('--text', metavar='KNOWN', help='text of a run, or folder of a store: what is known besides FEEDFILE')
+    which = 'number of FEEDFILE among the feeds of the store (1)'
+    words.add_argument('--number', metavar='K', type=whole_between(1, MOST_FEEDS), default=1, help=which)
+    words.add_argument('--zone', metavar='ZONE', help='time zone, such as Europe/Berlin (that of Day.csv)')
+    words.add_argument('--every', metavar='SECONDS', type=int, help='read the sources again and again, so many seconds apart')
     read = words.parse_args(given)
     try:
         network = read_network(read.net)

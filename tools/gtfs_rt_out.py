@@ -3,16 +3,21 @@
 
     python3 tools/gtfs_rt_out.py NET SOURCE OUT.pb [--zone ZONE] [--now SECONDS] [--serve PORT] [--every SECONDS]
 
-NET is a network that from_gtfs.py made. SOURCE is the text of a run over it; or the folder in which a live server keeps its store, as
-it stands beside the server: then PROGRAM of --dispatcher prints its text (by default `dispatcher` on the search path). OUT.pb gets a
-FeedMessage, by a rename: a TripUpdate for each train, with the delay and the time of each call, or NO_DATA where nothing has been told
-of the train and no other one holds it up; and an Alert for each change that is dropped and whose train has not left. Its time is that
-of the run's last `now`, or that of --now (seconds of the world), or else that of this computer. The status is 0; or 2, and no file is
-written, where a file is not as it should be.
+NET is a network that from_gtfs.py made. SOURCE is the text of a run over it, or the folder of a live server's store. A store may
+be in use: the program PROGRAM of --dispatcher prints its text. OUT.pb gets a FeedMessage, and is replaced by a rename. It has
 
-With --every SOURCE is looked at again, so many seconds apart, and where it is another one OUT.pb is written anew; a text that is not
-whole yet leaves OUT.pb as it is. With --serve OUT.pb is handed out besides over HTTP, on this computer alone (127.0.0.1); every ten
-seconds where --every says nothing else.
+  - a TripUpdate for each train, with the delay and the time of each call. It is NO_DATA if nothing was reported of the train, and
+    no other train holds it up;
+  - an Alert for each change that is dropped and whose train has not left.
+
+The time of the message is that of the last `now` of the run. --now gives another one, in seconds since 1970. Without either it is
+the time of this computer.
+
+With --every the script looks at SOURCE again and again, so many seconds apart. If SOURCE has changed, it writes OUT.pb anew. If a
+text is not whole yet, OUT.pb stays as it is. With --serve it also hands out OUT.pb over HTTP, on this computer only (127.0.0.1).
+It then looks every ten seconds unless --every says otherwise.
+
+The status is 0. It is 2, and no file is written, if a file is not good.
 """
 from __future__ import annotations
 
@@ -284,14 +289,16 @@ def state_of(source: str) -> Optional[State]:
 
 def main(given: Optional[Sequence[str]] = None) -> int:
     words = command_line(__doc__, allow_abbrev=False)
-    words.add_argument('net', metavar='NET', help='the folder of a network, with its names')
-    words.add_argument('source', metavar='SOURCE', help='the text of a run over it, or the folder of a store')
-    words.add_argument('out', metavar='OUT.pb', help='the file that is written')
-    words.add_argument('--zone', metavar='ZONE', help='the time zone, as Europe/Berlin (that of Day.csv)')
-    words.add_argument('--now', metavar='SECONDS', type=int, help='the time of the message')
-    words.add_argument('--serve', metavar='PORT', type=whole_between(0, 65_535), help='hand OUT.pb out on this port; 0 for a free one')
-    words.add_argument('--every', metavar='SECONDS', type=whole_between(1, 86_400), help='look at SOURCE again, so many seconds apart')
-    words.add_argument('--dispatcher', metavar='PROGRAM', default='dispatcher', help='what prints the text of a store (dispatcher)')
+    words.add_argument('net', metavar='NET', help='folder of a network, with its files of names')
+    words.add_argument('source', metavar='SOURCE', help='text of a run over it, or folder of a store')
+    words.add_argument('out', metavar='OUT.pb', help='file to write')
+    words.add_argument('--zone', metavar='ZONE', help='time zone, such as Europe/Berlin (that of Day.csv)')
+    words.add_argument('--now', metavar='SECONDS', type=int, help='time of the message, in seconds since 1970')
+    words.add_argument('--serve', metavar='PORT', type=whole_between(0, 65_535), help='port on which to hand out OUT.pb (0: any)')
+    again = 'look at SOURCE again and again, so many seconds apart'
+    words.add_argument('--every', metavar='SECONDS', type=whole_between(1, 86_400), help=again)
+    program = 'the built program, which prints the text of a store (dispatcher in the path)'
+    words.add_argument('--dispatcher', metavar='PROGRAM', default='dispatcher', help=program)
     add_delays(words)
     read = words.parse_args(given)
     try:

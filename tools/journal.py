@@ -1,6 +1,7 @@
-"""Journals of a live server, read beside it as they grow, and the text of the run that a store holds.
+"""Reads the journal of a live server as it grows, and the text of the run that a store holds.
 
-docs/FORMATS.md has the form of a journal. Blocks that stand never change, so a reader needs no lock, and goes on where it ended.
+docs/FORMATS.md describes the form of a journal. A block that stands in it never changes. So a reader needs no lock, and goes on
+where it ended.
 """
 from __future__ import annotations
 

@@ -1,16 +1,18 @@
 #!/usr/bin/env python3
-"""Tells what is odd in a network and in feeds, though the server accepts it: lint.py NET [FEED ..]
+"""Reports what looks wrong in a network and in feeds, though the server accepts it: lint.py NET [FEED ..]
 
-NET is the folder of a network, each FEED a file of lines. What is found stands on standard output, a line each, with file and line:
+NET is the folder of a network, and each FEED a file of lines. The script prints a line for each thing that it finds, with the
+file and the line. It looks for
 
-    activities that run back in time, and schedules below their bounds, and by how much
+    activities that run back in time, or for which the timetable has less time than their lower bound
     columns that look swapped: times and weights, tails and heads
     trains that jump between stops: a wait from one stop to another, a drive from a stop to itself
     headways in one direction only, changes that nobody can make, and changes longer than a day
-    stops of Stops.csv with no events
-    feed lines that are malformed, that name ids which the network has not, or that are refused whatever has happened
+    stops of Stops.csv without events
+    feed lines that are malformed, that name ids which are not in the network, or that are refused whatever has happened
 
-Status 0 where nothing is odd, 1 where something is, 2 where a file is none of a network.
+Of each kind it prints at most 20 lines, and then how many more there are. The status is 0 if it finds nothing, 1 if it finds
+something, and 2 if NET is no network or a FEED cannot be read.
 """
 from __future__ import annotations
 
@@ -227,7 +229,7 @@ def tell(found: Iterable[Oddity]) -> int:
 def main() -> None:
     words = command_line(__doc__)
     add_network(words)
-    words.add_argument('feeds', metavar='FEED', nargs='*', help='a file of feed lines')
+    words.add_argument('feeds', metavar='FEED', nargs='*', help='feed, a file of lines')
     given = words.parse_args()
     speak_utf8()
     try:

@@ -1,4 +1,4 @@
-"""Names and other texts of files in pages and pictures: nothing in them is read as markup, and nothing runs."""
+"""Writes names and other texts of files into pages and pictures so that nothing in them is read as markup, and nothing runs."""
 from __future__ import annotations
 
 import base64

@@ -1,9 +1,10 @@
 #!/usr/bin/env python3
 """Makes the index of names at the end of docs/MODEL.md: model_index.py [--check]
 
-The page names what the code defines. The script looks where each name is defined, in the public folders `specs/` and in `src/`, and
-writes the index behind the heading `## Index`. With --check it writes nothing and tells whether the index is as it would be. A name
-that is defined nowhere, or not in the file that its table names, is told; the status is 1 then, and where a checked index differs.
+The page names what the code defines. The script looks in the public folders `specs/` and in `src/` for the place where each name
+is defined, and writes the index under the heading `## Index`. With --check it writes nothing, and says whether the index is up to
+date. It also reports each name that is defined nowhere, or not in the file that its table names. If it reports a name, or if a
+checked index differs, the status is 1.
 """
 from __future__ import annotations
 
@@ -119,8 +120,8 @@ def filled(entries: Sequence[str]) -> list[str]:
 
 def main(asked: Optional[Sequence[str]] = None) -> int:
     words = command_line(__doc__)
-    words.add_argument('--check', action='store_true', help='write nothing, tell whether the index stands')
-    words.add_argument('--repository', type=Path, default=REPOSITORY, metavar='FOLDER', help='where docs and crates are')
+    words.add_argument('--check', action='store_true', help='write nothing, say whether the index is up to date')
+    words.add_argument('--repository', type=Path, default=REPOSITORY, metavar='FOLDER', help='folder with docs and crates (here)')
     given = words.parse_args(asked)
     name = given.repository / 'docs' / 'MODEL.md'
     page = name.read_text(encoding='utf-8')

@@ -1,8 +1,8 @@
 """What the numbers of a network stand for: its stops, events and trains by the names of a timetable.
 
-`Stops.csv`, `Events.csv`, `Trains.csv`, `Changes.csv` and `Day.csv` stand beside the two files of a network, in UTF-8, a record a line, with semicolons
-between the fields and quotes around one that needs them; lines that begin with `#` are comments. Of stops and trains two columns
-are enough: a number, and how it is called.
+`Stops.csv`, `Events.csv`, `Trains.csv`, `Changes.csv` and `Day.csv` stand beside the two files of a network. They are in UTF-8, a
+record a line, with semicolons between the fields and quotes around a field that needs them. Lines that begin with `#` are
+comments. Of stops and trains two columns are enough: a number and a name.
 """
 from __future__ import annotations
 

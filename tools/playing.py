@@ -1,7 +1,7 @@
-"""A day that is played: what is told in time, the clock, and windows that are planned while it goes on.
+"""Plays a day: what is reported as time goes on, the clock, and windows that are planned meanwhile.
 
-The program runs the feed so far and plans a window behind its text; the choices are entered as lines. What has been told is kept as
-rows beside it, by the rules of railway.py, so that the feed can be written without a question at each line.
+The program runs the feed so far, and plans a window over its text. The choices are entered as lines. The module also keeps rows,
+by the rules of railway.py. So it need not ask the program at each line.
 """
 from __future__ import annotations
 

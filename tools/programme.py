@@ -1,14 +1,14 @@
 """The choices of rows as a mixed integer programme, after Schöbel's for delay management with headways.
 
-A variable `late_E` is by how many seconds event E is after its schedule, `drop_A` is 1 where change A is dropped, `first_E_F` is 1
-where event E of the pair goes first and 0 where F does, `miss_A` is 1 where change A is missed by a train that has left. docs/MODEL.md
-has the formulas. All numbers are whole; costs are in thousandths of passenger seconds, and the objective counts in a unit that divides
-them all, so that the least objective times the unit is the least cost.
+The variable `late_E` is the seconds by which event E is after its schedule. `drop_A` is 1 if change A is dropped. `first_E_F` is
+1 if event E of the pair goes first, and 0 if F does. `miss_A` is 1 if a train that has left missed change A. docs/MODEL.md has
+the formulas. All numbers are whole. Costs are in thousandths of passenger seconds. The objective counts in a unit that divides
+them all: the least objective times the unit is the least cost.
 
-The file is exact: its least solutions are the choices that cost least. It is smaller than the formulas in what cannot matter. Each
-event lies between the least times that the choices allow and a time that no choices reach which cost at most what the rows cost as
-they stand. From these come the big constants; an event that cannot move is a number, an activity that always holds has no row, and a
-choice that is settled is a fixed variable.
+The file is exact: its least solutions are the choices that cost least. It leaves out of the formulas what cannot matter. Each
+event has an earliest and a latest time. The earliest is its least time under any choices. Choices that cost at most what the rows
+cost now never make it later than the latest. The big constants come from these two times. An event that cannot move is a number,
+an activity that always holds has no row, and a choice that is settled is a fixed variable.
 """
 from __future__ import annotations
 

@@ -1,7 +1,7 @@
-"""Messages of GTFS-Realtime in the wire format of protocol buffers, read and written: the part of it that the schema needs.
+"""Reads and writes messages of GTFS-Realtime in the wire format of protocol buffers, as far as its schema needs that format.
 
-A message is a dict from names of fields to values; a field that may stand many times is a list. The tables below have the numbers of
-the published schema (https://gtfs.org/documentation/realtime/proto/); fields that are not in them are passed over.
+A message is a dict from names of fields to values. A field that may be repeated is a list. The tables below have the numbers of
+the published schema (https://gtfs.org/documentation/realtime/proto/). Fields that are not in them are skipped.
 """
 from __future__ import annotations
 

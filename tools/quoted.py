@@ -1,4 +1,4 @@
-"""Tables in text, with quotes around the fields that need them: a record at a time, with the line at which it begins."""
+"""Reads tables with quotes around the fields that need them, a record at a time, with the line at which it begins."""
 from __future__ import annotations
 
 import csv

@@ -1,15 +1,15 @@
-"""Rows, refusals, least times, costs and true plans, read anew from the rules.
+"""Rows, refusals, least times, costs and true plans: a second reading of the rules.
 
-It shares no code with the program and keeps nothing from one question to the next: times come from a walk along an order of all
-events, costs from all events and activities, and each node of a plan's tree from its whole path. Its words are those of
+It shares no code with the program, and keeps nothing from one question to the next. It works out times by a walk along an order
+of all events, costs from all events and activities, and each node of a plan's tree from its whole path. Its words are those of
 docs/MODEL.md. A place is a position from 0 in a list of the network. Times are in seconds, weights in thousandths of passengers,
 costs in thousandths of passenger seconds.
 
-Messages, decisions, choices, refusals and nodes are tuples of a kind and what it names, by ids: ('delay event', 1, 60),
-('adopt', (('drop', 5), ('first', 5, 3))), ('keep', 5), ('change', 5), ('pair', 3, 5), ('passed', 1, 100), ('inner', ('change', 5)),
+Messages, decisions, choices, refusals and nodes are tuples of a kind and what it names, by ids: ('delay event', 1, 60), ('adopt',
+(('drop', 5), ('first', 5, 3))), ('keep', 5), ('change', 5), ('pair', 3, 5), ('passed', 1, 100), ('inner', ('change', 5)),
 ('bound', 940000), ('cycle',).
 
-Left out: limits, cycles and headways without a bound are not tested. Files are read by giv.py, in the standard order of columns.
+It does not test limits, cycles, or headways without a bound. giv.py reads the files, in the standard order of columns.
 """
 from __future__ import annotations
 

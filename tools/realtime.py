@@ -1,4 +1,4 @@
-"""What GTFS-Realtime and a network share: trains by their trips, and times of a service day by the clock of the world."""
+"""What GTFS-Realtime and a network share: trains by their trips, and times of a service day as times of the world."""
 from __future__ import annotations
 
 import os

@@ -1,12 +1,12 @@
 #!/usr/bin/env python3
 """Puts the lines of a feed back from its reply file: refill.py FEED REPLY
 
-REPLY is the file in which a server shows what it answered FEED, as STORE/reply-1.txt. Where FEED ends before lines that were
-answered, as a power cut may leave it, these are put behind its whole lines, and the server can go on with it. A line that was blank
-or a comment comes back as a blank one, and a line that was malformed as one that says so, since replies tell no more of them.
+REPLY is the file in which a server shows what it answered FEED, such as STORE/reply-1.txt. After a power cut FEED may lack lines
+that were answered. The script appends these lines to the whole lines of FEED. Then the server can go on with it. It writes a
+blank line or a comment back as a blank line, and a malformed line as a line that says so, since REPLY says no more about them.
 
-No server and no source may have FEED open meanwhile. Where a line that is there is not the one that was answered, nothing is written,
-and the status is 1: FEED is another feed, or somebody changed it.
+While it runs, no server and no source may have FEED open. If a line of FEED is not the one that was answered, the script writes
+nothing, and the status is 1. Then FEED is another feed, or somebody changed it.
 """
 from __future__ import annotations
 
@@ -58,8 +58,8 @@ def put_back(name: str, lines: list[str]) -> None:
 
 def main() -> None:
     words = command_line(__doc__)
-    words.add_argument('feed', metavar='FEED', help='the feed that ends too early')
-    words.add_argument('reply', metavar='REPLY', help='what its server has shown, as STORE/reply-1.txt')
+    words.add_argument('feed', metavar='FEED', help='feed that lacks lines')
+    words.add_argument('reply', metavar='REPLY', help='its reply file, such as STORE/reply-1.txt')
     given = words.parse_args()
     speak_utf8()
     try:

@@ -1,23 +1,26 @@
 #!/usr/bin/env python3
-"""Tells a region's server what the boards of its neighbours show:
+"""Passes on to a region's server what the boards of its neighbours show:
 
     mosquitto_sub -F '%t %p' -t board/M/+ .. | relay.py BOUNDARY.. --region N --topics --feed FILE
     relay.py BOUNDARY.. --region N < lines of boards
 
-Each BOUNDARY is a table of cut activities that split.py makes of a region; those that lead into region N count. Lines `event; time`,
-as boards in files have them, or `event; time, event; time, ..`, as board.py writes them, are read from standard input as they come,
-those of all neighbours in any order. With --topics each line begins with the topic that it came on, board/M/S, and a space, and region
-M is believed for its own events alone. For each event of region N that has to wait, a line `delay event E D` is written at once, where
-D is by how much the least time that the told times and the bounds of the cut activities allow exceeds its schedule: a later time, and
-a correction down, too. Nothing is written where nothing changes, so a line that is told twice does no harm. One relay a region has to
-know all tables: a delay replaces the one before.
+Each BOUNDARY is a table of cut activities that split.py made for a region. Those that lead into region N count. The script reads
+from standard input the lines of the boards of all neighbours, in any order. A line is `event; time`, as in the file of a board,
+or `event; time, event; time, ..`, as board.py writes it. With --topics each line begins with its topic, board/M/S, and a space.
+Then region M is believed only about its own events.
 
-With --feed the lines are put behind those of a file, from which `tail -n +1 -f FILE` feeds the region's server, as the control room
-puts its own. A relay that is started again reads there what the region was told before it. As long as it has not heard of all events
-that an event waits for, it tells no less than that. Without --feed the lines go to standard output, and nothing was told before.
+For each event E of region N that has to wait, it writes a line `delay event E D` at once. D is in seconds. The times on the
+boards and the bounds of the cut activities say when E can happen at the earliest. D is how much later that is than the schedule
+of E. A correction down is written, too. If nothing changes, nothing is written, so a line that comes twice does no harm. A region
+has one relay, and this relay knows all tables, because a delay replaces the one before.
 
-A line that is broken off is waited for. A line of another form, a time that a region tells of an event of another, and one that asks
-for a delay above 1,000,000 seconds, is skipped; the first few are told on standard error, and at the end how many there were.
+With --feed the script appends its lines to FILE, as the control room does. `tail -n +1 -f FILE` feeds the region's server from
+it. When the relay is started again, it reads in FILE what the region was told before. Until it has heard of all events for which
+an event waits, it tells no less than that. Without --feed the lines go to standard output, and nothing is known from before.
+
+It waits for the rest of a line that is broken off. It skips a line of another form, a time that a region tells of another
+region's event, and a time that would need a delay above 1,000,000 seconds. Standard error shows the first few of these, and at
+the end how many there were.
 """
 from __future__ import annotations
 
@@ -153,10 +156,10 @@ class FeedFile:
 
 def main() -> None:
     words = command_line(__doc__)
-    words.add_argument('boundaries', metavar='BOUNDARY', nargs='+', help='a Boundary.csv of a neighbour')
-    words.add_argument('--region', type=whole_between(1, MOST_REGIONS), required=True, metavar='N', help='the region that is told')
+    words.add_argument('boundaries', metavar='BOUNDARY', nargs='+', help='Boundary.csv of a neighbour')
+    words.add_argument('--region', type=whole_between(1, MOST_REGIONS), required=True, metavar='N', help='region to be told')
     words.add_argument('--topics', action='store_true', help='each line begins with its topic, board/M/S')
-    words.add_argument('--feed', metavar='FILE', help='the file of lines that feeds the region; standard output by default')
+    words.add_argument('--feed', metavar='FILE', help='file that feeds the region (standard output)')
     given = words.parse_args()
     speak_utf8()
     skipped = Skipped('relay.py')

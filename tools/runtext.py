@@ -1,7 +1,7 @@
-"""Texts of runs, read: the forms of their lines and records, in both versions, and a whole text as one value.
+"""Reads texts of runs: their lines and records, in both versions, and a whole text as one value.
 
-docs/FORMATS.md says how a text is written. What is read here is the form alone; whether it is true is for bench/judge.py, which
-reads by the same functions. Messages, decisions, refusals and nodes are tuples of a kind and what it names, as in railway.py.
+docs/FORMATS.md says how a text is written. This module judges only its form. bench/judge.py judges whether it is true, and reads
+by the functions of this module. Messages, decisions, refusals and nodes are tuples of a kind and what it names, as in railway.py.
 """
 from __future__ import annotations
 

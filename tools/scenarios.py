@@ -7,12 +7,14 @@
     line      the trains of one line are late from their first event on
     mixed     delays, and one of the others
 
-How long a delay is, is drawn from --size: exponential:MEAN, lognormal:MEDIAN:SIGMA (in seconds), or histogram:FILE, whose lines are
-FROM;TO;COUNT. For each day FOLDER gets `day-N.csv`, what is told and when (time;message), and the feed `day-N`, in which it is told
-each --every minutes; what has happened by then passes and the clock goes on, unless --no-clock is given. With --dispatcher the choices
-of the next --ahead minutes are planned each time and entered as lines, as a control room would: the feed then is the day as it went.
+--size says how long delays are, in seconds: exponential:MEAN, lognormal:MEDIAN:SIGMA, or histogram:FILE with lines FROM;TO;COUNT.
 
-A day is drawn from the network, the seed and its number alone, whatever other days there are.
+For each day FOLDER gets `day-N.csv` (time;message), which says what becomes known and when, and a feed `day-N`. Every --every
+minutes the feed reports what has become known, marks what has happened as passed, and moves the clock. With --no-clock it only
+reports. With --dispatcher the program plans the choices of the next --ahead minutes each time, and the script enters them as
+lines, as a control room would. Then the feed is the day as it went.
+
+The network, the seed and the number of a day determine the day, however many other days there are.
 """
 from __future__ import annotations
 
@@ -33,13 +35,14 @@ from words import add_network, command_line, whole_between
 
 def add_drawing_words(words: argparse.ArgumentParser) -> None:
     """The options by which days are drawn."""
-    words.add_argument('--seed', type=whole_between(0, 999_999_999), default=1, metavar='S', help='(1)')
-    words.add_argument('--days', type=whole_between(1, 9_999), default=1, metavar='N', help='how many (1)')
-    words.add_argument('--kind', choices=KINDS, default='delays', help='what befalls the day (delays)')
+    words.add_argument('--seed', type=whole_between(0, 999_999_999), default=1, metavar='S', help='seed of the days (1)')
+    words.add_argument('--days', type=whole_between(1, 9_999), default=1, metavar='N', help='number of days (1)')
+    words.add_argument('--kind', choices=KINDS, default='delays', help='what befalls the days (delays)')
     words.add_argument('--probability', type=probability, default=0.1, metavar='P', help='of a delay of a train (0.1)')
-    words.add_argument('--size', default='exponential:300', metavar='SIZE', help='of a delay (exponential:300)')
-    words.add_argument('--every', type=whole_between(1, 1440), default=10, metavar='MINUTES', help='when it is told and planned (10)')
-    words.add_argument('--ahead', type=whole_between(1, 1440), default=40, metavar='MINUTES', help='how far is planned (40)')
+    words.add_argument('--size', default='exponential:300', metavar='SIZE', help='how long delays are (exponential:300)')
+    every = 'minutes from one report, or one plan, to the next (10)'
+    words.add_argument('--every', type=whole_between(1, 1440), default=10, metavar='MINUTES', help=every)
+    words.add_argument('--ahead', type=whole_between(1, 1440), default=40, metavar='MINUTES', help='minutes of a window (40)')
 
 
 def probability(text: str) -> float:
@@ -86,11 +89,11 @@ def made(given: argparse.Namespace, drawing: Drawing) -> None:
 def main(asked: Optional[Sequence[str]] = None) -> None:
     words = command_line(__doc__)
     add_network(words)
-    words.add_argument('folder', metavar='FOLDER', help='where the days go')
+    words.add_argument('folder', metavar='FOLDER', help='folder for the days')
     add_drawing_words(words)
-    words.add_argument('--no-clock', action='store_true', help='let nothing pass')
-    words.add_argument('--dispatcher', metavar='PROGRAM', help='the built program, which plans')
-    words.add_argument('--penalty', type=whole_between(0, 1_000_000), default=3600, metavar='T', help='of a plan (3600)')
+    words.add_argument('--no-clock', action='store_true', help='mark no event as passed, and leave the clock alone')
+    words.add_argument('--dispatcher', metavar='PROGRAM', help='the built program, if it is to plan')
+    words.add_argument('--penalty', type=whole_between(0, 1_000_000), default=3600, metavar='T', help='penalty in seconds (3600)')
     given = words.parse_args(asked)
     drawing = drawing_of(words, given)
     try:

@@ -1,7 +1,7 @@
-"""What a picture of a day shows: the trains of a network, the lines that they run on, and what a run's text says of each event.
+"""What a picture of a day shows: the trains of a network, the lines on which they run, and what a run's text says of each event.
 
-A train is a list of events by place, each led to the next by a drive or a wait. A line is a list of stops; its stations lie as far
-apart as the trains are scheduled to drive between them. Times are in seconds.
+A train is a list of events by place. A drive or a wait leads from each to the next. A line is a list of stops. Its stations lie
+as far apart as the trains are scheduled to drive between them. Times are in seconds.
 """
 from __future__ import annotations
 

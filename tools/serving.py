@@ -1,4 +1,4 @@
-"""A live server that a script starts, feeds, waits for and ends."""
+"""Starts a live server for a script, feeds it, waits for its answers, and ends it."""
 from __future__ import annotations
 
 import os

@@ -6,9 +6,12 @@
     ring     trains that go around a ring of stations, both ways, several times, and lines that come to it from outside
     mesh     lines over a region of stations, which cross where they may; its timetable is drawn from --number
 
---trains is how many a line has (of `single` in each direction, of `ring` those on the ring, of `mesh` half an hour apart in each
-direction). Ten passengers leave each train at each station, and one takes each change. The folder gets the files of the network, and
-those of its names.
+--trains is how many trains a line has. In `single` and `mesh` it is so many in each direction, in `mesh` half an hour apart. In
+`ring` it is the trains on the ring. Ten passengers leave each train at each station, and one takes each change. FOLDER gets the
+two files of the network, and those of its names.
+
+Without the options `single` has 1 line, 30 trains and 13 stations, `hub` 40 lines of 4 trains, `ring` 4 lines, 8 trains and 12
+stations, and `mesh` 30 lines of 4 trains and 49 stations.
 """
 from __future__ import annotations
 
@@ -189,9 +192,9 @@ def made(shape: str, sizes: Sizes) -> Made:
 def main(asked: Optional[Sequence[str]] = None) -> None:
     words = command_line(__doc__)
     words.add_argument('shape', metavar='SHAPE', choices=USUAL, help='single, hub, ring or mesh')
-    words.add_argument('folder', metavar='FOLDER', help='where the network goes')
+    words.add_argument('folder', metavar='FOLDER', help='folder for the network')
     for name, most in ('lines', 400), ('trains', 2_000), ('stations', 1_000), ('number', 999_999_999):
-        words.add_argument(f'--{name}', type=whole_between(1, most), metavar='N')
+        words.add_argument(f'--{name}', type=whole_between(1, most), metavar='N', help=f'from 1 to {most}')
     given = words.parse_args(asked)
     usual = USUAL[given.shape]
     sizes = Sizes(*(getattr(given, name) or getattr(usual, name) for name in ('lines', 'trains', 'stations', 'number')))

@@ -1,4 +1,4 @@
-"""Solution files of CBC and of GLPK, read: which variables of a programme are 1."""
+"""Reads solution files of CBC and of GLPK: which variables of a programme are 1."""
 from __future__ import annotations
 
 import re

@@ -1,20 +1,20 @@
 #!/usr/bin/env python3
 """Cuts a network at boundary stops into regions, each for a server of its own: split.py NET STOPS DIR [--regions N]
 
-NET is the folder of a network, STOPS the ids of the boundary stops, with commas between. An activity between two events at boundary
-stops may be cut, but for drives and pairs of headways; every other one holds its events together, and so the parts are told. With
---regions the parts, in the order of their least stops, are put together into N regions of about as many events each; without it each
-part is a region.
+NET is the folder of a network, and STOPS are the ids of the boundary stops, separated by commas. The script may cut an activity
+between two events at boundary stops, but never a drive or a pair of headways. Every other activity holds its events together. So
+the network falls into parts. Without --regions each part is a region. With it the script puts the parts together into N regions
+of about as many events each, in the order of their least stops. It refuses more regions than there are parts.
 
-DIR/region-1, region-2 and so on get a folder `net` with the two files of a network, and `Boundary.csv` with a record for each
-activity that was cut and whose tail is in the region: `event here;region here;region there;event there;lower bound;scheduled time
-there`. No event is lost, and each activity stands in one region or in one table. A change that is cut is kept for ever, as a wait
-is: a table knows no choices. More regions than there are parts are refused.
+DIR/region-1, region-2 and so on get a folder `net` with the two files of a network, and a table `Boundary.csv`. The table has a
+record for each cut activity whose tail is in the region: `event here;region here;region there;event there;lower bound;scheduled
+time there`. Each event is in one region. Each activity is in one region or in one table. A change that is cut is kept for ever,
+as a wait is, because a table knows no choices.
 
-With --date=DAY NET is a timetable in GTFS, which may be too large for one network: split.py FEED STOPS DIR --date=DAY [OPTION..]. STOPS
-are its stop_ids then, and further options are those of from_gtfs.py. Each region's folder gets the files of names, too.
+With --date=DAY NET is a timetable in GTFS, which may be too large for one network: split.py FEED STOPS DIR --date=DAY [OPTION..].
+Then STOPS are its stop_ids, and the further options are those of from_gtfs.py. Each region's folder gets the files of names, too.
 
-A region that is too large for the program is refused: status 2, as for files that are no network.
+The status is 2 if a region would be too large for the program, or if a file is not good.
 """
 from __future__ import annotations
 
@@ -214,11 +214,11 @@ def cut(given: argparse.Namespace, options: Sequence[str]) -> None:
 
 def main(asked: Optional[Sequence[str]] = None) -> int:
     words = command_line(__doc__, allow_abbrev=False)
-    words.add_argument('net', metavar='NET', help='folder with Events-expanded.giv and Activities-expanded.giv, or with --date a feed')
-    words.add_argument('stops', metavar='STOPS', help='ids of the boundary stops, as 6,17')
-    words.add_argument('dir', metavar='DIR', help='where the regions go')
-    words.add_argument('--regions', type=whole_between(1, MOST_REGIONS), metavar='N', help='how many regions; by default each part is one')
-    words.add_argument('--date', metavar='DAY', help='a service day of a timetable in GTFS, as 20261224')
+    words.add_argument('net', metavar='NET', help='folder of a network, or with --date a timetable in GTFS')
+    words.add_argument('stops', metavar='STOPS', help='ids of the boundary stops, such as 6,17')
+    words.add_argument('dir', metavar='DIR', help='folder for the regions')
+    words.add_argument('--regions', type=whole_between(1, MOST_REGIONS), metavar='N', help='number of regions (as many as parts)')
+    words.add_argument('--date', metavar='DAY', help='service day of a timetable in GTFS, such as 20261224')
     given, options = words.parse_known_args(asked)
     if options and given.date is None:
         words.error(f'unrecognized arguments: {" ".join(options)}')

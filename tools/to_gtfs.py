@@ -3,20 +3,22 @@
 
     python3 tools/to_gtfs.py NET TEXT DIR [--feed FEED]
 
-NET is a network that from_gtfs.py made, with Events.csv and Trains.csv, and TEXT the text of a run over it. DIR gets
+NET is a network that from_gtfs.py made, with Events.csv and Trains.csv. TEXT is the text of a run over it. DIR gets
 
-  stop_times.txt  the calls of each train with the times that hold after all entries of the run; times past midnight count on
+  stop_times.txt  the calls of each train, with their times after all entries of the run. Times past midnight count on
   delays.csv      a line for each train: how late it leaves its first stop and reaches its last one, and where it is latest, in
-                  seconds against the timetable
+                  seconds after the timetable
 
-A train that a frequency made is named as TRIP@06:30:00: a feed that takes these lines needs such a trip in trips.txt, and no
-frequency of TRIP. A network has no arrival at the first stop of a train and no departure from the last one. With --feed, the feed
-that the network was made of, a train stands there as long as the feed says; without, the two times of such a call are the same.
+A train that a frequency made has a name such as TRIP@06:30:00. To use these lines in a GTFS feed, add such a trip to trips.txt,
+and remove the frequency of TRIP. A network has no arrival at the first stop of a train, and no departure from the last one. With
+--feed give the timetable that the network was made of: a train then stands there as long as FEED says. Without it the two times
+of such a call are the same.
 
-Times of GTFS do not fall within a trip. Where a train has passed a stop before it should have left an earlier one, by what was told,
-it has left by then: the earlier times are written as the time at which it passed, and the trip is told on standard error.
+Times of GTFS do not decrease within a trip. If a run shows that a train has passed a stop before it leaves an earlier one, it has
+left the earlier one by then. The script then writes the time of the later stop for the earlier one, and names the trip on
+standard error.
 
-The status is 0; or 2, and no file is written, where a file is not as it should be.
+The status is 0. It is 2, and no file is written, if a file is not good.
 """
 from __future__ import annotations
 
@@ -167,10 +169,11 @@ def texts_of(net: str, text: str, feed: Optional[str]) -> tuple[dict[str, str], 
 
 def main(given: Optional[Sequence[str]] = None) -> int:
     words = command_line(__doc__, allow_abbrev=False)
-    words.add_argument('net', metavar='NET', help='the folder of a network, with its names')
+    words.add_argument('net', metavar='NET', help='folder of a network, with its files of names')
     words.add_argument('text', metavar='TEXT', help='the text of a run over it')
-    words.add_argument('folder', metavar='DIR', help='where the files are written')
-    words.add_argument('--feed', metavar='FEED', help='the feed that the network was made of, which says how long trains stand at their ends')
+    words.add_argument('folder', metavar='DIR', help='folder for the two files')
+    stays = 'timetable that the network was made of; it says how long trains stand at their ends'
+    words.add_argument('--feed', metavar='FEED', help=stays)
     read = words.parse_args(given)
     try:
         texts, said = texts_of(read.net, read.text, read.feed)

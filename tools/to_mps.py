@@ -1,12 +1,13 @@
 #!/usr/bin/env python3
 """Writes the choices of a run's rows as a mixed integer programme: to_mps.py NET TEXT [--at=N] [--lp] [--from=F --to=T] > FILE
 
-NET is the folder of a network, TEXT the text of a run over it. The programme is of the rows after N entries, after all by default: what
-it costs least is what the best choices cost, at the penalty of the text. It is printed in free MPS form, or in LP form. With --from and
---to only the choices in that window are free, as the command `window` takes them; the others stay as they are.
+NET is the folder of a network, and TEXT the text of a run over it. The programme is about the rows after N entries, or after all.
+Its least solution costs what the best choices cost, at the penalty of TEXT. The script prints it in free MPS form, or with --lp
+in LP form. With --from and --to only the choices in that window are free, as in the command `window`. The others stay as they
+are.
 
-tools/from_sol.py brings a solution back, tools/programme.py says what the names mean, docs/MODEL.md has the formulas. The status is 2
-where a file or a text is not good.
+tools/from_sol.py turns a solution back into lines. tools/programme.py says what the names mean, and docs/MODEL.md has the
+formulas. The status is 2 if a file or a text is not good.
 """
 from __future__ import annotations
 
@@ -30,7 +31,7 @@ def add_rows_words(words: argparse.ArgumentParser) -> None:
     """The words that name rows: a network, a text, and what the run was given."""
     add_network(words)
     words.add_argument('text', metavar='TEXT', help='the text of a run over it')
-    words.add_argument('--at', type=whole_between(0, 1_000_000), metavar='N', help='after how many entries; all by default')
+    words.add_argument('--at', type=whole_between(0, 1_000_000), metavar='N', help='number of entries (all)')
     add_delays(words)
 
 
@@ -46,8 +47,8 @@ def read_rows(given: argparse.Namespace) -> tuple[Network, Rows, list[Entry], in
 
 
 def add_window_words(words: argparse.ArgumentParser) -> None:
-    words.add_argument('--from', dest='start', type=whole_between(0, LATEST), metavar='F', help='the first time of a window')
-    words.add_argument('--to', dest='end', type=whole_between(0, LATEST), metavar='T', help='the last time of a window')
+    words.add_argument('--from', dest='start', type=whole_between(0, LATEST), metavar='F', help='first second of a window')
+    words.add_argument('--to', dest='end', type=whole_between(0, LATEST), metavar='T', help='last second of a window')
 
 
 def window_of(words: argparse.ArgumentParser, given: argparse.Namespace) -> Optional[Window]:

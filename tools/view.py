@@ -1,12 +1,18 @@
 #!/usr/bin/env python3
-"""Makes one page of a run, to be opened in a browser: view.py NET TEXT > day.html
+"""Makes one page of a run for a browser: view.py NET TEXT > day.html
 
-NET is the folder of a network, TEXT the text of a run over it. The page loads nothing from elsewhere, and runs no script but its
-own, whatever stands in names. It shows the time-distance diagrams of the eight busiest lines (as diagram.py draws them) with zoom
-and pan by mouse, touch and keys; a box that finds a train, a trip, an event or a stop; the run of a train and the board of a stop
-(scheduled, now, late); the journal with each reply; each plan with its choices and its tree as a list that folds, with bounds; and
-the cost by late arrivals, dropped changes and missed ones. It works by keyboard, in light and dark, and on a narrow screen. Names
-come from NET/Stops.csv and NET/Trains.csv where these are there.
+NET is the folder of a network, and TEXT the text of a run over it. The page loads nothing from elsewhere, and runs no script but
+its own, whatever stands in names. It shows
+
+    the time-distance diagrams of the eight busiest lines, as diagram.py draws them; zoom and move them by mouse, touch or keys
+    a box that finds a train, a trip, an event or a stop
+    the run of a train, and the board of a stop: scheduled, now, late
+    the journal, with each reply
+    each plan: its choices, and its tree as a list that folds, with the bounds
+    the cost: of late arrivals, of dropped changes and of missed ones
+
+The page works by keyboard, in light and dark, and on a narrow screen. Names come from NET/Stops.csv and NET/Trains.csv, if these
+files exist.
 """
 from __future__ import annotations
 

@@ -1,4 +1,4 @@
-"""Words of command lines that several tools read; argparse tells what is wrong with one."""
+"""Words of command lines that several tools read. argparse says what is wrong with one."""
 from __future__ import annotations
 
 import argparse
@@ -15,12 +15,13 @@ def command_line(page: Optional[str], allow_abbrev: bool = True) -> argparse.Arg
 
 
 def add_network(words: argparse.ArgumentParser) -> None:
-    words.add_argument('net', metavar='NET', help='folder with Events-expanded.giv and Activities-expanded.giv')
+    words.add_argument('net', metavar='NET', help='folder of a network, with Events-expanded.giv and Activities-expanded.giv')
 
 
 def add_delays(words: argparse.ArgumentParser) -> None:
-    words.add_argument('--event-delays', metavar='NAME', help='delays of events at the start, as given to the run')
-    words.add_argument('--activity-delays', metavar='NAME', help='delays of activities at the start, as given to the run')
+    words.add_argument('--event-delays', metavar='NAME', help='file in NET with delays of events at the start, if any')
+    activities = 'file in NET with delays of activities at the start, if any'
+    words.add_argument('--activity-delays', metavar='NAME', help=activities)
 
 
 def add_run(words: argparse.ArgumentParser) -> None:
