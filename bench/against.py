@@ -1,20 +1,24 @@
 #!/usr/bin/env python3
 """Sets plans of the server beside solutions of CBC and GLPK: python3 bench/against.py DISPATCHER [DAY ..] [OPTION..]
 
-A DAY is TRAINS:NUMBER, a day of bench/day.py after its 500 delays, or TRAINS:NUMBER:FROM:TO, the choices of a window of it, or
-SHAPE:NUMBER, a network of tools/shapes.py with delays as tools/scenarios.py draws them. By default they are days of 20 to 2,000
-trains with the numbers 1 to 9, windows of 10, 20 and 40 minutes on days of 2,000 trains, and a day of each shape. The penalty is 3600
-and a plan has 16,384 nodes. CBC and GLPK (Debian's coinor-cbc and glpk-utils) solve the programme of tools/to_mps.py, each for --limit
-seconds at most (60), CBC of processor, GLPK of the clock; GLPK with all of its cuts. Where one is not there its column says so; with
---solvers=CBC that one alone is asked.
+A DAY is one of these:
 
-Each line of the table printed has the cost in millions, the bound and the gap where it is not proved to be the least, the seconds of
-processor (of a run with the plan less one without; of a window the whole command; of a solver without to_mps.py) and the most memory.
-What a solver or a window chose is said to the server by tools/from_sol.py's order of lines, so that each cost is the server's, and
-`check` judges each text.
+    TRAINS:NUMBER            a day of bench/day.py after its 500 delays
+    TRAINS:NUMBER:FROM:TO    the choices of a window of such a day
+    SHAPE:NUMBER             a network of tools/shapes.py with delays of tools/scenarios.py
 
-The status is 1 where two that prove the least cost differ, a bound is above what another found, or choices cost more than the solver
-says of them; a line tells it.
+By default there are days of 20 to 2,000 trains with the numbers 1 to 9, windows of 10, 20 and 40 minutes on days of 2,000 trains,
+and a day of each shape. The penalty is 3600, and a plan has 16,384 nodes. CBC and GLPK (Debian's coinor-cbc and glpk-utils) solve
+the programme of tools/to_mps.py. Each gets at most --limit seconds (60): CBC of processor, GLPK by the clock. GLPK uses all of
+its cuts. If a solver is not installed, its column says so. --solvers=CBC asks only that one.
+
+Each line of the table has the cost in millions, the bound and the gap if the cost is not proved to be the least, the seconds of
+processor, and the most memory. The seconds are those of a run with the plan less one without it, for a window those of the whole
+command, and for a solver those without to_mps.py. What a solver or a window chose is entered in the server, in the order of
+tools/from_sol.py. So each cost is the server's. `check` judges each text.
+
+The status is 1 if two that prove the least cost differ, if a bound is above a cost that another one found, or if choices cost
+more than the solver says. A line says which.
 """
 from __future__ import annotations
 
@@ -243,9 +247,9 @@ def main() -> int:
     words = command_line(__doc__)
     words.add_argument('dispatcher', metavar='DISPATCHER', help='the built program')
     words.add_argument('days', nargs='*', metavar='DAY', help='TRAINS:NUMBER, TRAINS:NUMBER:FROM:TO or SHAPE:NUMBER')
-    words.add_argument('--limit', type=int, default=60, metavar='S', help='seconds for each solver and day')
+    words.add_argument('--limit', type=int, default=60, metavar='S', help='seconds for each solver and day (60)')
     words.add_argument('--solvers', default=','.join(SOLVERS), metavar='S,S', help=f'({",".join(SOLVERS)})')
-    words.add_argument('--csv', metavar='FILE', help='where the numbers go, too')
+    words.add_argument('--csv', metavar='FILE', help='file that also gets the numbers')
     given = words.parse_args()
     solvers = given.solvers.split(',')
     if not set(solvers) <= set(SOLVERS):

@@ -2,13 +2,13 @@
 
     python3 bench/architecture.py [--write] [--page FILE].. [--crates FILE]
 
-Each crate of crates.txt must stand in the map, a block of lines `CRATE: CRATE..`, and must have one row in the table or be named in
-the paragraph that begins with `Tests:`. The map gives each crate its nearest crates, those of its line in crates.txt that no other of
-the line leads to. The pages must name no crate that crates.txt does not have. In a name two points stand for any letters:
-`dm_.._cases` is every crate of cases. Status 0 where nothing differs, else 1.
+Each crate of crates.txt must stand in the map, a block of lines `CRATE: CRATE..`. It must also have one row in the table, or be
+named in the paragraph that begins with `Tests:`. The map gives each crate its nearest crates: those of its line in crates.txt to
+which no other crate of the line leads. The pages may name no crate that crates.txt does not have. In a name two points stand for
+any letters: `dm_.._cases` is every crate of cases. The status is 0 if nothing differs, else 1.
 
-With --write the edges of the map are written anew, a line for each crate: people say in which wing a crate stands, and the script what
-it stands on.
+With --write the script writes the edges of the map anew, a line for each crate. People say in which wing a crate stands, and the
+script says on what it stands.
 """
 
 import re
@@ -128,9 +128,9 @@ def differences(page: Page, crates: dict[str, set[str]]) -> list[str]:
 
 def main() -> int:
     parser = command_line(__doc__)
-    parser.add_argument("--page", dest="pages", action="append", type=Path, help="a page; by default the three")
+    parser.add_argument("--page", dest="pages", action="append", type=Path, help="a page (these three)")
     parser.add_argument("--write", action="store_true", help="write the edges of the map")
-    parser.add_argument("--crates", type=Path, default=REPOSITORY / "crates.txt")
+    parser.add_argument("--crates", type=Path, default=REPOSITORY / "crates.txt", help="list of the crates (crates.txt)")
     asked = parser.parse_args()
     crates = crates_of(asked.crates.read_text(encoding="utf-8"))
     pages = asked.pages or [REPOSITORY / "docs/ARCHITECTURE.md", REPOSITORY / "docs/CRATES.md", REPOSITORY / "docs/CHANGING.md"]

@@ -1,9 +1,9 @@
 #!/usr/bin/env python3
 """Times the checking of runs: python3 bench/check.py DAY DISPATCHER [COUNTRY]
 
-DAY is a folder that day.py wrote, COUNTRY one that country.py wrote, and DISPATCHER a built dispatcher. Each row runs feeds, checks the
-text that the run printed, and gives the least processor time of both, the ratio, and that of the most memory. Both are bounded: the
-times as below, the memory by 2.5.
+DAY is a folder that day.py wrote, COUNTRY one that country.py wrote, and DISPATCHER the built program. Each row runs feeds, and
+checks the text of the run. It has the least processor time of both, the ratio of `check` to the run, and the ratio of the most
+memory. A ratio of times has a bound, as below. The ratio of memory has the bound 2.5.
 
     day        delays      a full feed of delays                      0.8
                mixed       a full feed of mixed lines                 1.3
@@ -11,8 +11,9 @@ times as below, the memory by 2.5.
     country    questions, delays, activity-delays, drops, keeps       1.5
                feeds       1, 4, 16 and 64 full feeds at once         1.5
 
-With COUNTRY, one record of the text of four feeds is replaced at the front, in the middle and at the end of the logs: each such text is
-judged in no more than 1.1 times the time of the good one. A ratio over its bound is marked, and the status is then 1.
+With COUNTRY the script also replaces one record of the text of four feeds: at the front, in the middle and at the end of the
+logs. To judge such a text may take at most 1.1 times as long as to judge the good one. A ratio over its bound is marked, and the
+status is then 1.
 """
 from __future__ import annotations
 
@@ -93,9 +94,9 @@ class Bench:
 
 def main() -> None:
     words = command_line(__doc__)
-    words.add_argument('day', metavar='DAY')
+    words.add_argument('day', metavar='DAY', help='folder that day.py wrote')
     add_program(words)
-    words.add_argument('countries', metavar='COUNTRY', nargs='*')
+    words.add_argument('countries', metavar='COUNTRY', nargs='*', help='folder that country.py wrote')
     given = words.parse_args()
     bench = Bench(given.program)
     for row in DAY:

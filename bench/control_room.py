@@ -1,13 +1,16 @@
 #!/usr/bin/env python3
-"""Works at the dispatcher's desk in a browser without a window: python3 bench/control_room.py DISPATCHER [--trains=40] [--pictures=FOLDER]
+"""Works at the dispatcher's desk in a browser without a window:
 
-Over a generated day it starts a server (`serve`) with two feeds and the desk's page, and drives Debian's `chromium` through a control
-room's work: a delay is told on the page, and the reply, the train and the board are seen to move; a plan is asked for, compared and
-adopted, or found old; a correction is taken back; a window and the waiting rules are tried beside the day; names that are scripts do
-nothing; what comes from another origin, without a token, too long or of a path upwards is refused; the server is killed and started
-again while the page is open. Then it measures: the first picture, an entry from the feed to the screen, ten pages at once, memory.
+    python3 bench/control_room.py DISPATCHER [--trains=40] [--pictures=FOLDER]
 
-What differs is printed, and the status is then 1. With a FOLDER the page's pictures by day and by night are left there.
+Over a generated day it starts a server (`serve`) with two feeds, and the desk. With Debian's `chromium` it does a control room's
+work. It reports a delay on the page, and sees the reply, the train and the board move. It asks for a plan, compares it, and
+adopts it, or finds it old. It takes a correction back. It tries a window and the waiting rules. It looks that names which are
+scripts do nothing. It sends what must be refused: requests from another origin, without a token, too long, or with a path
+upwards. It kills the server and starts it again while the page is open. Then it measures the first picture, an entry from the
+feed to the screen, ten pages at once, and memory.
+
+It prints what differs, and the status is then 1. With --pictures it leaves pictures of the page in FOLDER, by day and by night.
 """
 from __future__ import annotations
 
@@ -420,9 +423,9 @@ def tried(given: argparse.Namespace, folder: str) -> bool:
 def arguments() -> argparse.Namespace:
     words = command_line(__doc__)
     add_program(words)
-    words.add_argument('--trains', type=whole_between(40, 2_000), default=40, metavar='N', help='(40)')
-    words.add_argument('--pictures', metavar='FOLDER', help='where pictures of the page are left')
-    words.add_argument('--only-measured', action='store_true', help='leaves the work out')
+    words.add_argument('--trains', type=whole_between(40, 2_000), default=40, metavar='N', help='trains of the day (40)')
+    words.add_argument('--pictures', metavar='FOLDER', help='folder for pictures of the page')
+    words.add_argument('--only-measured', action='store_true', help='measure only')
     return words.parse_args()
 
 

@@ -1,10 +1,11 @@
 #!/usr/bin/env python3
 """Measures the converters of GTFS-Realtime: python3 bench/converters.py DISPATCHER [--trips=2630]
 
-A timetable of so many trips by twenty calls is made, a network of 38 events a trip, which may have 100,000; and a day on which a
-hundred trains are late. Printed are the seconds of processor and the most memory of gtfs_rt_out.py, which writes all trips, and of
-gtfs_rt_in.py, which reads a message of 3,000 trips, of which it tells those that the network has not, beside the feed of the day. Then
-come the seconds of their parts, as with --every: what a converter reads once, its first message, and one a minute later.
+It makes a timetable of so many trips with twenty calls each, and a day on which a hundred trains are late. The network has 38
+events a trip, and may have 100,000. It prints the seconds of processor and the most memory of both converters. gtfs_rt_out.py
+writes all trips. gtfs_rt_in.py reads a message of 3,000 trips beside the feed of the day, and reports those that are not in the
+network. Then it prints the seconds of their parts, as with --every: what a converter reads once, its first message, and one a
+minute later.
 """
 from __future__ import annotations
 
@@ -75,7 +76,7 @@ def parts_of_out(net: str, text: str, out: str) -> None:
 def main() -> int:
     words = command_line(__doc__)
     words.add_argument('dispatcher', metavar='DISPATCHER', help='the built program')
-    words.add_argument('--trips', type=whole_between(1, 2_631), default=2_630, metavar='N', help='(2630)')
+    words.add_argument('--trips', type=whole_between(1, 2_631), default=2_630, metavar='N', help='number of trips (2630)')
     given = words.parse_args()
     with tempfile.TemporaryDirectory() as folder:
         source, net, feed, text, out, more = (os.path.join(folder, name) for name in ('gtfs', 'net', 'feed', 'text', 'out.pb', 'more.pb'))

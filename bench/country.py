@@ -1,15 +1,16 @@
 #!/usr/bin/env python3
 """Writes the largest network and feeds to it into a folder: python3 bench/country.py NUMBER FOLDER
 
-FOLDER gets net/Events-expanded.giv and net/Activities-expanded.giv of 5,000 trains over ten legs each: 100,000 events and 500,000
-activities, of which 310,000 are changes and 95,000 headways in pairs; and, drawn from NUMBER,
+FOLDER gets net/Events-expanded.giv and net/Activities-expanded.giv of 5,000 trains over ten legs each. They have 100,000 events
+and 500,000 activities. Of these 310,000 are changes, and 95,000 are headways in pairs. FOLDER also gets these feeds, drawn from
+NUMBER:
 
     empty          nothing
     feed1 .. 16    262,144 bytes each: delays of events and activities, changes kept and dropped, questions for times and costs
     questions      questions for times and costs alone, as many as a feed may hold
     delays, activity-delays, drops, keeps      3,000 lines of one kind each
 
-A train leaves every 12 seconds. Every fortieth train shares its tracks, and changes lead to departures 3 to 30 minutes later.
+A train leaves every 12 seconds. Every fortieth train shares its tracks. Changes lead to departures 3 to 30 minutes later.
 """
 from __future__ import annotations
 
@@ -109,8 +110,8 @@ def mixed(draws: Draws, changes_of: list[int]) -> Iterator[str]:
 
 def main() -> None:
     words = command_line(__doc__)
-    words.add_argument('number', metavar='NUMBER', type=int)
-    words.add_argument('folder', metavar='FOLDER')
+    words.add_argument('number', metavar='NUMBER', type=int, help='number from which all is drawn')
+    words.add_argument('folder', metavar='FOLDER', help='folder for the network and the feeds')
     given = words.parse_args()
     folder, draws = given.folder, Draws(given.number)
     changes_of = write_network(draws, os.path.join(folder, 'net'))

@@ -1,16 +1,16 @@
 #!/usr/bin/env python3
 """Runs 64 feeds at once, again and again: python3 bench/crowd.py DISPATCHER [RUNS] [--beside=N]
 
-Each of RUNS runs (10,000 where none are given) answers 64 feeds of ten lines each, drawn from its number, over a generated day of
-20 trains, with batches of 1, 3, 16 and 1,000 lines in turn; N runs go on beside each other (by default as many as there are
-processors). Of each run
+There are RUNS runs (10,000 if not given). Each answers 64 feeds of ten lines each, drawn from its number, over a generated day of
+20 trains. The batches are of 1, 3, 16 and 1,000 lines in turn. N runs go on at the same time (as many as there are processors).
+Of each run
 
     it ends with status 0 within a minute
-    `DISPATCHER check` tells its text good
+    `DISPATCHER check` finds its text good
     each log answers all ten lines, and ends with `end`
     the logs keep to rounds of the batch
 
-What differs is printed with the folder of its feeds, which is left there, and the status is then 1.
+The script prints what differs, with the folder of its feeds, which stays there. The status is then 1.
 """
 from __future__ import annotations
 
@@ -96,8 +96,8 @@ def tried(program: str, net: str, number: int) -> bool:
 def arguments() -> argparse.Namespace:
     words = command_line(__doc__)
     add_program(words)
-    words.add_argument('runs', metavar='RUNS', nargs='?', type=int, default=RUNS)
-    words.add_argument('--beside', metavar='N', type=int, default=os.cpu_count())
+    words.add_argument('runs', metavar='RUNS', nargs='?', type=int, default=RUNS, help='number of runs (%(default)s)')
+    words.add_argument('--beside', metavar='N', type=int, default=os.cpu_count(), help='runs at the same time (all processors)')
     return words.parse_args()
 
 

@@ -1,13 +1,13 @@
-"""Runs the commands of the pages, and says which printed texts differ from those that stand in the pages.
+"""Runs the commands of the pages, and compares what they print with the texts on the pages.
 
     python3 bench/docs.py DISPATCHER [PAGE..]
 
-DISPATCHER is a built program. Each page runs in a copy of the repository of its own, its `sh` blocks one after the other in one
-working directory, with the script at the top as `dispatcher` and the program as crates/dispatcher/out/dispatcher. Each block that is no `sh` block must
-stand, its lines in their order, in what the page's commands printed or wrote so far, or in a file that the page names; or it is
-written, where the paragraph above it names a file that is not there. A text that depends on
-how two feeds come out is tried again, up to five times. Blocks that prove or build,
-that serve until somebody ends them, or that name a place to fill in, are left out.
+DISPATCHER is the built program. Each page has a copy of the repository of its own. There its `sh` blocks run one after the other
+in one working directory, with the script at the top as `dispatcher`, and the program as crates/dispatcher/out/dispatcher. The
+lines of every other block must stand, in their order, in what the page's commands printed or wrote so far, or in a file that the
+page names. Or the paragraph above the block names one file that does not exist: then the block is written into it. If a text
+depends on how two feeds come out, the page is tried again, up to five times. Blocks that prove or build, that serve until
+somebody ends them, or that name a place to fill in, are left out. The status is 1 if something differs.
 """
 
 import os
@@ -153,8 +153,8 @@ def judged(dispatcher: Path, name: str) -> list[str]:
 
 def main() -> int:
     parser = command_line(__doc__)
-    parser.add_argument("dispatcher", type=Path)
-    parser.add_argument("pages", nargs="*", help="pages, from the top of the repository; all by default")
+    parser.add_argument("dispatcher", type=Path, help="the built program")
+    parser.add_argument("pages", nargs="*", help="pages, from the top of the repository (all)")
     asked = parser.parse_args()
     examples = sorted(str(path.relative_to(REPOSITORY)) for path in REPOSITORY.glob("examples/*/README.md"))
     pages = asked.pages or [page for page in [*PAGES, *examples] if (REPOSITORY / page).is_file()]

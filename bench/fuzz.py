@@ -1,20 +1,21 @@
 #!/usr/bin/env python3
-"""Small networks and feeds drawn by number, the program beside the judge: python3 bench/fuzz.py DISPATCHER FROM TO
+"""Draws small networks and feeds by number, and compares the program with the judge: python3 bench/fuzz.py DISPATCHER FROM TO
 
-DISPATCHER is a built dispatcher. For each number from FROM to below TO it draws a network of up to 16 events, a penalty, a batch
-and one to three feeds of every kind of line, some of them refused or malformed, and runs the program. Of the text that comes:
+DISPATCHER is the built program. For each number from FROM to below TO the script draws a network of up to 16 events, a penalty, a
+batch, and one to three feeds of every kind of line, some of them refused or malformed. It runs the program. Of the text
 
-    the judge (judge.py) tells it good
-    each log has the due lines of its feed, read here anew, and ends with `end`
+    the judge (judge.py) finds it good
+    each log has the due lines of its feed, which the script reads anew, and ends with `end`
     the logs keep to rounds of the batch
 
-Then `DISPATCHER check` is to tell what the judge tells of the text, of what it is in version 1, and of twelve texts made from these
-two by small changes: of a number, of a byte, of words, lines left out, put elsewhere and swapped, fronts, bytes behind the end.
+Then `DISPATCHER check` has to say what the judge says, of the text, of its version 1, and of twelve texts that are made from
+these two by small changes: a number, a byte or words are changed; lines are left out, moved or swapped; a text is cut off, or has
+bytes after its end.
 
-Each number in which something differs is printed with what does and the folder of its files. Where the verdicts on a text differ,
-it is the file `text` there. The status is then 1.
+The script prints each number in which something differs, with what differs and the folder of its files. If the verdicts on a text
+differ, it is the file `text` there. The status is then 1.
 
-Left out: boards, delay files, column words, more than three feeds, and feeds that cannot be read or are too long.
+Left out are boards, delay files, column words, more than three feeds, and feeds that cannot be read or are too long.
 """
 from __future__ import annotations
 
@@ -362,8 +363,8 @@ class Fuzz:
 def main() -> None:
     words = command_line(__doc__)
     add_program(words)
-    words.add_argument('begin', metavar='FROM', type=int)
-    words.add_argument('end', metavar='TO', type=int)
+    words.add_argument('begin', metavar='FROM', type=int, help='first number')
+    words.add_argument('end', metavar='TO', type=int, help='number before which to end')
     given = words.parse_args()
     fuzz, differing = Fuzz(given.program), 0
     for number in range(given.begin, given.end):

@@ -1,20 +1,21 @@
 #!/usr/bin/env python3
-"""Tells what proving costs: python3 bench/gate.py run [--anew] [CRATE..], or python3 bench/gate.py functions [--most N] [CRATE..],
+"""Says what proving costs: python3 bench/gate.py run [--anew] [CRATE..], or python3 bench/gate.py functions [--most N] [CRATE..],
 or python3 bench/gate.py states [--most N] [CRATE..]
 
-All run at the top of a clone. `run` runs `rt ci` with these words, passes on what it prints, and ends with its status.
+All three run at the top of a clone. `run` runs `rt ci` with these words, passes on what it prints, and ends with its status.
 Meanwhile it looks at the prover's processes each second, and adds up the processor time of each crate: of its own proof, of its
-tests and of its edits. What an earlier run on the machine has kept costs nothing and has no row; with --anew all is proved. Below
-stands the longest way: crates that wait one for the other, lowest first, whose proofs take most. No run from nothing ends sooner.
+tests and of its edits. What an earlier run on the machine has kept costs nothing, and has no row. With --anew all is proved.
+Below stands the longest way: the crates that wait for each other, lowest first, whose proofs take most. No run from nothing ends
+sooner.
 
-`functions` tells where a first check's time went. Such a check, as `rt check` in a crate's folder that has no out/, or `rt all
-check --jobs 4` for all below one, writes a file of out/incremental as each part of a proof ends. The step from one file to the
-next is the time of the part, a little blurred where several jobs ran. A row gives a crate's seconds and those of its dearest
-kinds of parts: `Lts` are the states that a function can be in (many owned values with a derived `Drop` make many), `Proof`,
-`Goals` and `Tie` what is proved of them. A later check writes files anew and tells nothing.
+`functions` says where the time of a first check went. A first check is `rt check` in the folder of a crate that has no out/, or
+`rt all check --jobs 4` for all crates below one. It writes a file of out/incremental when each part of a proof ends. The step
+from one file to the next is the time of the part, a little blurred if several jobs ran. A row has a crate's seconds, and those of
+its dearest kinds of parts. `Lts` are the states in which a function can be: many owned values with a derived `Drop` make many.
+`Proof`, `Goals` and `Tie` are what is proved of them. A later check writes the files anew, so that they say nothing.
 
-`states` tells which functions have the most states, by how many thousands of bytes the prover writes of them: on a busy machine,
-with several jobs and after later checks too.
+`states` says which functions have the most states, by the thousands of bytes that the prover writes about them. It can be used on
+a busy machine, with several jobs, and after later checks, too.
 """
 import os
 import subprocess
@@ -228,13 +229,13 @@ def part_rows(parts: Iterable[Part], most: int) -> list[str]:
 def main() -> int:
     parser = command_line(__doc__)
     verbs = parser.add_subparsers(dest='verb', required=True)
-    whole = verbs.add_parser('run', help='runs rt ci and tells what each crate has cost')
-    whole.add_argument('--anew', action='store_true', help='proves what earlier runs have kept, too')
-    whole.add_argument('crates', nargs='*', metavar='CRATE')
+    whole = verbs.add_parser('run', help='run rt ci, and say what each crate costs')
+    whole.add_argument('--anew', action='store_true', help='also prove what earlier runs have kept')
+    whole.add_argument('crates', nargs='*', metavar='CRATE', help='only these crates')
     for verb, told in (('functions', 'which parts of first checks took long'), ('states', 'which functions have the most states')):
         kept = verbs.add_parser(verb, help=f'tells {told}')
-        kept.add_argument('--most', type=int, default=30, metavar='N', help='how many are told')
-        kept.add_argument('crates', nargs='*', metavar='CRATE')
+        kept.add_argument('--most', type=int, default=30, metavar='N', help='how many to print (30)')
+        kept.add_argument('crates', nargs='*', metavar='CRATE', help='only these crates')
     asked = parser.parse_args()
     if asked.verb == 'run':
         return run(['--anew'] * asked.anew + asked.crates)

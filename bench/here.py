@@ -1,4 +1,4 @@
-"""What the scripts of this folder begin with: where the repository stands, the modules of tools/, and the words of a command."""
+"""What the scripts of this folder share: where the repository is, the modules of tools/, and the words of a command."""
 import os
 import sys
 

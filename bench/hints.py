@@ -1,9 +1,9 @@
 #!/usr/bin/env python3
-"""Makes the mistakes of a new user, one after another, and compares what is said of each: python3 bench/hints.py DISPATCHER
+"""Makes a new user's mistakes, one after another, and compares what the program says: python3 bench/hints.py DISPATCHER
 
-DISPATCHER is a built dispatcher. Each case runs it in a folder of its own on the connection at one station, and names the status,
-and the lines that the standard error must have in their order, without `dispatcher: ` in front; `...` stands for any lines. What is
-said of a run that is all well is nothing. The status is 1 where a case differs.
+DISPATCHER is the built program. Each case runs it in a folder of its own, on two trains that meet at one station. The case names
+the status, and the lines that standard error must have in their order, without `dispatcher: ` in front. `...` stands for any
+lines. If all is well the program says nothing. The status is 1 if a case differs.
 """
 from __future__ import annotations
 

@@ -1,12 +1,13 @@
 #!/usr/bin/env python3
 """Does to a live server what disks and people do: python3 bench/hostile.py DISPATCHER
 
-A day of three feeds is answered, and its server is told to end. Each case begins with a copy of that folder, does something to a
-feed, to the store, to the words or to the server, and starts it again. Each has to end with its status and its line, leave what it
-refuses as it was, and lose no line that was answered: whatever a reply file showed is the front of a later log, or the start is
-refused. `--big` tries 64 feeds of 64 MiB and a million lines at one go besides (10 GB of disk, some minutes).
+A server answers a day of three feeds, and is told to end. Each case begins with a copy of that folder. It does something to a
+feed, to the store, to the words or to the server, and starts the server again. Each start has to end with its status and its
+line, to leave what it refuses as it was, and to lose no line that was answered. So whatever a reply file showed is the beginning
+of a later log, or the start is refused. `--big` also tries 64 feeds of 64 MiB, and a million lines at one go. That needs 10 GB of
+disk and some minutes.
 
-What differs is printed, with the folder, which is left there; the status is then 1.
+The script prints what differs, with the folder, which stays there. The status is then 1.
 """
 from __future__ import annotations
 
@@ -490,9 +491,9 @@ def wrong_cases(given: argparse.Namespace, top: Path) -> Iterator[str]:
 def arguments() -> argparse.Namespace:
     words = command_line(__doc__)
     add_program(words)
-    words.add_argument('--only', metavar='CASE', nargs='*', default=[], help='these cases alone')
-    words.add_argument('--big', action='store_true', help='64 feeds of 64 MiB and a million lines besides')
-    words.add_argument('--disk', metavar='FOLDER', default=None, help='where the folders are made')
+    words.add_argument('--only', metavar='CASE', nargs='*', default=[], help='only these cases')
+    words.add_argument('--big', action='store_true', help='also 64 feeds of 64 MiB, and a million lines')
+    words.add_argument('--disk', metavar='FOLDER', default=None, help='folder in which the cases are made')
     return words.parse_args()
 
 

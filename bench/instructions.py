@@ -1,10 +1,10 @@
 #!/usr/bin/env python3
 """Counts the instructions of runs of a generated day: python3 bench/instructions.py DISPATCHER [BEFORE]
 
-DISPATCHER is a built dispatcher and BEFORE another one, as of the commit before a change. The counts are of callgrind (Debian's
-`valgrind`), in millions, and the same at each run of one feed. The day is that of bench/day.py with number 7 and 2,000 trains. Each
-row with a bound is marked where its count is over it, and the status is 1 then. What is said to be beyond another row is the count
-less that row's:
+DISPATCHER is the built program, and BEFORE another one, as of the commit before a change. The counts are those of callgrind
+(Debian's `valgrind`), in millions. They are the same at each run of one feed. The day is that of bench/day.py with number 7 and
+2,000 trains. A row is marked if its count is over its bound, and the status is then 1. Beyond another row means the count less
+that row's count:
 
     load      the files and an empty feed                  230
     gen       gen 7 2000                                    75
@@ -87,8 +87,8 @@ def counts_of(program: str, folder: str) -> dict[str, float]:
 
 def arguments() -> argparse.Namespace:
     words = command_line(__doc__)
-    words.add_argument('dispatcher', metavar='DISPATCHER', type=whole_path)
-    words.add_argument('before', metavar='BEFORE', nargs='?', type=whole_path)
+    words.add_argument('dispatcher', metavar='DISPATCHER', type=whole_path, help='the built program')
+    words.add_argument('before', metavar='BEFORE', nargs='?', type=whole_path, help='another built program')
     given = words.parse_args()
     if shutil.which('valgrind') is None:
         words.error('there is no valgrind here')

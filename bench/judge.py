@@ -4,12 +4,12 @@
     python3 bench/judge.py DIR TEXT [--penalty=T] [--plans=N] [--event-delays=NAME] [--activity-delays=NAME]
     python3 bench/judge.py --cases FOLDER
 
-The first prints what `dispatcher check` prints of the same words: `good ENTRIES PLANS`, with status 0, or `bad LINE KIND`, with
-status 1. The second judges every case of FOLDER, which is laid out as the data of dm_check_cases, and says which stored verdict
-differs; the status is then 1. docs/FORMATS.md says how a text is written, and docs/MODEL.md what is true.
+The first form prints what `dispatcher check` prints of the same words: `good ENTRIES PLANS` with status 0, or `bad LINE KIND`
+with status 1. The second form judges every case of FOLDER, which is laid out as the data of dm_check_cases. It prints each stored
+verdict that differs, and the status is then 1. docs/FORMATS.md says how a text is written, and docs/MODEL.md what is true.
 
-Left out: the refusals of words, files and networks (tools/railway.py takes the files to be good), the options for the order of columns,
-and the refusal of a text that is too long.
+It does not judge the words, files and networks that the program refuses: tools/railway.py takes the files to be good. It also
+leaves out the options for the order of columns, and the refusal of a text that is too long.
 """
 from __future__ import annotations
 
@@ -318,12 +318,12 @@ def judge_cases(folder: str) -> bool:
 def main() -> None:
     words = command_line(__doc__)
     words.allow_abbrev = False
-    words.add_argument('--cases', metavar='FOLDER')
-    words.add_argument('--penalty', type=int, default=3600)
-    words.add_argument('--plans', type=int, default=STANDARD_PLANS)
-    words.add_argument('--event-delays')
-    words.add_argument('--activity-delays')
-    words.add_argument('names', nargs='*', metavar='DIR TEXT')
+    words.add_argument('--cases', metavar='FOLDER', help='folder of cases')
+    words.add_argument('--penalty', type=int, default=3600, help='penalty of the run in seconds (3600)')
+    words.add_argument('--plans', type=int, default=STANDARD_PLANS, help='plans that a feed may have (%(default)s)')
+    words.add_argument('--event-delays', help='file in DIR with delays of events at the start')
+    words.add_argument('--activity-delays', help='file in DIR with delays of activities at the start')
+    words.add_argument('names', nargs='*', metavar='DIR TEXT', help='folder of a network, and text of a run over it')
     given = words.parse_intermixed_args()
     if given.cases is not None:
         sys.exit(0 if judge_cases(given.cases) else 1)

@@ -1,18 +1,18 @@
 #!/usr/bin/env python3
-"""Kills a server again and again, and tells whether anything was lost: python3 bench/kill.py DISPATCHER [LIVES] [--trains=N]
+"""Kills a server again and again, and says whether anything was lost: python3 bench/kill.py DISPATCHER [LIVES] [--trains=N]
 
-Scripts append to three feeds of a generated day, in pieces that cut lines in two and others that end several at once; one feed
-is silent for long. A server answers them, is killed with SIGKILL after a random time, and is started again, LIVES times (500
-where the words do not say it). The last one is told to end by the file `stop`. Then
+Scripts append to three feeds of a generated day. Some pieces cut lines in two, and others end several lines at once. One feed is
+silent for long. A server answers the feeds, is killed with SIGKILL after a random time, and is started again, LIVES times (500).
+The file `stop` tells the last one to end. Then
 
-    each reply file only grew, by whole bytes, whenever it was looked at, and is the front of its log in the last text
+    each reply file only grew, by whole bytes, whenever it was looked at, and is the beginning of its log in the last text
     each due line of each feed was answered once, in order, up to the last LF
-    `dispatcher text` prints the last text, and every text that it printed beside a server was good and the front of later ones
-    `dispatcher check` tells the last text good
+    `dispatcher text` prints the last text, and each text that it printed beside a server was good and a beginning of later ones
+    `dispatcher check` finds the last text good
     the times are those of the journal's messages in one feed, in their order, answered by a server that nobody kills, and by
-    `dispatcher run` where its feeds may be that long
+    `dispatcher run` if its feeds may be that long
 
-What differs is printed, with the folder, which is left there; the status is then 1.
+The script prints what differs, with the folder, which stays there. The status is then 1.
 """
 import argparse
 import random
@@ -245,14 +245,14 @@ def tried(given: argparse.Namespace, folder: Path) -> str:
 def arguments() -> argparse.Namespace:
     words = command_line(__doc__)
     add_program(words)
-    words.add_argument('lives', metavar='LIVES', nargs='?', type=int, default=LIVES)
-    words.add_argument('--trains', metavar='N', type=int, default=2000)
-    words.add_argument('--seed', metavar='N', type=int, default=1, help='what all is drawn from')
-    words.add_argument('--seconds', metavar='S', type=float, default=2.0, help='the longest life')
-    words.add_argument('--slow', metavar='N', type=float, default=1.0, help='how many times as slowly the feeds grow')
-    words.add_argument('--minutes', metavar='M', type=float, default=600.0, help='no life begins after so many minutes')
-    words.add_argument('--bytes', metavar='N', type=int, default=FEED - 4096, help='the most bytes of a feed')
-    words.add_argument('--disk', metavar='FOLDER', default=None, help='where the folder of the day is made')
+    words.add_argument('lives', metavar='LIVES', nargs='?', type=int, default=LIVES, help='number of lives (%(default)s)')
+    words.add_argument('--trains', metavar='N', type=int, default=2000, help='trains of the day (2000)')
+    words.add_argument('--seed', metavar='N', type=int, default=1, help='number from which all is drawn (1)')
+    words.add_argument('--seconds', metavar='S', type=float, default=2.0, help='longest life in seconds (2)')
+    words.add_argument('--slow', metavar='N', type=float, default=1.0, help='how many times as slowly feeds grow (1)')
+    words.add_argument('--minutes', metavar='M', type=float, default=600.0, help='no life begins after so many minutes (600)')
+    words.add_argument('--bytes', metavar='N', type=int, default=FEED - 4096, help='most bytes of a feed')
+    words.add_argument('--disk', metavar='FOLDER', default=None, help='folder in which the day is made')
     return words.parse_args()
 
 

@@ -1,18 +1,18 @@
 #!/usr/bin/env python3
 """Runs at the limits: python3 bench/limits.py DISPATCHER [CASE..]
 
-DISPATCHER is a built dispatcher. Each case is run at half its size and at its whole size, with a stack of 8 MiB, and then its text
-is checked and its journal followed:
+DISPATCHER is the built program. Each case runs at half its size and at its whole size, with a stack of 8 MiB. Then its text is
+checked, and its journal followed:
 
-    along      a chain of 100,000 events whose ids rise along it, of which the first is delayed
+    along      a chain of 100,000 events whose ids rise along it; the first event is delayed
     against    the same chain with ids that fall along it
     broad      100,000 events with 500,000 activities, five out of each
     feeds      64 feeds of 262,144 bytes of delays: nearly as many entries as a day may have, and a text of some 80 MB
-    deep       a plan whose tree is 8,191 choices deep: each choice has one leaf below it and the next choice beside that
+    deep       a plan whose tree is 8,191 choices deep: each choice has one leaf below it, and beside that the next choice
     long       no run, but the longest text that is checked, 512 MiB: that of a feed of some 28 million malformed lines
 
-A row has the seconds of processor and the most megabytes of each command at either size. Where one ends otherwise than it should,
-or needs more than 2.3 times the memory at twice the size, a line says so and the status is then 1.
+A row has the seconds of processor and the most megabytes of each command at either size. A line says if a command ends otherwise
+than it should, or needs more than 2.3 times the memory at twice the size. The status is then 1.
 """
 from __future__ import annotations
 

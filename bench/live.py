@@ -1,18 +1,18 @@
 #!/usr/bin/env python3
 """Measures a live server over a generated day: python3 bench/live.py DISPATCHER [WHAT..] [--trains=N] [--disk=FOLDER] [--sync=MS]
 
-WHAT is one or more of these, by default all:
+WHAT is one or more of these (all):
 
-    reply      from a line's end to its reply, 1,000 lines one after the other, a random while apart: the middle and the longest
+    reply      from a line's end to its reply, 1,000 lines one after the other, a random time apart: the median and the longest
     plan       the same for 8 plans of 16,384 nodes, each of a feed of its own
     lines      lines a second, appended at one go: 200,000 of one feed, and as many of 64 feeds
     idle       the share of a processor that a server takes while nothing comes, with 3 feeds and with 64
-    restart    how long a server that was killed takes until it answers again, with 300,000 entries, and then with 8 plans
-    memory     the most memory of those 300,000 entries beside that of `run` over the same lines
+    restart    how long a killed server takes until it answers again, with 300,000 entries, and then with 8 plans
+    memory     the most memory of those 300,000 entries, beside that of `run` over the same lines
 
-The store stands in a folder of its own below FOLDER (by default where temporary files are), so the disk is that of FOLDER; what a
-sync of it takes is told first. With --sync each sync of the server takes so many milliseconds at least, by a library of a few lines
-that stands before it: it wants a C compiler, `cc`, and a system that takes LD_PRELOAD.
+The store is in a folder of its own below FOLDER (where temporary files are). So the disk is that of FOLDER. The script first says
+what a sync of this disk takes. With --sync each sync of the server takes at least so many milliseconds. A library of a few lines
+that stands before it does that. It needs a C compiler, `cc`, and a system that takes LD_PRELOAD.
 """
 from __future__ import annotations
 
@@ -239,9 +239,9 @@ def arguments() -> argparse.Namespace:
     words = command_line(__doc__)
     add_program(words)
     words.add_argument('what', metavar='WHAT', nargs='*', type=known, help=', '.join(WHAT))
-    words.add_argument('--trains', metavar='N', type=int, default=2000)
-    words.add_argument('--sync', metavar='MS', type=int, help='how long each sync takes at least')
-    words.add_argument('--disk', metavar='FOLDER', default=None, help='where the store stands')
+    words.add_argument('--trains', metavar='N', type=int, default=2000, help='trains of the day (2000)')
+    words.add_argument('--sync', metavar='MS', type=int, help='least milliseconds of each sync')
+    words.add_argument('--disk', metavar='FOLDER', default=None, help='folder for the store')
     return words.parse_args()
 
 

@@ -1,6 +1,6 @@
-"""What a command takes: its seconds and its memory, told by a small process that starts it.
+"""Says what a command takes, its seconds and its memory, by a small process that starts it.
 
-The memory of a child begins with that of the process from which it was forked; so this one is small, about 9 MB.
+The memory of a child begins with that of the process from which it was forked. So this process is small, about 9 MB.
 """
 from __future__ import annotations
 

@@ -1,17 +1,17 @@
 #!/usr/bin/env python3
 """Refuses memory to a program: python3 bench/memory.py DISPATCHER [CASE..], or python3 bench/memory.py --calls PROGRAM
 
-DISPATCHER is a built dispatcher. Each case does one task again and again, over the connection of examples/ or, where several workers
-search, over a day of bench/day.py too; each time another call for memory is refused, the first, the second and so on, until a run
-calls for less. Where memory is refused a run is to end within a minute, with status 6 and nothing written, or with the status and
-the text that it has with ample memory; a line tells each other end, and the status is then 1. For each case a row gives how many
-calls there are, and how many ends of each kind. Which call of several workers comes when depends on their threads, and so does the
-tree of a plan: there each text will do that `check` tells good.
+DISPATCHER is the built program. Each case does one task again and again, over examples/connection, or also over a day of
+bench/day.py if several workers search. Each time another call for memory is refused: the first, the second and so on, until a run
+makes fewer calls. A run to which memory is refused has to end within a minute. It ends with status 6 and nothing written, or with
+the status and the text that it has with enough memory. A line names each other end, and the status is then 1. Each case has a row
+with the number of calls, and of ends of each kind. With several workers the order of the calls depends on their threads, and so
+does the tree of a plan. There each text will do that `check` finds good.
 
-With --calls, PROGRAM is the built program of dm_memory_cases, which makes each call again where memory was refused: whichever call
-for memory is refused, it is to print the same.
+With --calls, PROGRAM is the built program of dm_memory_cases, which makes each call again to which memory was refused. Whichever
+call is refused, it has to print the same.
 
-Memory is refused by a library of a few lines that stands before malloc and realloc: it wants a C compiler, `cc`, and a system that
+A library of a few lines that stands before malloc and realloc refuses memory. It needs a C compiler, `cc`, and a system that
 takes LD_PRELOAD.
 """
 from __future__ import annotations

@@ -4,22 +4,23 @@
     python3 bench/morning.py DISPATCHER [FOLDER] [--live] [--number=S] [--until=10:00]
 
 A small simulator makes a timetable in GTFS of three lines that meet in one station, with guaranteed connections, and draws source
-delays from --number. Trains run by its own rules, which know neither networks nor the program: a train drives in 93 hundredths of the
-scheduled time at least, stands 30 seconds, turns in 300, keeps 120 behind the train before it, and waits for guaranteed connections;
-for any other it waits 300 seconds at most, and then the change is dropped. A delay becomes known before its train is late or while it
-stands, and some are corrected later.
+delays from --number. It runs trains by rules of its own, which know neither networks nor the program. A train drives for at least
+93 per cent of the scheduled time, stands 30 seconds, turns in 300, keeps 120 behind the train before it, and waits for guaranteed
+connections. For any other change it waits at most 300 seconds; then the change is dropped. A delay becomes known before its train
+is late or while it stands. Some delays are corrected later.
 
-Each minute the simulator tells what an agency knows, in a FeedMessage: the trains that run, with the times at which they were where;
-trains of two lines with a delay of their own also with the times that it expects; and those of the third line by the places of their
-vehicles. gtfs_rt_in.py appends that to the feed, the program runs, gtfs_rt_out.py writes TripUpdates, and `protoc --decode` (Debian's
-protobuf-compiler), which shares no code with the tools, reads them by tools/gtfs-realtime.proto. Each call of each train has to be at
-the time that the simulator expects then, and each dropped change is an alert until its train has left.
+Each minute the simulator reports what an agency knows, in a FeedMessage: the trains that run, with the times at which they were
+at their stops; trains of two lines that have a delay of their own also with the times that it expects; trains of the third line
+by the places of their vehicles. gtfs_rt_in.py appends that to the feed, the program runs, and gtfs_rt_out.py writes TripUpdates.
+`protoc --decode` (Debian's protobuf-compiler), which shares no code with the tools, reads them by tools/gtfs-realtime.proto. Each
+call of each train has to be at the time that the simulator expects then. Each dropped change has to be an alert until its train
+has left.
 
-With --live a server runs all morning: what is told each minute is appended to its first feed, dropped changes to its second one,
-gtfs_rt_in.py takes what is known from its store, and gtfs_rt_out.py reads the store as soon as all lines are answered. Each half an
-hour the server is killed and started again. Its last text is judged by `check`.
+With --live a server runs all morning. The reports of each minute are appended to its first feed, and dropped changes to its
+second. gtfs_rt_in.py takes what is known from the store, and gtfs_rt_out.py reads the store as soon as all lines are answered.
+Every half an hour the server is killed and started again. `check` judges its last text.
 
-The status is 1 where something differs; the first differences of each minute are printed. With a FOLDER the files stay there.
+The script prints the first differences of each minute, and the status is then 1. With a FOLDER the files stay there.
 """
 from __future__ import annotations
 
@@ -576,10 +577,10 @@ def report(world: World, come: Played) -> Iterator[str]:
 def main() -> int:
     words = command_line(__doc__)
     words.add_argument('dispatcher', metavar='DISPATCHER', help='the built program')
-    words.add_argument('folder', nargs='?', metavar='FOLDER', help='where the files stay')
-    words.add_argument('--live', action='store_true', help='by a server that runs all morning')
-    words.add_argument('--number', type=whole_between(0, 999_999_999), default=1, metavar='S', help='from which delays are drawn (1)')
-    words.add_argument('--until', type=time_of_day, default=10 * 3600, metavar='TIME', help='the last minute (10:00)')
+    words.add_argument('folder', nargs='?', metavar='FOLDER', help='folder in which the files stay')
+    words.add_argument('--live', action='store_true', help='use a server that runs all morning')
+    words.add_argument('--number', type=whole_between(0, 999_999_999), default=1, metavar='S', help='number of the delays (1)')
+    words.add_argument('--until', type=time_of_day, default=10 * 3600, metavar='TIME', help='last minute (10:00)')
     given = words.parse_args()
     world, timetable = world_of(given.number)
     name = os.path.abspath(given.dispatcher)

@@ -1,12 +1,12 @@
 #!/usr/bin/env python3
 """Prints how good the plans of generated days are, and what they cost: python3 bench/plans.py PROGRAM [TRAINS ..]
 
-PROGRAM is the built dispatcher (`rt run` leaves crates/dispatcher/out/dispatcher). The days are those of bench/day.py with numbers
-1 to 9, their 500 delays, and `plan 16384` behind them; the penalty is 3600. Costs and bounds are in millions. The columns behind them
-are the processor time of the whole run less that of the run without the plan, the most memory that the run took, and how far the cost
-is above the best that is known, where it is.
+PROGRAM is the built program (`rt run` leaves crates/dispatcher/out/dispatcher). The days are those of bench/day.py with the
+numbers 1 to 9. Each gets its 500 delays, and then `plan 16384`. The penalty is 3600. Costs and bounds are in millions of
+thousandths of passenger seconds. The columns after them are the processor time of the run less that of a run without the plan,
+the most memory of the run, and how far the cost is above the best one that is known, if there is one.
 
-The last line is of the largest day with number 7: `plan 4096` and `adopt` behind each eighth of the delays.
+The last line is about the largest day with number 7: `plan 4096` and `adopt` after each eighth of the delays.
 """
 from __future__ import annotations
 
@@ -97,7 +97,7 @@ def day(program: str, trains: int, number: int, last: bool) -> bool:
 def main() -> None:
     words = command_line(__doc__)
     add_program(words)
-    words.add_argument('trains', metavar='TRAINS', nargs='*', type=int, default=TRAINS)
+    words.add_argument('trains', metavar='TRAINS', nargs='*', type=int, default=TRAINS, help='trains of the days (%(default)s)')
     given = words.parse_args()
     print('trains number mark          cost     bound  nodes      time memory')
     short = 0

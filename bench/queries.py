@@ -1,20 +1,22 @@
 #!/usr/bin/env python3
-"""Asks the journals of drawn runs, the program beside a second reading: python3 bench/queries.py DISPATCHER FROM TO
+"""Asks questions about the journals of drawn runs, and compares the answers with a second reading:
 
-For each number from FROM to below TO it draws a network and feeds as fuzz.py does, and runs the program. Of the text that comes, of
-a front of it and of texts made from it by small changes, it asks with drawn words what the program's usage line names of these:
+    python3 bench/queries.py DISPATCHER FROM TO
 
-    follow     as the second reading has it, to the byte
-    journey    each journey is a walk, and their arrivals and changes are those that no walk beats
-    rules      the rule's choices and cost, to the byte; the gap is that to the plan's bound; where there are at most eight choices
-               none cost less than the bound, nor than a plan that is marked optimal
-    window     the plan is true of the window without what is held; the choices that are kept where others are given back are some of
-               the plan's, cost what is told, and none of them can be left out; what is carried over is to the byte
+For each number from FROM to below TO it draws a network and feeds as fuzz.py does, and runs the program. It asks about the text,
+a beginning of it, and texts made from it by small changes. Each command of the program's usage line is asked with drawn words:
 
-The second reading shares no code with the program. Each number in which something differs is printed with what does and the folder
-of its files, and the status is then 1.
+    follow     answers as the second reading does, to the byte
+    journey    each journey is a walk, and no walk beats its arrival and its changes
+    rules      the rule's choices and cost, to the byte; the gap is that to the plan's bound; with at most eight choices none cost
+               less than the bound, nor than a plan that is marked optimal
+    window     the plan is true of the window without what is held; the choices of --minimal are some of the plan's, cost what is
+               said, and none of them can be left out; what is carried over is right to the byte
 
-Left out: delay files, column words, texts that are too long, and faults of reading and writing.
+The second reading shares no code with the program. The script prints each number in which something differs, with what differs
+and the folder of its files. The status is then 1.
+
+Left out are delay files, column words, texts that are too long, and faults of reading and writing.
 """
 from __future__ import annotations
 
@@ -461,8 +463,8 @@ def commands_of(program: str) -> list[str]:
 def main() -> None:
     words = command_line(__doc__)
     add_program(words)
-    words.add_argument('begin', metavar='FROM', type=int)
-    words.add_argument('end', metavar='TO', type=int)
+    words.add_argument('begin', metavar='FROM', type=int, help='first number')
+    words.add_argument('end', metavar='TO', type=int, help='number before which to end')
     given = words.parse_args()
     counts: Counter[str] = Counter()
     differing, commands = 0, commands_of(given.program)

@@ -1,15 +1,15 @@
 #!/usr/bin/env python3
 """Counts and times the commands that read texts: python3 bench/readers.py DISPATCHER [--against=PROGRAM] [--only=ROW,..]
 
-DISPATCHER is a built dispatcher, and PROGRAM another one, as of the commit before a change, or one that has the same commands. The
-day is that of bench/day.py with number 7 and 2,000 trains. DISPATCHER makes the texts, and both read the same ones:
+DISPATCHER is the built program. PROGRAM is another one, as of the commit before a change, or any with the same commands. The day
+is that of bench/day.py with number 7 and 2,000 trains. DISPATCHER makes the texts, and both read the same ones:
 
     empty      of an empty feed
     delays     of a full feed of delays
     mixed      of a full feed of mixed lines
     plans      of 16 plans of 4,096 nodes, adopted one after the other between delays
 
-A row is a question and the text that it is asked of, and `--only` takes rows, such as check-delays, or questions:
+A row is a question about one of the texts. `--only` takes rows, such as check-delays, or questions:
 
     check      is the text good
     follow     the timetable after it
@@ -18,10 +18,10 @@ A row is a question and the text that it is asked of, and `--only` takes rows, s
     at         the same after the first 100 entries, and what becomes of it
     rules      the rule `always` beside a plan of 1,024 nodes
 
-A row has the instructions in millions (callgrind, of Debian's `valgrind`; none where that is not installed) and the least seconds of
-processor of several runs; all rows of both programs run in turn. Beyond is what is over that of another row: of check, follow and
-journey the same question of the empty text, and of the others `follow` of their own text, which leaves the search. A row for which
-the two programs do not print the same is marked, and the status is then 1.
+A row has the instructions in millions (by callgrind of Debian's `valgrind`, if that is installed), and the least seconds of
+processor of several runs. All rows of both programs run in turn. The column beyond has what a row takes more than another one.
+For check, follow and journey that is the same question about the empty text. For the others it is `follow` of their own text, so
+that the search is left. If the two programs do not print the same, the row is marked, and the status is then 1.
 """
 from __future__ import annotations
 
@@ -178,10 +178,10 @@ def table(rows: Sequence[Row], figures: Sequence[Mapping[Row, Figures]], marked:
 
 def arguments() -> argparse.Namespace:
     words = command_line(__doc__)
-    words.add_argument('dispatcher', metavar='DISPATCHER', type=whole_path)
-    words.add_argument('--against', metavar='PROGRAM', type=whole_path, help='a second program, in the same run')
-    words.add_argument('--only', metavar='ROW,..', type=rows_named, default=ROWS, help='these rows, or all of these questions')
-    words.add_argument('--trains', type=whole_between(2, TRAINS), default=TRAINS, help='how many trains the day has (%(default)s)')
+    words.add_argument('dispatcher', metavar='DISPATCHER', type=whole_path, help='the built program')
+    words.add_argument('--against', metavar='PROGRAM', type=whole_path, help='a second program, for the same rows')
+    words.add_argument('--only', metavar='ROW,..', type=rows_named, default=ROWS, help='only these rows or questions')
+    words.add_argument('--trains', type=whole_between(2, TRAINS), default=TRAINS, help='trains of the day (%(default)s)')
     words.add_argument('--repeats', type=whole_between(1, 1000), default=REPEATS, help='how often each row is timed (%(default)s)')
     return words.parse_args()
 

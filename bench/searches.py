@@ -1,10 +1,10 @@
 #!/usr/bin/env python3
 """Searches a plan by 16 workers again and again: python3 bench/searches.py DISPATCHER [RUNS]
 
-Each of RUNS runs (50 where none are given) hears the 500 delays of the day of bench/day.py with number 7 and 100 trains, and has 16
-workers search a plan of 16,384 nodes. It ends with status 0 within a minute, and `DISPATCHER check` tells its text good. What differs is
-printed with the folder of its text, which is left there, and the status is then 1. The last line tells how many plans there were, and
-their costs and bounds.
+Each of RUNS runs (50) gets the 500 delays of the day of bench/day.py with number 7 and 100 trains, and lets 16 workers search a
+plan of 16,384 nodes. It has to end with status 0 within a minute, and `DISPATCHER check` has to find its text good. The script
+prints what differs, with the folder of its text, which stays there. The status is then 1. The last line says how many different
+plans there were, with their costs and bounds.
 """
 from __future__ import annotations
 
@@ -52,7 +52,7 @@ def searched(program: str, folder: str, number: int) -> Optional[str]:
 def main() -> None:
     words = command_line(__doc__)
     add_program(words)
-    words.add_argument('runs', metavar='RUNS', nargs='?', type=int, default=RUNS)
+    words.add_argument('runs', metavar='RUNS', nargs='?', type=int, default=RUNS, help='number of runs (%(default)s)')
     given = words.parse_args()
     with tempfile.TemporaryDirectory() as folder:
         write_day(7, TRAINS, folder)

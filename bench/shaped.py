@@ -1,11 +1,15 @@
 #!/usr/bin/env python3
 """Prints what networks of several shapes take: python3 bench/shaped.py DISPATCHER [SHAPE[:SIZES] ..] [--number=S]
 
-The shapes are those of tools/shapes.py in their usual sizes, all four by default; SIZES are its options with commas between, as
-mesh:lines=60,trains=8. `gen` is a day of bench/day.py with 2,000 trains. Of each there are: the seconds of processor to load it (a run
-of an empty feed), those of one more delay (a feed full of drawn delays, less the load, by its lines), those of a plan of 16,384 nodes
-behind a day that is drawn from --number as tools/scenarios.py does (mixed, three trains of ten with a delay), less the run without it,
-with its cost and bound in millions, and the gap. `check` judges the texts. The last line tells where the gap is worst.
+The shapes are those of tools/shapes.py in their usual sizes (all four). SIZES are its options, separated by commas, such as
+mesh:lines=60,trains=8. `gen` is a day of bench/day.py with 2,000 trains. Each shape has a row:
+
+    load      the seconds of processor of a run of an empty feed
+    a delay   those of a feed full of drawn delays, less the load, for each of its lines
+    a plan    those of a plan of 16,384 nodes, less those of the run without it
+
+The plan is for a day that tools/scenarios.py draws from --number: mixed, with a delay for three trains of ten. The row also has
+its cost and bound in millions, and the gap. `check` judges the texts. The last line says where the gap is largest.
 """
 from __future__ import annotations
 
@@ -73,7 +77,7 @@ def main() -> int:
     words = command_line(__doc__)
     words.add_argument('dispatcher', metavar='DISPATCHER', help='the built program')
     words.add_argument('shapes', nargs='*', metavar='SHAPE', help='shapes, and gen')
-    words.add_argument('--number', type=int, default=1, metavar='S', help='from which the day is drawn (1)')
+    words.add_argument('--number', type=int, default=1, metavar='S', help='number from which the day is drawn (1)')
     given = words.parse_args()
     print('| Shape | Events | Activities | Choices | Load | A delay | A plan | Cost | Bound | Gap |\n' + '|---' * 10 + '|')
     gaps = {}

@@ -1,10 +1,10 @@
 #!/usr/bin/env python3
 """Times runs of a generated day: python3 bench/speed.py FOLDER DISPATCHER [BEFORE] [--country=COUNTRY]
 
-FOLDER is a day that day.py wrote, DISPATCHER a built dispatcher and BEFORE another one, as of the commit before a change. Each
-row runs some feeds so often, and gives the least processor and wall time, and the ratio of the processor time to that of an
-empty feed. Then come the ratios that are bounded, each with its bound. Where feeds work at once it is the ratio of the wall times,
-which is what whoever waits for a run sees, and else that of the processor times:
+FOLDER is a day that day.py wrote. DISPATCHER is the built program, and BEFORE another one, as of the commit before a change. Each
+row runs some feeds several times. It has the least processor time, the least time by the clock, and the ratio of the processor
+time to that of an empty feed. Then come ratios with their bounds. If feeds work at once it is the ratio of the times by the
+clock, for which people wait, and else that of the processor times:
 
     delays     a full feed of delays against an empty one          2.0
     mixed      a full feed of mixed lines against an empty one     2.5
@@ -15,12 +15,12 @@ which is what whoever waits for a run sees, and else that of the processor times
     rounds     with --batch=1000, against BEFORE                   1.1
     default    with the default batch, against BEFORE              1.5
 
-With COUNTRY, a folder that country.py wrote, its full feeds are run too, in rounds of 1,000 lines, each with its bound against one of
-them by wall time: 16 feeds 2.1, and 64, each of the 16 four times, 2.9; what the system takes for them is at most a tenth of what
-the program does.
+COUNTRY is a folder that country.py wrote. With it the script also runs its full feeds, in rounds of 1,000 lines, against one of
+them by the clock. The bound is 2.1 for 16 feeds, and 2.9 for 64, which are each of the 16 four times. The system may take for
+them at most a tenth of what the program does.
 
-A ratio over its bound is marked, and the status is then 1. Behind these stand the ratios of the processor times where feeds work
-at once, which have no bound.
+A ratio over its bound is marked, and the status is then 1. At the end stand the ratios of processor times of feeds that work at
+once. They have no bound.
 """
 from __future__ import annotations
 
@@ -173,9 +173,9 @@ def ratios_of_country(taken: Mapping[str, Measured]) -> Iterator[tuple[str, floa
 
 def arguments() -> argparse.Namespace:
     words = command_line(__doc__)
-    words.add_argument('folder', metavar='FOLDER')
-    words.add_argument('programs', metavar='DISPATCHER', nargs='+', type=whole_path)
-    words.add_argument('--country', metavar='COUNTRY')
+    words.add_argument('folder', metavar='FOLDER', help='folder that day.py wrote')
+    words.add_argument('programs', metavar='DISPATCHER', nargs='+', type=whole_path, help='one or two built programs')
+    words.add_argument('--country', metavar='COUNTRY', help='folder that country.py wrote')
     return words.parse_args()
 
 

@@ -1,13 +1,17 @@
 #!/usr/bin/env python3
-"""Tries the journal of dm_store over a real folder and measures it: python3 bench/store.py DM_STORE_CASES [--kills=N] [--folder=DIR]
+"""Tries the journal of dm_store over a real folder, and measures it:
 
-DM_STORE_CASES is a built dm_store_cases. By words it opens a folder, recovers, commits blocks, and says what came of it. First come ends
-that only a real folder has: what is left by a disk that is full (a limit on a file's size), by `kill -9` at a random moment and by a
-second server's lock, and a folder without rights for another user (tried by root alone); then each wrong file of the second reading
-of bench/store_cases.py. Each has to be answered as it should, a refused journal has to stay as it was, and what is left has to be
-blocks from the front. Then come figures: what a commit of 64 KB costs (calls by strace, instructions by callgrind, and its time beside
-that of the same two writes and two syncs), and the seconds and the memory of a recovery of 128 MiB. The status is 1 where an end
-is wrong or a recovery takes more than 1.1 times its size.
+    python3 bench/store.py DM_STORE_CASES [--kills=N] [--folder=DIR]
+
+DM_STORE_CASES is the built program of dm_store_cases. By words it opens a folder, recovers, commits blocks, and says what came of
+it. First come ends that only a real folder has: a disk that is full (a limit on a file's size), `kill -9` at a random moment, the
+lock of a second server, and a folder without rights for another user (only root tries this). Then comes each wrong file of the
+second reading of bench/store_cases.py. Each has to be answered as it should. A refused journal has to stay as it was, and what is
+left has to be blocks from the beginning.
+
+Then come figures: what a commit of 64 KB costs (calls by strace, instructions by callgrind, and its time beside that of the same
+two writes and two syncs), and the seconds and the memory of a recovery of 128 MiB. The status is 1 if an end is wrong, or if a
+recovery takes more memory than 1.1 times its size.
 """
 from __future__ import annotations
 
@@ -226,8 +230,8 @@ def print_recoveries(program: Path, top: Path) -> bool:
 def main() -> int:
     parser = command_line(__doc__)
     parser.add_argument('program', metavar='DM_STORE_CASES', type=Path, help='the built program of dm_store_cases')
-    parser.add_argument('--kills', metavar='N', type=int, default=50, help='how often it is killed')
-    parser.add_argument('--folder', metavar='DIR', type=Path, help='where the folders that are tried are made')
+    parser.add_argument('--kills', metavar='N', type=int, default=50, help='how often it is killed (50)')
+    parser.add_argument('--folder', metavar='DIR', type=Path, help='folder in which the tries are made')
     words = parser.parse_args()
     with tempfile.TemporaryDirectory(dir=words.folder) as name:
         top = Path(name)

@@ -1,9 +1,9 @@
 #!/usr/bin/env python3
-"""Says what dm_store_cases is to print, by a second reading of the form of a journal: python3 bench/store_cases.py
+"""Says what dm_store_cases should print, by a second reading of the form of a journal: python3 bench/store_cases.py
 
-A journal is blocks: a gate `+`, the length of the content in decimal digits, LF, and the content. Blocks count up to the first whose
-gate is not open or which is not whole. Behind the last one stands an end, which is repaired where a crash may leave it. A tear is
-what a crash makes of the write that no sync followed. tools/tests compares the lines with those that stand in the crate.
+A journal is blocks: a gate `+`, the length of the content in decimal digits, LF, and the content. Blocks count up to the first
+whose gate is not open, or which is not whole. After the last one stands an end. It is repaired if a crash may have left it. A
+tear is what a crash makes of a write that no sync followed. tools/tests compares the lines with those in the crate.
 """
 from __future__ import annotations
 

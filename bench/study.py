@@ -1,20 +1,22 @@
 #!/usr/bin/env python3
-"""Runs drawn days by several policies: python3 bench/study.py DISPATCHER NET FOLDER [--days=100] [--policies=P,P..] [--jobs=N] [OPTION..]
+"""Runs drawn days by several policies:
 
-Days of source delays are drawn over NET as tools/scenarios.py does (its options --seed, --days, --kind, --probability, --size, --every
-and --ahead). A policy is one of
+    python3 bench/study.py DISPATCHER NET FOLDER [--days=100] [--policies=P,P..] [--jobs=N] [OPTION..]
 
-    never, always, a number     the waiting rule of that name, or of at most so many seconds, behind all that the day told
+It draws days of source delays over NET as tools/scenarios.py does, with its options --seed, --days, --kind, --probability,
+--size, --every and --ahead. A policy is one of
+
+    never, always, a number     the waiting rule of that name, or of at most so many seconds, after all that the day reported
     morning                     one plan of 16,384 nodes, --morning minutes after the first event, of what is known then
     windows                     each --every minutes a plan of 4,096 nodes of the next --ahead minutes, of what is known then
-    hindsight                   a plan of 16,384 nodes of what the whole day told: its bound is below what any choices cost
+    hindsight                   a plan of 16,384 nodes of all that the day reported: no choices cost less than its bound
 
-and leaves what it does not choose as it is scheduled. FOLDER gets study.csv, a line for each day and policy: its cost and bound in
-thousandths of passenger seconds, passengers who missed a change, minutes by which a train ends late and by which a passenger arrives
-late, on the average, and seconds of processor that the program took; report.md, the means with their intervals of 95 %; and two
-pictures, by Debian's python3-matplotlib where it is there. Each text is judged by `check`.
+A policy leaves what it does not choose as it is scheduled. FOLDER gets study.csv, with a line for each day and policy: the cost
+and the bound in thousandths of passenger seconds, the passengers who missed a change, the minutes by which a train ends late and
+by which a passenger arrives late, on average, and the seconds of processor of the program. It also gets report.md, the means with
+their intervals of 95 %, and two pictures, if Debian's python3-matplotlib is installed. `check` judges each text.
 
-A study that was broken off goes on where it was, if the words are the same. All processors are used, or --jobs.
+A study that was broken off goes on where it was, if the words are the same. It uses all processors, or as many as --jobs says.
 """
 from __future__ import annotations
 
@@ -269,12 +271,12 @@ def words_read() -> tuple[argparse.Namespace, Drawing]:
     words = command_line(__doc__)
     words.add_argument('dispatcher', metavar='DISPATCHER', help='the built program')
     add_network(words)
-    words.add_argument('folder', metavar='FOLDER', help='where the study goes')
+    words.add_argument('folder', metavar='FOLDER', help='folder for the study')
     add_drawing_words(words)
     words.set_defaults(days=100)
     words.add_argument('--policies', default=USUAL, metavar='P,P..', help=f'({USUAL})')
-    words.add_argument('--morning', type=whole_between(0, 1440), default=120, metavar='MINUTES', help='when the one plan is made (120)')
-    words.add_argument('--penalty', type=whole_between(0, 1_000_000), default=3600, metavar='T', help='(3600)')
+    words.add_argument('--morning', type=whole_between(0, 1440), default=120, metavar='MINUTES', help='minutes to the plan (120)')
+    words.add_argument('--penalty', type=whole_between(0, 1_000_000), default=3600, metavar='T', help='penalty in seconds (3600)')
     words.add_argument('--jobs', type=whole_between(1, 256), default=os.cpu_count() or 1, metavar='N', help='how many at once (all)')
     given = words.parse_args()
     for policy in given.policies.split(','):

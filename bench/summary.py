@@ -1,9 +1,9 @@
 #!/usr/bin/env python3
-"""The summary of a generated day, worked out apart from the program: python3 bench/summary.py NUMBER TRAINS [PENALTY [PROGRAM]]
+"""Works out the summary of a generated day apart from the program: python3 bench/summary.py NUMBER TRAINS [PENALTY [PROGRAM]]
 
-It delays the events of the day as the first 500 lines of the feed `delays` say, pushes each event along the activities that
+It delays the events of the day as the first 500 lines of the feed `delays` say. It pushes each event along the activities that
 bind until nothing moves, and prints the seven lines of `gen`. With the path of the program it also compares them with what
-`PROGRAM gen` prints, and what a run of the day's files and that feed comes to with what `PROGRAM run` prints.
+`PROGRAM gen` prints. Then it compares what a run of the day's files and that feed should come to with what `PROGRAM run` prints.
 """
 from __future__ import annotations
 
@@ -108,9 +108,9 @@ def compare(number: int, trains: int, penalty: int, program: str) -> None:
 
 def main() -> None:
     words = command_line(__doc__)
-    words.add_argument('number', metavar='NUMBER', type=int)
-    words.add_argument('trains', metavar='TRAINS', type=int)
-    words.add_argument('penalty', metavar='PENALTY', nargs='?', type=int, default=3600)
+    words.add_argument('number', metavar='NUMBER', type=int, help='number from which the day is drawn')
+    words.add_argument('trains', metavar='TRAINS', type=int, help='number of trains')
+    words.add_argument('penalty', metavar='PENALTY', nargs='?', type=int, default=3600, help='penalty in seconds (3600)')
     words.add_argument('program', metavar='PROGRAM', nargs='?', help='the built program')
     given = words.parse_args()
     print(summary(given.number, given.trains), end='')

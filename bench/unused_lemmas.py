@@ -2,11 +2,12 @@
 
     python3 bench/unused_lemmas.py [--crates FOLDER] [CRATE..]
 
-A declaration of crates/*/specs or crates/*/proofs is named where a source file imports it or cites it by its path, where an answer
-or an invariant of a function's proof names it, or where a declaration does that is named itself. One that only itself and others
-that nothing names cite is listed: a line with its file, its line and its name. Fields and constructors are never listed; neither are
-names of answers and invariants. Tactics find nothing by themselves here, so what nothing names can be taken away. With CRATE only
-what these declare is listed; names are looked for in all. Status 0 where nothing is listed, else 1.
+A declaration of crates/*/specs or crates/*/proofs is named if a source file imports it or cites it by its path, if an answer or
+an invariant of a function's proof names it, or if a declaration does that is named itself. The others are listed: those that only
+they themselves and others that nothing names cite. Each has a line with its file, its line and its name. Fields, constructors,
+and names of answers and invariants are never listed. Tactics find nothing by themselves here, so what nothing names can be
+removed. With CRATE only what these crates declare is listed; names are looked for in all. The status is 0 if nothing is listed,
+else 1.
 """
 
 import argparse
@@ -242,8 +243,8 @@ def unused_in(crates: Path, wanted: list[str]) -> list[str]:
 
 
 def main() -> int:
-    parser = argparse.ArgumentParser(description="Lists the lemmas and definitions that nothing names.")
-    parser.add_argument("--crates", type=Path, default=CRATES, help="the folder of the crates")
+    parser = argparse.ArgumentParser(description=__doc__, formatter_class=argparse.RawDescriptionHelpFormatter)
+    parser.add_argument("--crates", type=Path, default=CRATES, help="folder of the crates (crates)")
     parser.add_argument("crate", nargs="*", help="list only what these crates declare")
     arguments = parser.parse_args()
     lines = unused_in(arguments.crates, arguments.crate)

@@ -1,9 +1,9 @@
 #!/usr/bin/env python3
 """Times updates on a generated day: python3 bench/updates.py DM_SPEED [COUNT]
 
-DM_SPEED is a built dm_speed. Each row makes COUNT changes of a kind, a million where no number is given, and gives the
-nanoseconds of processor time for each, less those of a day without changes. `pass` passes and recalls the last event of a day, and
-`apart` one of a pair between whose events 20,000 others stand.
+DM_SPEED is the built program of dm_speed. Each row makes COUNT changes of a kind (1,000,000). It has the nanoseconds of processor
+time for each, less those of a day without changes. `pass` passes and recalls the last event of a day. `apart` does so with one
+event of a pair between whose events 20,000 others stand.
 """
 from __future__ import annotations
 
@@ -27,7 +27,7 @@ def timed(words: list[str]) -> float:
 def main() -> None:
     words = command_line(__doc__)
     words.add_argument('program', metavar='DM_SPEED', type=whole_path, help='the built program of dm_speed')
-    words.add_argument('count', metavar='COUNT', nargs='?', type=int, default=1_000_000)
+    words.add_argument('count', metavar='COUNT', nargs='?', type=int, default=1_000_000, help='changes of each kind (%(default)s)')
     given = words.parse_args()
     for kind in KINDS:
         taken = timed([given.program, str(given.count), kind]) - timed([given.program, '0', kind])

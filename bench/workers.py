@@ -1,11 +1,11 @@
 #!/usr/bin/env python3
 """Times plans that are searched by several workers: python3 bench/workers.py DISPATCHER [TRAINS ..]
 
-For each number of trains (40, 200, 500 and 2,000 where none is given) the day of bench/day.py with number 7, its 500 delays, and
-`plan 16384` behind them are run with 1, 2 and 4 workers, and the delays alone with one. All run in turn, nine times, and the least
-time by the clock counts, less that of the delays alone. Of 2,000 trains two workers take at most 0.7 and four at most 0.5 of the time
-of one. The text of several workers is that of one. What takes longer or prints another text is marked, and the status is then 1. Run it
-on a machine that does nothing else and has four processors.
+For each number of trains (40, 200, 500 and 2,000) it takes the day of bench/day.py with number 7, its 500 delays, and after them
+`plan 16384`. It runs these with 1, 2 and 4 workers, and the delays alone with one. All run in turn, nine times. The least time by
+the clock counts, less that of the delays alone. With 2,000 trains two workers may take at most 0.7 of the time of one, and four
+at most 0.5. The text of several workers has to be that of one. What takes longer or prints another text is marked, and the status
+is then 1. Run it on a machine that does nothing else and has four processors.
 """
 from __future__ import annotations
 
@@ -92,7 +92,7 @@ def print_day(program: str, trains: int) -> bool:
 def main() -> None:
     words = command_line(__doc__)
     add_program(words)
-    words.add_argument('trains', metavar='TRAINS', nargs='*', type=int, default=TRAINS)
+    words.add_argument('trains', metavar='TRAINS', nargs='*', type=int, default=TRAINS, help='trains of the days (%(default)s)')
     given = words.parse_args()
     print('trains workers      cost     bound      time ratio')
     good = [print_day(given.program, trains) for trains in given.trains]
