@@ -97,7 +97,7 @@ def day(program: str, trains: int, number: int, last: bool) -> bool:
 def main() -> None:
     words = command_line(__doc__)
     add_program(words)
-    words.add_argument('trains', metavar='TRAINS', nargs='*', type=int, default=TRAINS, help='trains of the days (%(default)s)')
+    words.add_argument('trains', metavar='TRAINS', nargs='*', type=int, default=TRAINS, help='trains of a day (20 to 2,000)')
     given = words.parse_args()
     print('trains number mark          cost     bound  nodes      time memory')
     short = 0

@@ -27,7 +27,7 @@ def timed(words: list[str]) -> float:
 def main() -> None:
     words = command_line(__doc__)
     words.add_argument('program', metavar='DM_SPEED', type=whole_path, help='the built program of dm_speed')
-    words.add_argument('count', metavar='COUNT', nargs='?', type=int, default=1_000_000, help='changes of each kind (%(default)s)')
+    words.add_argument('count', metavar='COUNT', nargs='?', type=int, default=1_000_000, help='changes of a kind (%(default)s)')
     given = words.parse_args()
     for kind in KINDS:
         taken = timed([given.program, str(given.count), kind]) - timed([given.program, '0', kind])

@@ -92,7 +92,7 @@ def print_day(program: str, trains: int) -> bool:
 def main() -> None:
     words = command_line(__doc__)
     add_program(words)
-    words.add_argument('trains', metavar='TRAINS', nargs='*', type=int, default=TRAINS, help='trains of the days (%(default)s)')
+    words.add_argument('trains', metavar='TRAINS', nargs='*', type=int, default=TRAINS, help='trains of a day (40 to 2,000)')
     given = words.parse_args()
     print('trains workers      cost     bound      time ratio')
     good = [print_day(given.program, trains) for trains in given.trains]

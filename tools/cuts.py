@@ -81,7 +81,7 @@ def partings(first: str, legs: dict[str, Counter[str]], order: dict[str, int]) -
 
 
 def in_words(found: list[Parting]) -> str:
-    """How people are told where to cut."""
+    """Says to people where to cut."""
     if not found:
         return ' at several stations, none of which parts it alone'
     shown = '; '.join(f'{one.station}: parts of {", ".join(map(str, one.events[:SHOWN]))}' for one in found[:SHOWN])

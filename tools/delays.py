@@ -112,7 +112,7 @@ class Lines:
 
 
 def drawn_day(lines: Lines, drawing: Drawing, seed: int, day: int) -> list[Told]:
-    """What is told on a day, in the order of time."""
+    """The messages of a day, in the order of time."""
     draws = Random(f'{seed} {day}')
     kind = drawing.kind
     told: list[Told] = []
@@ -167,7 +167,7 @@ def late_line(lines: Lines, drawing: Drawing, draws: Random) -> list[Told]:
 
 
 def told_lines(told: list[Told]) -> list[str]:
-    """What is told as lines of a feed; of two messages of one event the later one holds."""
+    """The messages as lines of a feed. Of two messages of one event the later one holds."""
     return [' '.join(map(str, one.message)) for one in told]
 
 

@@ -96,7 +96,7 @@ def trains_on(scene: Scene, rows: Container[int]) -> Trains:
 
 
 def scale_of(scene: Scene, trains: Trains, begin: int, end: int) -> float:
-    """Units a second: as many as let trains that follow each other be told apart, within 700 to 9,000 units in all."""
+    """Units a second: so many that trains which follow each other can be seen apart, within 700 to 9,000 units in all."""
     starts = sorted(scene.scheduled(stretches[0][0]) for _, stretches in trains)
     gaps = sorted(after - before for before, after in zip(starts, starts[1:]) if after > before)
     gap = gaps[len(gaps) // 2] if gaps else 600
@@ -356,7 +356,7 @@ def arguments() -> argparse.ArgumentParser:
 
 
 def chosen_line(scene: Scene, line: Optional[list[int]]) -> list[int]:
-    """The line asked for, or the busiest one; the others are told on standard error."""
+    """The line asked for, or the busiest one. Standard error names the others."""
     known = {event.stop for event in scene.network.events}
     if line is not None:
         for stop in line:

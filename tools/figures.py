@@ -51,7 +51,7 @@ BOUND = 'stroke-width="2" stroke-dasharray="6 4"'
 
 
 class Curve(NamedTuple):
-    """A line of a picture: its name, its points, and how it is drawn, so that lines that lie over each other are still told apart."""
+    """A line of a picture: its name, its points, and how it is drawn, so that lines over each other can be seen."""
     name: str
     points: list[tuple[int, int]]
     style: str = POINTS

@@ -8,7 +8,7 @@ from typing import Iterable, Mapping, Optional
 
 
 def in_one_line(text: str, most: int = 300) -> str:
-    """Text of a file as it is told to people: what cannot be printed as its number, and of a long one its ends."""
+    """Text of a file as people get to see it: what cannot be printed as its number, and of a long text its ends."""
     if len(text) > most:
         text = f'{text[:most - 100]} .. {text[-90:]}'
     return ''.join(one if one.isprintable() else one.encode('unicode_escape').decode() for one in text)

@@ -626,7 +626,7 @@ def rank_of(end: End) -> str:
 
 
 def least_change(row: Row, kind: int, usual: int) -> Optional[int]:
-    """How long a change takes by a row. The train of a timed one waits, so it takes no time where none is told."""
+    """How long a change takes by a row. The train of a timed one waits, so it takes no time if the row gives none."""
     if kind == 3:
         return None
     if kind == 2:
@@ -638,5 +638,5 @@ def least_change(row: Row, kind: int, usual: int) -> Optional[int]:
 
 
 def read_zone(feed: Feed) -> str:
-    """The time zone of the feed's agencies, or nothing where none is told."""
+    """The time zone of the feed's agencies, or nothing if it gives none."""
     return next((row.name('agency_timezone') for row in feed.rows_if_any('agency.txt', []) if row['agency_timezone']), '')

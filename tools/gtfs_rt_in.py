@@ -53,7 +53,7 @@ QUESTIONS = ('time', 'cost', 'read', 'plan', 'adopt')
 
 @dataclass
 class Said:
-    """What is told to people: each line once, and how often what was found."""
+    """What the script says to people: each line once, and how often it found what."""
     counts: Counter[str] = field(default_factory=Counter)
     lines: set[str] = field(default_factory=set)
 
@@ -67,14 +67,14 @@ class Said:
 
 @dataclass
 class Told:
-    """What a message tells of events, by place: when they happen; and which have happened, at the latest at a time."""
+    """What a message says of events, by place: when they happen, and which have happened, at the latest at a time."""
     times: dict[int, int] = field(default_factory=dict)
     past: dict[int, int] = field(default_factory=dict)
 
 
 @dataclass
 class Listener:
-    """A network with what has been told of it, and until when."""
+    """A network with what was reported of it, and until when."""
     network: Network
     named: Named
     rows: Rows
@@ -107,7 +107,7 @@ class Listener:
         return train
 
     def is_new(self, kind: str, stamp: int, what: str) -> bool:
-        """Whether nothing newer of this kind was told."""
+        """Whether nothing newer of this kind was reported."""
         if stamp < self.latest.get(kind, self.rows.clock + self.named.begin if self.rows.clock else 0):
             self.said.tell('messages out of order', f'{what} of {stamp}')
             return False
@@ -147,7 +147,7 @@ class Listener:
                 last = self.take_time(name, call.get(name.kind), last, told, where)
 
     def take_time(self, name: EventName, said: Optional[Message], last: Optional[int], told: Told, where: str) -> Optional[int]:
-        """Takes in the time of an event; the last time that is told of the train."""
+        """Takes in the time of an event; answers the last time that is known of the train."""
         place = self.network.event_place[name.event]
         if said is None or not said.keys() & {'time', 'delay'}:
             return last
@@ -207,7 +207,7 @@ class Listener:
     # -- What is new
 
     def lines_of(self, told: Told, now: int) -> list[str]:
-        """Source delays for what is told late or less late than it would be, then what is past, then the clock."""
+        """Source delays for what is reported late, or less late than it would be; then what is past; then the clock."""
         lines: list[str] = []
         clock_then = max(now, self.rows.clock)
         past = {place: at for place, at in told.times.items() if at <= now}

@@ -70,7 +70,7 @@ def run_in(name: str, data: bytes, events: int) -> Run:
 
 
 def events_told(net: str, run: Run) -> set[int]:
-    """The events of which a delay or a pass was told; of an activity its head, for which alone the network is read."""
+    """The events of which a delay or a pass was reported; of an activity its head. Only for that the network is read."""
     told = {entry.message[1] for entry in run.journal if entry.message[0] in ('delay event', 'pass')}
     delayed = {entry.message[1] for entry in run.journal if entry.message[0] == 'delay activity'}
     if delayed:
@@ -117,7 +117,7 @@ class Train(NamedTuple):
 
 
 class Body(NamedTuple):
-    """What is told of a train, but for the time of the message: for which times, whether they are known, and in bytes."""
+    """What a message says of a train, but for its own time: for which times, whether they are known, and in bytes."""
     times: list[int]
     is_known: bool
     data: bytes
@@ -159,7 +159,7 @@ def in_english(text: str) -> Message:
 
 
 def alert(found: Found, named: Named, leaves: int) -> Message:
-    """What passengers of a change that is dropped are told, until the train has left."""
+    """The alert for passengers of a change that is dropped, until the train has left."""
     trips = [
         {'trip': descriptor(train, named.day), 'stop_id': stop}
         for train, stop in ((found.train, found.change.stop), (found.next_train, found.change.next_stop))
@@ -173,7 +173,7 @@ def alert(found: Found, named: Named, leaves: int) -> Message:
 
 
 class Writer:
-    """Writes messages over a network, whose names are read once. What is told of a train is put into bytes anew where it is new."""
+    """Writes messages over a network, whose names are read once. What is new of a train is put into bytes anew."""
 
     def __init__(self, read: argparse.Namespace) -> None:
         self.read = read
@@ -197,7 +197,7 @@ class Writer:
         return run
 
     def body(self, number: int, train: Train, told: set[int], run: Run) -> bytes:
-        """What is told of a train, where so much was told of events."""
+        """What the message says of a train, if so much was reported of events."""
         shown = [run.times[event] for event in train.events]
         is_known = shown != train.scheduled or not told.isdisjoint(train.events)
         times = never_falling(shown)

@@ -96,7 +96,7 @@ def schedule_oddities(files: Files) -> Iterator[Oddity]:
 
 
 def swapped_columns(files: Files) -> Iterator[Oddity]:
-    """Columns whose numbers look like those of another, told once."""
+    """Columns whose numbers look like those of another; each is named once."""
     network = files.network
     drives = [place for place, activity in enumerate(network.activities) if activity.kind == 'drive']
     back = [place for place in drives if files.ends(place)[1].time < files.ends(place)[0].time]

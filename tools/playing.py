@@ -170,7 +170,7 @@ def replanned(
     program: Program, played: Played, start: int, end: int, how: Replanning,
     watch: Callable[[int, int], None] = lambda now, entered: None,
 ) -> None:
-    """Plays a day from one time to another; what is not told by the end is told then.
+    """Plays a day from one time to another. What is not reported by the end is reported then.
 
     Without a clock the feed of the day has no passed events; each question has those that matter, so that a day of any size fits.
     """

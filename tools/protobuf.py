@@ -146,7 +146,7 @@ BY_TAG = {
 
 
 class Recent:
-    """The messages of one kind that were read last, by their bytes: most of what a source tells it has told before."""
+    """The messages of one kind that were read last, by their bytes: most of what a source says it has said before."""
 
     def __init__(self, kind: str) -> None:
         self.kind = kind

@@ -31,7 +31,7 @@ Path = tuple[Decision, ...]
 
 
 class Rows:
-    """What a day has told so far: delays, passed times, kept changes and the first event of each pair, by place, and the clock."""
+    """A day so far: delays, passed times, kept changes and the first event of each pair, by place, and the clock."""
 
     def __init__(self, network: Network, event_delays: Iterable[tuple[int, int]] = (),
                  activity_delays: Iterable[tuple[int, int]] = ()) -> None:

@@ -56,7 +56,7 @@ def descriptor(train: TrainName, day: str) -> dict[str, object]:
 
 
 def key_of(trip: dict[str, object], day: str) -> tuple[str, str, str]:
-    """What finds the train of a TripDescriptor; a day that is not told is that of the network."""
+    """What finds the train of a TripDescriptor; a day that it does not give is that of the network."""
     return str(trip.get('trip_id', '')), str(trip.get('start_date') or day), str(trip.get('start_time', ''))
 
 

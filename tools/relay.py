@@ -71,13 +71,13 @@ class Relay:
         self.found = dict(self.told)
 
     def delay_of(self, there: int) -> int:
-        """By how much the told times make an event later than its schedule; those not told may be why it was told to be late."""
+        """By how much the known times make an event later than its schedule. Those not known may be why it was late."""
         cuts = self.before[there]
         asked = [self.times[cut.here] + cut.lower - cut.scheduled for cut in cuts if cut.here in self.times]
         return max([0, *asked] if len(asked) == len(cuts) else [self.found.get(there, 0), *asked])
 
     def tell(self, times: Iterable[tuple[int, int]]) -> Iterator[tuple[int, int]]:
-        """The delays of the region's events that change when neighbours' events are told to be at these times."""
+        """The delays of the region's events that change when neighbours' events are at these times."""
         heard_of = {event: time for event, time in times if event in self.behind}
         self.times.update(heard_of)
         for there in dict.fromkeys(cut.there for event in heard_of for cut in self.behind[event]):
