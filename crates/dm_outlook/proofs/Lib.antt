@@ -1,2 +1,2 @@
-pub mod Sized
+pub mod Behind
 pub mod Looked

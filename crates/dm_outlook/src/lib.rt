@@ -1,6 +1,6 @@
 //! A plan of a window at an entry of a table, and what becomes of it at the last entry.
 //!
-//! It stands on dm_window for plans of windows and for plans that are carried over, on dm_table and dm_history for the rows at an
+//! It stands on dm_window for plans of windows and for plans that are carried over, on dm_table and dm_rows for the rows at an
 //! entry, and on dm_cert, dm_report and dm_outside for texts.
 //!
 //! # What is promised

@@ -9,9 +9,8 @@ ghost use Rattle.dm_window.specs.Rebasing.{DecideOnce};
 ghost use Rattle.dm_outlook.specs.Outlooks.{IsCarried, IsMinimalFor, IsOutlook};
 
 use dm_base::{ActId, Items};
-use dm_history::replay;
 use dm_network::Network;
-use dm_rows::{Decision, Entry, Rows, Snapshot};
+use dm_rows::{Decision, Entry, Rows, Snapshot, admit};
 use dm_table::Table;
 use dm_times::least;
 use dm_tree::Plan;
@@ -186,10 +185,15 @@ fn rows_behind(alloc: Global, table: &Table<'_>, entries: &[Entry]) -> Result<Ro
     ensures sized { IfOk result (IsSized table.now.network) }
 {
     table.reveal();
-    // The front of a legal history is one, so that only memory may be missing.
-    let Ok(rows) = replay(alloc, table.network(), table.start(), entries) else {
-        return Err(AllocError);
-    };
+    let net = table.network();
+    let mut rows = table.start().copy()?;
+    for entry in entries {
+        // What a table has accepted is admitted again, so that only memory may be missing.
+        let Ok(change) = admit(alloc, net, &rows, &entry.message) else {
+            return Err(AllocError);
+        };
+        rows.apply(&change);
+    }
     Ok(rows)
 }
 
