@@ -23,14 +23,14 @@ some_back : (k : ℕ) → 1 ≤ k → nat_lt 0 k ≡ true
 some_back k p = lt-ltb 0 k p
 
 module _ (history : List Entry) (logs : List FeedLog) (named : List Bool) (each : length named ≡ length history) (flagged : AreFlagged (all_items logs) named) where
-  named_all : AreAll named → AreNamed history logs
+  pub named_all : AreAll named → AreNamed history logs
   named_all all = λ n positive within.
       let k : ℕ = n - 1 in
       let at : k + 1 ≡ n = omega arith in
       let below : k < length named = omega (arith, each) in
       subst (λ (m : ℕ). 1 ≤ count_by (names m) (all_items logs)) at (some (count_by (names (k + 1)) (all_items logs)) (sym (flagged k below) ∙ all k below))
 
-  all_named : AreNamed history logs → AreAll named
+  pub all_named : AreNamed history logs → AreAll named
   all_named named_all = λ n below. flagged n below ∙ some_back (count_by (names (n + 1)) (all_items logs)) (named_all (n + 1) (omega arith) (omega (arith, each)))
 
   module _ (old mid : Place) (line number : ℕ) (at : line ≡ old.line) where

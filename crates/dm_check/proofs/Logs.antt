@@ -61,7 +61,7 @@ module _ (s : Setting) (history : List Entry) (before : List FeedLog) (feed : �
 
 -- ---- all logs
 
-items_more : (logs : List FeedLog) (log : FeedLog) → all_items (logs ++ log ∷ []) ≡ all_items logs ++ log.items
+pub items_more : (logs : List FeedLog) (log : FeedLog) → all_items (logs ++ log ∷ []) ≡ all_items logs ++ log.items
 items_more [] log = append-nil log.items
 items_more (l ∷ logs) log = ap (λ xs. l.items ++ xs) (items_more logs log) ∙ sym (append_assoc l.items (all_items logs) log.items)
 

@@ -14,3 +14,4 @@ pub mod ToldEach
 pub mod OnceNamed
 pub mod ToldRuns
 pub mod BothWays
+pub mod InMemory

@@ -1,3 +1,4 @@
 -- What the judges compute. Who believes what is told need not read it.
 pub mod Blocks
 pub mod Gathering
+pub mod TrueLogs

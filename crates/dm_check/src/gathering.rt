@@ -102,7 +102,7 @@ fn claiming(answered: Answered) -> Option<Answered>
 }
 
 /// Claims with one more.
-fn pushed(claims: Vec<Answered>, claim: Answered) -> Result<Vec<Answered>, AllocError>
+pub(crate) fn pushed(claims: Vec<Answered>, claim: Answered) -> Result<Vec<Answered>, AllocError>
     requires claims { All IsSpelledAnswer claims.items }
     requires said { IsSpelledAnswer claim }
     ensures { IfOk result (λ more. All IsSpelledAnswer more.items) }

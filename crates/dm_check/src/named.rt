@@ -66,7 +66,7 @@ pub(crate) fn boards_told(lines: &mut Lines, named: &[bool]) -> Result<u128, Fau
 }
 
 /// Whether all are flagged.
-fn are_all(named: &[bool]) -> bool
+pub(crate) fn are_all(named: &[bool]) -> bool
     ensures { Tells ((n : ℕ) → n < length named.now → slice_index_or named.now n false ≡ true) result }
 {
     named.iter().all(|flag| *flag)

@@ -44,7 +44,7 @@ impl Drop for Logs<'_> {
 }
 
 /// Whether an answer of one line is the next item of a feed's log.
-fn is_next_answer(
+pub(crate) fn is_next_answer(
     replay: &mut Replay<'_>,
     asked: &Asked<'_>,
     answer: &Answer,
@@ -65,7 +65,7 @@ fn is_next_answer(
 }
 
 /// Whether a plan is the next item of a feed's log.
-fn is_next_plan(replay: &mut Replay<'_>, asked: &Asked<'_>, plan: &Plan) -> Result<bool, AllocError>
+pub(crate) fn is_next_plan(replay: &mut Replay<'_>, asked: &Asked<'_>, plan: &Plan) -> Result<bool, AllocError>
     ensures tells { (before : List LogItem) → IsPast before asked.now.past.now
         → IfOk result (Tells (IsNextItem replay.old.journal.setting replay.old.journal.history asked.now.feed before
         (Answered asked.now.line asked.now.said.now (PlanReply plan.now)))) }

@@ -98,8 +98,8 @@ run_in s feeds contents plans table logs is same size go_on is_in entered =
     } in
     subst (λ (t : Setting). IsRunIn t feeds contents (run_of table logs) items) same here
 
--- what is known of a network, rows, a penalty and a text is so of equal ones
-pub carried : (P : Net → RowsValue → ℕ → List ℕ → Type 0) (net other : Net) (start begin : RowsValue) (penalty price : ℕ) (text same : List ℕ) → net ≡ other → start ≡ begin → penalty ≡ price → text ≡ same → P net start penalty text →
+-- what is known of a network, rows, a penalty and a list is so of equal ones
+pub carried : {V : Type 0} (P : Net → RowsValue → ℕ → List V → Type 0) (net other : Net) (start begin : RowsValue) (penalty price : ℕ) (text same : List V) → net ≡ other → start ≡ begin → penalty ≡ price → text ≡ same → P net start penalty text →
     P other begin price same
 carried P net other start begin penalty price text same a b c d h =
     subst (P other begin price) d (subst (λ (n : ℕ). P other begin n text) c (subst (λ (r : RowsValue). P other r penalty text) b (subst (λ (n : Net). P n start penalty text) a h)))

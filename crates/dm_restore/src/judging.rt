@@ -1,5 +1,5 @@
-//! A run that was read back: its printed text, and what is told of that text.
-ghost use Rattle.std.specs.Prelude.{◌≡◌, ◌≤◌, [], All, length, IfOk, IfErr, OnOk};
+//! A run that was read back: whether its logs are true, and where they are not, what is told of its printed text.
+ghost use Rattle.std.specs.Prelude.{◌≡◌, ◌≤◌, ◌↔◌, [], IsTrue, All, length, IfOk, IfErr, OnOk};
 ghost use Rattle.dm_cert.specs.declared.limits.TheConstants.{PLANS};
 ghost use Rattle.dm_cert.specs.Logs.{AreTrueLogs};
 ghost use Rattle.dm_cert.specs.RunTexts.{IsSpelledLog, run_text, FitsRun};
@@ -13,7 +13,7 @@ ghost use Rattle.dm_restore.specs.Inside.Judging.{run_of, StopsJudging};
 use crate::stops::RestoreStop;
 use dm_base::limits::TEXT;
 use dm_cert::FeedLog;
-use dm_check::{Verdict, check};
+use dm_check::{Verdict, are_true_logs, check};
 use dm_items::{Gathered, items_are_held};
 use dm_outside::{Sink, WriteFault};
 use dm_report::{Run, print_run};
@@ -73,7 +73,29 @@ fn log_is_held(log: &FeedLog)
     items_are_held(log.items.as_slice());
 }
 
-/// Judges the text of the run of a table and logs, of 1 to 64 feeds.
+/// Whether logs, of at most 64 feeds, are true of the history of a table.
+fn are_true(alloc: Global, desk: &TableDesk<'_>, logs: &[FeedLog]) -> Result<bool, AllocError>
+    requires spelled { All IsSpelledLog logs.now }
+    requires few { length logs.now ≤ 64 }
+    requires plans { desk.now.plans ≤ PLANS }
+    ensures { IfOk result (λ good. IsTrue good
+        ↔ AreTrueLogs (setting_of desk.now.plans desk.now.table) desk.now.table.history logs.now) }
+{
+    let table = &desk.table;
+    table.reveal();
+    are_true_logs(
+        alloc,
+        table.network(),
+        table.start(),
+        table.penalty(),
+        desk.plans,
+        table.history().as_slice(),
+        logs,
+    )
+}
+
+/// Judges logs, of 1 to 64 feeds. Where they are not true, their run is printed, and its text judged: so the first record is told
+/// that breaks its rule.
 pub(crate) fn judge(
     alloc: Global,
     desk: &TableDesk<'_>,
@@ -84,6 +106,23 @@ pub(crate) fn judge(
     requires few { length logs.now ≤ 64 }
     requires plans { desk.now.plans ≤ PLANS }
     ensures table { IsTable desk.now.table }
+    ensures good { OnOk result (AreTrueLogs (setting_of desk.now.plans desk.now.table) desk.now.table.history logs.now) }
+    ensures stops { IfErr result (StopsJudging desk.now.plans desk.now.table logs.now) }
+{
+    desk.table.reveal();
+    match are_true(alloc, desk, logs) {
+        Ok(true) => Ok(()),
+        Ok(false) => judge_text(alloc, desk, logs),
+        Err(AllocError) => Err(RestoreStop::OutOfMemory),
+    }
+}
+
+/// Judges the text of the run of a table and logs, of 1 to 64 feeds.
+fn judge_text(alloc: Global, desk: &TableDesk<'_>, logs: &[FeedLog]) -> Result<(), RestoreStop>
+    requires spelled { All IsSpelledLog logs.now }
+    requires some { 1 ≤ length logs.now }
+    requires few { length logs.now ≤ 64 }
+    requires plans { desk.now.plans ≤ PLANS }
     ensures good { OnOk result (AreTrueLogs (setting_of desk.now.plans desk.now.table) desk.now.table.history logs.now) }
     ensures stops { IfErr result (StopsJudging desk.now.plans desk.now.table logs.now) }
 {

@@ -1,16 +1,17 @@
 -- No entry is named by two items.
-use Rattle.std.proofs.Common.{◌≡◌, ℕ, ◌+◌, ◌-◌, ◌<◌, ◌≤◌, Bool, true, false, cond, List, [], ◌∷◌, ◌++◌, length, get_or, Some, refl, sym, ap, subst, ◌∙◌, ◌⊎◌, inl, inr, arith, length-append}
+use Rattle.std.proofs.Common.{◌≡◌, ℕ, ◌+◌, ◌-◌, ◌<◌, ◌≤◌, Bool, true, false, cond, List, [], ◌∷◌, ◌++◌, length, take, get_or, Some, refl, sym, ap, subst, ◌∙◌, ◌⊎◌, inl, inr, arith, length-append}
 use Rattle.std.specs.Prelude.{count_by}
 use Rattle.std.proofs.lemmas.List.Sums.{sum_by-append, sum_by-cons}
-use Rattle.std.proofs.lemmas.Option.{slice_get-get_or}
+use Rattle.std.proofs.lemmas.List.{length-take-le}
+use Rattle.std.proofs.lemmas.Option.{slice_get-get_or, slice_get_within}
 use Rattle.dm_rows.specs.declared.messages.Entry.{Entry}
 use Rattle.dm_rows.specs.declared.messages.Message.TheVariants.{Now}
 use Rattle.dm_cert.specs.declared.replies.LogItem.{LogItem}
 use Rattle.dm_cert.specs.declared.replies.FeedLog.{FeedLog}
 use Rattle.dm_cert.specs.Answers.{Setting, IsEntry, IsTrueAnswer}
-use Rattle.dm_cert.specs.Logs.{kind_of, line_of, number_after, names, all_items, AreTrueAnswers, IsInOrder}
+use Rattle.dm_cert.specs.Logs.{kind_of, line_of, number_after, names, all_items, AreTrueAnswers, IsInOrder, IsTrueLog, AreTrueLogs}
 use Rattle.dm_check.specs.FalseRecords.{AreNamed}
-use Rattle.dm_records.proofs.Each.{Each}
+use Rattle.dm_records.proofs.Each.{Each, each_at}
 use Rattle.dm_records.proofs.Named.{CameFrom, item_named, IsTrueBehind}
 
 -- of some items behind a line none names the entry, or one does, and the entry came from a later line of this feed
@@ -63,7 +64,7 @@ module _ (s : Setting) (history : List Entry) (n : ℕ) (e : Entry) (is : IsEntr
       (sum_by-append (λ (a : LogItem). cond (names n a) 1 0) log.items (all_items logs))
       (once_in (length before + 1) [] log.items 0 0 each.0.answers each.0.in_order) rest
 
-pub named_once : (s : Setting) (history : List Entry) (logs : List FeedLog) → AreNamed history logs → Each (IsTrueBehind s history) [] logs → (n : ℕ) → 0 < n → n ≤ length history →
+named_once : (s : Setting) (history : List Entry) (logs : List FeedLog) → AreNamed history logs → Each (IsTrueBehind s history) [] logs → (n : ℕ) → 0 < n → n ≤ length history →
     count_by (names n) (all_items logs) ≡ 1
 named_once s history logs named each n some within =
     let d : Entry = record { feed = 0; line = 0; message = Now 0 } in
@@ -72,3 +73,13 @@ named_once s history logs named each n some within =
     let is : IsEntry history n e = (some, slice_get-get_or history (n - 1) d low) in
     let least = named n some within in
     elim (once_of s history n e is [] logs each) [ inl none ↦ absurd (omega (arith, none, least)) | inr one ↦ one.0 ]
+
+-- logs that name every entry are true where each is true behind those before it
+pub true_logs : (s : Setting) (history : List Entry) (logs : List FeedLog) → AreNamed history logs → Each (IsTrueBehind s history) [] logs → AreTrueLogs s history logs
+true_logs s history logs named each = record {
+  each = λ place log at.
+      let below = slice_get_within logs place log at in
+      let size : length (take place logs) ≡ place = length-take-le place logs (omega arith) in
+      subst (λ (k : ℕ). IsTrueLog s history k log.items) size (each_at (IsTrueBehind s history) [] logs each place log at);
+  once = named_once s history logs named each;
+}

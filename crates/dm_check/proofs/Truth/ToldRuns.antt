@@ -20,21 +20,19 @@ use Rattle.dm_cert.specs.declared.notes.Note.{Note}
 use Rattle.dm_cert.specs.declared.replies.LogItem.{LogItem}
 use Rattle.dm_cert.specs.declared.replies.FeedLog.{FeedLog}
 use Rattle.dm_cert.specs.Answers.{Setting, rows_after}
-use Rattle.dm_cert.specs.Logs.{kind_of, number_after, AreTrueAnswers, IsInOrder, IsTrueLog}
 use Rattle.dm_cert.specs.RunTexts.{Run, run_text, FitsEntry, FitsItem, FitsLog, FitsNote, IsSpelledItem, IsSpelledLog}
 use Rattle.dm_cert.specs.Runs.{IsTrueNote, AreTrueNotes}
-use Rattle.dm_check_answers.specs.Judging.{line_before, number_before}
-use Rattle.dm_check.specs.FalseRecords.{IsNextNote, TellsEntry, TellsItem, TellsLog, TellsNote, TellsTime, entry_before}
+use Rattle.dm_check.specs.FalseRecords.{IsNextItem, IsNextNote, TellsEntry, TellsItem, TellsLog, TellsNote, TellsTime, entry_before}
 use Rattle.dm_check.proofs.Spelled.{good_is_spelled_so}
 use Rattle.dm_check.specs.Truth.{GoodTextsAreTrue}
 use Rattle.dm_records.proofs.Each.{Each, each_at, each_weaker, all_of_each}
 use Rattle.dm_check.proofs.Truth.Limits.{least_low, legal_within}
 use Rattle.dm_records.proofs.Named.{IsTrueBehind}
 use Rattle.dm_check.proofs.Truth.Numbers.{IsSound}
-use Rattle.dm_check.proofs.Truth.OnceNamed.{named_once}
+use Rattle.dm_check.proofs.Truth.OnceNamed.{true_logs}
 use Rattle.dm_check.proofs.Truth.ToldEach.{told_each, Says}
 use Rattle.dm_check.proofs.Truth.ToldItems.{IsSoundItem, item_sound}
-use Rattle.dm_check.proofs.Truth.Truths.{line_more, number_more, last_entry}
+use Rattle.dm_check.proofs.Truth.Truths.{last_entry, next_true, next_in_order}
 
 -- ---- entries
 
@@ -66,19 +64,6 @@ legal s history few each = record {
 
 -- ---- logs
 
-answers_true : (s : Setting) (history : List Entry) (feed : ℕ) (before items : List LogItem) → Each (IsSoundItem s history feed) before items → AreTrueAnswers s history feed before items
-answers_true s history feed before [] each = tt
-answers_true s history feed before (x ∷ items) each = (each.0.next.is_true, answers_true s history feed (before ++ x ∷ []) items each.1)
-
-in_order : (s : Setting) (history : List Entry) (feed : ℕ) (before items : List LogItem) → Each (IsSoundItem s history feed) before items → IsInOrder (line_before before) (number_before before) items
-in_order s history feed before [] each = tt
-in_order s history feed before (x ∷ items) each = (
-  each.0.next.line,
-  each.0.next.number,
-  subst (λ (l : ℕ). IsInOrder l (number_after (number_before before) (kind_of x)) items) (line_more before x)
-      (subst (λ (m : ℕ). IsInOrder (line_before (before ++ x ∷ [])) m items) (number_more before x) (in_order s history feed (before ++ x ∷ []) items each.1)),
-)
-
 -- the log is true, its numbers are ones that types hold, and its items have spellings
 record IsSoundLog (s : Setting) (history : List Entry) (before : List FeedLog) (log : FeedLog) : Type 0 where
   is_true : IsTrueBehind s history before log
@@ -90,10 +75,11 @@ log_sound s history sound before place log next told =
     let feed : ℕ = length before + 1 in
     let items : List LogItem = told.then.value in
     let all = told_each (TellsItem s history feed) (IsSoundItem s history feed) (λ held p x n t. item_sound s history sound feed held p x n t) told.value items told.behind told.then.behind told.then.told in
+    let next = each_weaker (IsSoundItem s history feed) (IsNextItem s history feed) (λ held x sound_item. sound_item.next) [] items all.each in
     let log_is = told.then.then.then.0 in
     subst (IsSoundLog s history before) (sym log_is)
     (record {
-      is_true = record { answers = answers_true s history feed [] items all.each; in_order = in_order s history feed [] items all.each };
+      is_true = record { answers = next_true s history feed [] items next; in_order = next_in_order s history feed [] items next };
       fits = all_of_each (IsSoundItem s history feed) FitsItem (λ held x sound_item. sound_item.fits) [] items all.each;
       spelled = all_of_each (IsSoundItem s history feed) IsSpelledItem (λ held x sound_item. sound_item.spelled) [] items all.each;
     })
@@ -240,13 +226,7 @@ good_texts_are_true net start penalty most_plans text entries plans network limi
           some_feed = (let count = each_log.count in omega (arith, count, some_feeds));
           few_feeds = (let count = each_log.count in omega (arith, count, few_feeds));
           legal = is_legal;
-          logs = record {
-            each = λ place log at.
-                let below = slice_get_within logs place log at in
-                let size : length (take place logs) ≡ place = length-take-le place logs (omega arith) in
-                subst (λ (k : ℕ). IsTrueLog s history k log.items) size (each_at (IsTrueBehind s history) [] logs logs_true place log at);
-            once = named_once s history logs boards_on.told.then.0 logs_true;
-          };
+          logs = true_logs s history logs boards_on.told.then.0 logs_true;
           notes = notes_are;
           least = least;
           cost = cost_on.told.then.1 ∙ (costs.cost ∙ ap (λ ts. cost_of net rows ts penalty) (sym same));
