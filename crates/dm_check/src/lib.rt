@@ -1,4 +1,4 @@
-//! The verdict on the text of a run: it is good, or one record is the first that breaks its rule.
+//! The verdict on the text of a run: it is good, or one record is the first that breaks its rule; and whether logs are true.
 //!
 //! It stands on dm_check_answers for answers, on dm_check_plans for plans, and on dm_cert for the texts and for what a true
 //! answer is. It stands on dm_text for the words in which a text is judged record by record, and on dm_records, which says how
@@ -15,6 +15,10 @@
 //! The text is good exactly where it is, in one of the versions, that of a true run (`specs/Truth`) of the network from these
 //! rows at this penalty and this number of plans. Nothing is asked of the text but its size. `good` does not say that the logs
 //! hold the feeds' bytes, nor that they keep to rounds.
+//!
+//! [`are_true_logs`] tells exactly whether logs are true of entries, as both stand in memory. It takes no text and makes none, so
+//! it takes less memory and less time than [`check`]. It does not tell where the first fault is, and it does not ask whether
+//! the entries are accepted: whoever calls it knows that, or `check` tells it.
 //!
 //! Laws:
 //!
