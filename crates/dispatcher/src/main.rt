@@ -6,9 +6,9 @@
 //!
 //! It makes the real shelf, sink and gate. For each stop S that the words give, it makes a board in the file `DIR/board-S.txt`.
 //! Where the words ask for the live server, it opens the feeds and the folder of the store and calls `dm_serve::serve_day`. Where
-//! they ask for the text of a store, it calls `dm_store_text::text_of_store`. Otherwise it calls `dm_program::dispatch` with the
-//! words. It says on the standard error what went wrong, and for a server also what it found at its start. It ends with the
-//! status.
+//! they ask for the text of a store, it calls `dm_store_text::text_of_store`. Where they begin with `serve` or `text` and ask for
+//! neither, it writes their usage line. With all other words it calls `dm_program::dispatch`. It says on the standard error what
+//! went wrong, and for a server also what it found at its start. It ends with the status.
 #![tactic(auto)]
 
 ghost use Rattle.std.specs.Prelude.{◌≤◌, vec_len, IfOk};

@@ -1,4 +1,4 @@
-//! The entries of a text. Each is accepted by the rows after those before it.
+//! The entries of a text. Each must be accepted by the rows after those before it.
 ghost use Rattle.std.specs.Prelude.{◌≡◌, ◌+◌, ◌<◌, ◌≤◌, List};
 ghost use Rattle.dm_base.specs.declared.limits.TheConstants.{ENTRIES, FEEDS};
 ghost use Rattle.dm_rows.specs.declared.messages.Entry.{Entry as EntryValue};

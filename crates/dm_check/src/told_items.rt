@@ -1,4 +1,4 @@
-//! The items of a log. Each is true, and in order after those before it.
+//! The items of a log. Each must be true, and in order after those before it.
 ghost use Rattle.std.specs.Prelude.{ℕ, ◌≡◌, ◌<◌, ◌≤◌, List, Bool, true, Ok, IfOk};
 ghost use Rattle.dm_cert.specs.declared.limits.TheConstants.{PLANS};
 ghost use Rattle.dm_feed.specs.Lines.{IsSpelledLine};
@@ -65,7 +65,11 @@ pub(crate) fn is_next_answer(
 }
 
 /// Whether a plan is the next item of a feed's log.
-pub(crate) fn is_next_plan(replay: &mut Replay<'_>, asked: &Asked<'_>, plan: &Plan) -> Result<bool, AllocError>
+pub(crate) fn is_next_plan(
+    replay: &mut Replay<'_>,
+    asked: &Asked<'_>,
+    plan: &Plan,
+) -> Result<bool, AllocError>
     ensures tells { (before : List LogItem) → IsPast before asked.now.past.now
         → IfOk result (Tells (IsNextItem replay.old.journal.setting replay.old.journal.history asked.now.feed before
         (Answered asked.now.line asked.now.said.now (PlanReply plan.now)))) }

@@ -11,14 +11,16 @@
 //! - `specs/Generated`: what a generated day does.
 //! - `specs/Checked`: what is printed of a text that is checked.
 //! - `specs/Answers`: what is printed of what is asked of a journal.
-//! - `specs/Ends`: why a call ends otherwise.
+//! - `specs/Boards`: what becomes of the boards.
+//! - `specs/Ends`: how a call ends, and which text is due at each status.
 //!
 //! # What is promised
 //!
-//! `dispatch_with` does what the words ask, with what its [`CommandMeans`] give. It asks for plans of rows within the limits and without
-//! a cycle, and is handed true ones (`specs/Searching`).
+//! `dispatch_with` does what the words ask, with what its [`CommandMeans`] give. It asks for plans of rows within the limits and
+//! without a cycle, and is handed true ones (`specs/Searching`).
 //!
-//! `ends`: the call ends as its status says (`Ends`). All clauses of `dispatch` follow from it.
+//! `ends`: the call ends as its status says (`Ends`). All clauses of `dispatch` follow from it, except the four that hold
+//! whatever the status.
 //!
 //! - At each status but two, the sink has taken a text that is due to the words at this status (`IsDue`).
 //! - After a write fault, the sink's count has risen, and the sink has taken a proper front of a text that was due.

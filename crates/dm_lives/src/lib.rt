@@ -1,8 +1,8 @@
 //! Laws of a server's lives over one store: what a crash leaves of one is taken up by the next.
 //!
 //! It stands on dm_serve for what the lives of a server are and how they end, on dm_store for stores, on dm_store_text for what
-//! is not refused of a journal, on dm_catch_up for feeds that go on with their logs, and on dm_watch for rounds. The law of
-//! dm_book says that the lives are one, whatever their number.
+//! is not refused of a journal, on dm_catch_up for feeds that go on with their logs, and on dm_watch for rounds. The law
+//! `lives_are_one` of dm_book says that along any number of lives the book only grows.
 //!
 //! # What is promised
 //!
@@ -14,8 +14,8 @@
 //!
 //! [`grown_feeds_are_not_refused`]: suppose that each log of the last book of a life answers the due lines of a front of what its
 //! feed had given, and that a crash left any moment of that life. Then what is left is refused only for want of room, or for a
-//! feed that does not give again all that it had given. If the feed gives a front of that, it is refused for a line that does not
-//! come.
+//! feed that does not give again all that it had given. Where such a feed gives a front of that, the refusal is for a line that
+//! does not come.
 //!
 //! [`rounds_answer_feeds`]: between two rounds, each log of a watch's book answers the due lines of a front of what its feed has
 //! given. At the end of a day the same holds by the day's own clause.

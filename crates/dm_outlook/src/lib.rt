@@ -6,15 +6,15 @@
 //! # What is promised
 //!
 //! `outlook_of` gives a true plan of the window for the rows at an entry (`IsOutlook`). That is the last entry, or one that is
-//! named and is no later. Where that is asked, it also says which of the plan's choices are kept when others are given back
-//! (`IsMinimalFor`). Where an entry is named, it also says what becomes of the plan's choices at the last entry. It says one of
-//! these, each exactly where it holds:
+//! named and is no later. If asked, it also says which of the plan's choices are kept when those that are worth little are given
+//! back (`IsMinimalFor`). Where an entry is named, it also says what becomes of the plan's choices at the last entry. It says one
+//! of these, each exactly where it holds:
 //!
 //! - the choices that differ from the rows there, and what those rows cost with them;
 //! - the first choice that is not free any more;
 //! - a cycle that the choices make.
 //!
-//! Otherwise it is want of memory.
+//! The only other answer is want of memory.
 //!
 //! `print_outlook` writes exactly the text of all that (`outlook_text`): the window; how many choices are held, if some are; the
 //! plan as in a run text; the choices that are kept, if that was asked; and what becomes of the plan. A write fault comes only

@@ -24,7 +24,7 @@
 //!
 //! Of the boards of the list (`ShowRun`; clauses name it `Ending`, by its one ghost member `ends`):
 //!
-//! - Each board that no note of the text names shows these times of its stop, where it told at first what it shows.
+//! - Each board that no note of the text names shows the run's final times of its stop, where it told at first what it shows.
 //! - Each note has the stop of its place. It names a board whose count has risen and which was not sound for the network.
 //! - A call that ends without a run leaves all boards as they were, except at want of memory.
 //!
@@ -57,8 +57,8 @@
 //!
 //! - A refusal is the first of the files, or a text that is too long, or what `window` refuses (an entry that there is not, or an
 //!   activity without a choice to hold), or the text of a run in which a feed is too long.
-//! - A read fault is of a file or of a text that the shelf, as handed in, does not tell sound. Or it is the text of a run in
-//!   which a log ends with a fault, under a name that the shelf does not tell sound.
+//! - A read fault is of a file or of a text of which the shelf, as handed in, does not tell that it is sound. Or it is the text
+//!   of a run in which a log ends with a fault, under a name of which the shelf does not tell that it is sound.
 //! - After a write fault the sink's count has risen, and a proper front of a text that was due was taken.
 //! - At want of memory the words ask for something, and nothing was written. What boards show then is said only of words that ask
 //!   for no run.

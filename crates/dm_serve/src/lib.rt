@@ -17,9 +17,10 @@
 //!   journal and in the reply files. Each log answers the due lines of a front of its feed, each once and in order. The boards
 //!   are up with the run's times (`IsDayOf`).
 //! - `told`: it ends at Ok only where it was told to end.
-//! - `refused`, `read_fault`, `write_fault`, `no_memory`: each other status has its cause, as `specs/Ends` has it. What is
-//!   refused at a start, or could not be read there, was only looked at, and is left as it was. Where a write fault comes from a
-//!   feed that could not be synced, it is not said which feed that was.
+//! - `refused`, `read_fault`, `write_fault`: each of these statuses has its cause, as `specs/Ends` has it. Where a journal, a
+//!   reply file or a feed is refused at a start, or the store could not be read there, the store was only looked at, and is left
+//!   as it was. Where a write fault comes from a feed that could not be synced, it is not said which feed that was.
+//! - `no_memory`: nothing was written. `words_are_good`: it does not end with the status `Usage`.
 //! - `shelf_kept`, `later`, `store_later`, `boards_kept`: as for a run. `store_later` says of the store's count what `later` says
 //!   of the sink's.
 #![tactic(auto)]

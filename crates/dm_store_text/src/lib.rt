@@ -10,8 +10,9 @@
 //!
 //! At status Ok the text is that of a true run in version 2. The run's history and logs are the book in the blocks that the bytes
 //! of the journal are. No log has a stop, and there are no notes (`IsTextIn`). Each other status has its cause: the files are
-//! refused, or one of them is not told sound; the journal is refused for what its blocks hold, or is not told sound; or the sink
-//! failed, and took a proper front of a text that was due. At want of memory nothing was written.
+//! refused, or of one of them the shelf does not tell that it is sound; the journal is refused for what its blocks hold, or the
+//! shelf does not tell that it is sound; or the sink failed, and took a proper front of a text that was due. At want of memory
+//! nothing was written.
 //!
 //! [`end_files`], [`end_store`], [`end_refused`], [`end_reply`], [`end_feed`], [`end_unread`] and [`end_server_usage`] each write
 //! the line that they name whole, with its status, unless the sink failed. [`end_run`] does so with the text of a run.

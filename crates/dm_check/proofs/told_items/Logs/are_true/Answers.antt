@@ -22,7 +22,7 @@ loop-place-preserved c =
     let before = c.loop-place.self.named.items in
     let after = c.is_true_log.new.self.named.items in
     let told = subst (λ (b : Bool). LogIsOn c.loop-place.self.replay.journal.setting c.loop-place.self.replay.journal.history i c.as_slice.result.now before after b) c.in-Ok-true.field-0-test
-        (c.in-Ok-true.ensures.tells i refl) in
+    (c.in-Ok-true.ensures.tells i refl) in
     let here = subst (λ (j : JournalValue). LogIsOn j.setting j.history i c.as_slice.result.now before after true) c.loop-place.invariant.same told in
     let on = subst (λ (items : List LogItem). LogIsOn s history i items before after true) c.as_slice.ensures here in
     record {
@@ -41,7 +41,7 @@ returns-in-Ok-false c =
     let before = c.loop-place.self.named.items in
     let after = c.is_true_log.new.self.named.items in
     let told = subst (λ (b : Bool). LogIsOn c.loop-place.self.replay.journal.setting c.loop-place.self.replay.journal.history i c.as_slice.result.now before after b) c.in-Ok-false.field-0-test
-        (c.in-Ok-false.ensures.tells i refl) in
+    (c.in-Ok-false.ensures.tells i refl) in
     let here = subst (λ (j : JournalValue). LogIsOn j.setting j.history i c.as_slice.result.now before after false) c.loop-place.invariant.same told in
     let none = subst (λ (items : List LogItem). LogIsOn s history i items before after false) c.as_slice.ensures here in
     are_untrue s history logs (log_untrue s history logs i x low c.index-logs-place.is none)

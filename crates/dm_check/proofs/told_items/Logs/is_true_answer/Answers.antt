@@ -8,8 +8,7 @@ use Rattle.dm_check.proofs.told_items.Logs.is_true_answer.Goals as goal
 pub returns-in-Ok-true-clause-tells : goal.returns-in-Ok-true-clause-tells
 returns-in-Ok-true-clause-tells c = λ before past.
     let next = subst (λ (b : Bool). Tells (IsNextItem c.args.self.now.replay.journal.setting c.args.self.now.replay.journal.history c.args.feed before (Answered c.args.line c.args.said.now (reply_of c.args.answer.now))) b)
-    c.in-Ok-true.field-0-test (c.in-Ok-true.ensures.tells before past) in
-    (
+    c.in-Ok-true.field-0-test (c.in-Ok-true.ensures.tells before past) in (
       next,
       record {
         past_is = c.add_answer.ensures before c.args.said.now past;

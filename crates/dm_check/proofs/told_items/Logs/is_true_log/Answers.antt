@@ -20,7 +20,7 @@ loop-item-preserved c =
     let after = c.is_true_item.new.self.named.items in
     let new = c.is_true_item.new.past in
     let told = subst (λ (b : Bool). IsNextOn c.loop-item.self.replay.journal.setting c.loop-item.self.replay.journal.history c.args.feed (take i items) x new before after b) c.in-Ok-true.field-0-test
-        (c.in-Ok-true.ensures.tells (take i items) c.loop-item.invariant.so_far.kept.past_is) in
+    (c.in-Ok-true.ensures.tells (take i items) c.loop-item.invariant.so_far.kept.past_is) in
     let on = subst (λ (j : JournalValue). IsNextOn j.setting j.history c.args.feed (take i items) x new before after true) c.loop-item.invariant.same told in
     record {
       so_far = item_more s history c.args.feed items i x low c.item-item.is c.loop-item.past new c.args.self.now.named.items before after c.loop-item.invariant.so_far on.0 on.1;
@@ -39,7 +39,7 @@ returns-in-Ok-false-clause-tells c = λ place at.
     let after = c.is_true_item.new.self.named.items in
     let new = c.is_true_item.new.past in
     let told = subst (λ (b : Bool). IsNextOn c.loop-item.self.replay.journal.setting c.loop-item.self.replay.journal.history c.args.feed (take i items) x new before after b) c.in-Ok-false.field-0-test
-        (c.in-Ok-false.ensures.tells (take i items) c.loop-item.invariant.so_far.kept.past_is) in
+    (c.in-Ok-false.ensures.tells (take i items) c.loop-item.invariant.so_far.kept.past_is) in
     let none = subst (λ (j : JournalValue). IsNextOn j.setting j.history c.args.feed (take i items) x new before after false) c.loop-item.invariant.same told in
     item_untrue s history c.args.feed items i x low c.item-item.is place at none
 

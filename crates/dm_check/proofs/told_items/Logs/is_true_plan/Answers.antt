@@ -10,8 +10,7 @@ pub returns-in-Ok-clause-tells : goal.returns-in-Ok-clause-tells
 returns-in-Ok-clause-tells c = λ before past.
     let answered = Answered c.args.line c.args.said.now (Planned c.args.plan.now) in
     let next = subst (λ (b : Bool). Tells (IsNextItem c.args.self.now.replay.journal.setting c.args.self.now.replay.journal.history c.args.feed before answered) b) c.in-Ok-true.field-0-test
-        (c.in-Ok-true.ensures.tells before past) in
-    (
+    (c.in-Ok-true.ensures.tells before past) in (
       next,
       record {
         past_is = c.in-Ok.ensures before c.args.said.now past;
