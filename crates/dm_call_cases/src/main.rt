@@ -1,8 +1,8 @@
 //! Calls that no run makes, or none directly.
 //!
-//! The cases use a connection at one station, and one where a train turns around. There an order is made, entries are kept,
-//! and times are published on boards and written. What is due was worked out by hand. For each case the program prints
-//! `NAME ok`, or after how many steps it came out otherwise.
+//! Two trains meet at one station: an order is made for them, and times are published on boards and written. Where the second
+//! train is the first one turned around, there is no order in which the second goes first. A history keeps entries one by one.
+//! What is due was worked out by hand. For each case the program prints `NAME ok`, or after how many steps it came out otherwise.
 //!
 //! It stands on the crates that it calls and on dm_samples for networks, and promises nothing.
 #![tactic(auto)]

@@ -10,9 +10,9 @@
 //!
 //! [`catch_up`] takes a feed with its log. Nothing was read of the feed before.
 //!
-//! - At Ok, whole lines were passed. The due ones among them are those that the log answers, each once and in order. What follows
-//!   them is pending, and the feed is ready for a round. Over every desk that the log is true of, the feed goes on from there.
-//!   The log and the number of its items that were shown are as before.
+//! - At Ok, the feed is ready for a round. The log and the number of its items that were shown are as before. Where the log is in
+//!   order and can be spelled, the feed goes on over every desk that the log is true of: whole lines were passed, the due ones
+//!   among them are those that the log answers, each once and in order, and what follows them is pending.
 //! - `OutOfMemory`: want of memory.
 //! - `Fault`: a read failed, and the feed's count of faults has risen.
 //! - `Changed(line)`: all earlier due lines are as they were answered. Either the next due line differs from the next item's, and

@@ -14,16 +14,18 @@
 //! with one or two numbers.
 //!
 //! `read_plan` reads the plan at the front of bytes, in versions 1 and 2, and tells how long its text is. `reads`: it answers the
-//! plan, or the first line that is cut or misshapen, or that the lines show no whole tree. `ok`: a plan that is answered stands
-//! there. `exactly`: a plan whose text stands there is answered, unless memory runs out. `dispatch` does not call `read_plan`.
+//! plan, or the first line that is cut or misshapen, or that the lines show no whole tree, or want of memory. `ok`: a plan that
+//! is answered stands there. `exactly`: a plan whose text stands there is answered, unless memory runs out. `dispatch` does not
+//! call `read_plan`. [`heading_in`] reads exactly what a plan's first line says. [`read_choices`] and [`read_tree`] read the
+//! lines behind it, as many as it counts, with the same faults.
 //!
 //! The laws stand in [`laws`]. `true_logs_are_one_dispatchers`: a legal history with true logs of first due items is exactly what
 //! some schedule of one dispatcher reaches, for any number of feeds and in both versions. This law is for feeds whose due lines
 //! rise. `due_lines_rise` and `logs_answer_first`: the feeds of real bytes are such feeds, and their logs answer first due items.
 //! `logs_stay_true`: a true log stays true as the history grows. `leaves_are_the_trees`: the leaves that version 1 prints of a
-//! plan are those of its tree, each with its whole path. `plans_have_own_texts`: what is printed of a plan determines it, except
-//! for its entry, whatever stands behind it. Further laws: three texts of one network that were worked out by hand are the
-//! spellings of their runs, and the run with a plan is true.
+//! plan are those of its tree, each with its whole path. `plans_have_own_texts`: the text of a plan in one version determines the
+//! plan, except for its entry, whatever follows the text. Further laws: three texts of one network that were worked out by hand
+//! are the spellings of their runs, the run with a plan is true, and its plan is spelled in version 2 as worked out by hand.
 #![tactic(auto)]
 
 mod faults;

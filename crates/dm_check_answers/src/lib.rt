@@ -12,9 +12,13 @@
 //! A `Replay` is seen as its journal and as the number of the entry whose rows it holds. No call of it changes the journal. Its
 //! `is_true_answer` tells exactly which answers of one line are true. `go_to` and `rows` give the rows at an entry.
 //!
-//! `learn` judges what answers claim of rows ([`Answered`]) in the order of the entries, so that several logs cost one walk. No
-//! clause says that it is one walk. An answer that makes the same claim is then told by the verdict that was found. Every other
-//! answer is told from the rows, as if nothing were known.
+//! `learn` judges what answers claim of rows ([`Answered`]) in the order of the entries, so that several logs cost one walk. An
+//! answer that makes the next of these claims is then told by the verdict that was found. Every other answer is told from the
+//! rows, as if nothing were known. No clause says any of this; `is_true_answer` is exact either way.
+//!
+//! `Past` goes along a log. `is_next_line` and `is_in_order` tell exactly whether a line and the entry number of an answer are in
+//! order behind it. `add_malformed`, `add_answer` and `add_plan` put an item behind it. [`is_budget`] tells exactly whether a
+//! plan may be asked to have so many nodes.
 //!
 //! Memory is taken for the rows, for the admission of an `Adopt`, and for the claims.
 #![tactic(auto)]

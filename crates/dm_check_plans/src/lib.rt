@@ -6,8 +6,8 @@
 //!
 //! # What is promised
 //!
-//! [`is_true_plan`], over `dm_check_times`, tells exactly whether a plan is a true plan of rows for a given number of nodes,
-//! whatever stands in it. It tests the plan's choices and cost, its bound, its mark and its size. It tests each node of the
+//! [`is_true_plan`], over `dm_check_times`, tells exactly whether a plan is a true plan of rows for a budget of nodes, whatever
+//! stands in it. It tests the plan's choices and cost, its bound, its mark and its size. It tests each node of the
 //! plan's tree, in preorder, by the relaxed problem of the node's path. A loop walks the tree.
 //!
 //! Times carry over from one node to the next. The heads of activities that are newly held or let go begin anew where they may

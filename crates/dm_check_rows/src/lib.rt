@@ -4,20 +4,21 @@
 //!
 //! # What is promised
 //!
-//! A [`CheckedRows`] is rows as messages come. `CheckedRows::accept` tells exactly whether nothing refuses a message, and
-//! makes the rows after it. `settle` of `CheckedRows` computes their least timetable where that is asked for. `is_time` and
-//! `is_cost` of `CheckedRows` tell which times and costs are true. [`is_cost_of`] tells which costs are true of any rows and
-//! their least timetable.
+//! A [`CheckedRows`] is rows as messages come. `CheckedRows::accept` tells exactly whether nothing refuses a message, and where
+//! nothing does it makes the rows after it. `enter` makes the rows after a message, or tells what refuses it at once and leaves
+//! the rows as they were. `go_to` goes to other rows. `settle` computes the least timetable of the rows, or tells that they have
+//! a cycle, exactly. After it `is_time` and `is_cost` tell exactly which times and costs are true. [`is_cost_of`] tells which
+//! costs are true of any rows and their least timetable.
 //!
-//! [`is_refused`] tells exactly whether a message is refused for the reason that is said. A cycle may be any cycle of the
-//! rows ([`shows_cycle`]).
+//! [`is_refused`] tells exactly whether a message is refused for the reason that is said. A cycle may be any cycle of the rows
+//! after the message ([`shows_cycle`]).
 //!
 //! Where the rows are known to have no cycle, none is looked for after delays, passed events, dropped changes and clocks. A
 //! proof says that these make none. A clock looks at the events that are scheduled before it. `settle_times` keeps no cost.
 //! Times follow those of before. They are computed from scratch only after an adopted list, and from the first rows.
 //!
-//! Memory is taken for the rows, one timetable and the events by their scheduled times when they are made. It is also taken
-//! for the admission of an `Adopt`. No clause speaks of that time and memory.
+//! Memory is taken when a `CheckedRows` is made, for the rows, one timetable with its cost, and the events by their scheduled
+//! times. It is also taken for the admission of an `Adopt`, and by `is_refused`. No clause speaks of that time and memory.
 #![tactic(auto)]
 
 mod checked_rows;

@@ -19,19 +19,27 @@
 //! `KeptTimetable::fill` computes the least timetable of rows from scratch, or tells that the rows have a cycle, exactly. Its
 //! rounds of relaxation go along no order of events.
 //!
-//! A [`KeptTimetable`] is kept with rows as these change ([`keep_up`]): what has changed is marked. `settle` begins the
-//! marked events, and those that were held to their times, anew from their floors.
+//! [`keep_up`] keeps a [`KeptTimetable`] with rows that have just changed, and answers yes: what has changed is marked then. Or
+//! it answers no. `settle` begins the marked events, and those that were held to their times, anew from their floors. The times
+//! are then the least ones of the rows, or it tells that the rows have a cycle, exactly.
 //!
-//! It may also hold what its caller says, whatever rows hold (`holding`, [`KeptTimetable::hold`]). `follow` so makes the
-//! times the least ones of what is held, or tells that it has a cycle, exactly. `begin_from` takes times that are least where
-//! other activities are held.
+//! A timetable may also hold what its caller says, whatever rows hold (`holding`, [`KeptTimetable::set_held`]). `follow` makes
+//! the times the least ones of what is held, or tells that it has a cycle, exactly. `begin_from` takes times that are least
+//! where other activities are held.
 //!
-//! Each event whose time `settle` or `follow` changes is noted in a set of places: a list of times that was right but at the
-//! events noted before is right but at those noted then.
+//! Each event whose time `settle` or `follow` changes is noted in a set of places. A list of times that was right except at the
+//! events noted before is right except at those noted afterwards.
 //!
 //! `cost_of` tells exactly what a timetable costs. A `KeptCost` tells the same of the times that it follows, for the rows
 //! from which its weights are taken. The penalty is charged for the rows' dropped changes, or for other activities
-//! ([`Charges`]). [`keep_cost`] keeps the weights with rows as these change.
+//! ([`Charges`]). [`keep_cost`] keeps the weights with rows that have just changed, where dropped changes are charged for, and
+//! answers yes; or it answers no.
+//!
+//! `take`, `bring` and `follow` of `KeptCost` give it other times. `renew` and `renew_all` take weights anew. `renew_event` and
+//! `renew_activity` of `KeptTimetable` take one floor, or what binds of one activity, from rows. [`fill_floors`], [`fill_spans`]
+//! and [`flag_active`] give the floors, the spans and the active activities of rows. [`comes_too_early`] tells exactly whether
+//! the head of an activity comes before its tail and its span allow. [`row_into`] and [`row_out_of`] give the places of the
+//! activities at an event. [`changes_of`] gives places over which what is 0 at all but changes adds up as over all activities.
 //!
 //! A timetable and a cost so take only what has changed. Memory is taken once, for a timetable, for marks and for a kept
 //! cost. No clause says either.

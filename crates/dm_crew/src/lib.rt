@@ -10,17 +10,21 @@
 //!
 //! The clause `answers` (`AnswersDay`) says:
 //!
+//! - Each log answers the due lines of its feed's bytes: all of them, or after a failed read the first ones. A feed that could
+//!   not be opened has an empty log.
 //! - Every log is true of the one history that the table has in the end, and has a spelling.
 //! - Each entry is named by one item.
 //! - Rounds are kept: no number of a later round is below one of an earlier round.
 //! - The table is one of the given rows at the given penalty.
 //!
-//! The clause `shown` says that in the end each board that no note names shows the table's times.
+//! The clause `shown` says that in the end each board that no note names shows the table's times, where it told at first what it
+//! shows. Each note is true. The clause `stops` says that the boards have the same stops in the same order, whatever comes.
 //!
-//! A [`ServerDesk`] is a server with one pass, as a desk that answers a feed.
+//! A [`ServerDesk`] is a server with one pass, as a desk that answers a feed. A [`Caller`] is the server for that pass, and a
+//! [`Seat`] says which pass it is.
 //!
-//! Where two or more feeds are still read, the code gives each of them a thread of its own for the round. No clause says that
-//! threads run, or that a call which waits returns.
+//! Where two or more feeds are still read, the code gives each of them a thread of its own for the round, if one can be made. No
+//! clause says that threads run, or that a call which waits returns.
 //!
 //! Want of memory may come up to the end of the last round.
 #![tactic(auto)]

@@ -19,8 +19,8 @@
 //! - `lend_each` has each of some deques lend a tally, and `settle_each` takes one in at each.
 //!
 //! Where no tally is out, `take` and `count` speak of the owner's account alone: `take` gives none only where all that was put
-//! was taken, and `count` tells what is left. Where tallies are out, both tell how many there are, but not what these have taken
-//! meanwhile. No call waits.
+//! was taken, and `count` tells what is left. Where tallies are out, neither tells what these have taken meanwhile: the clauses
+//! say only that there are as many such takings as tallies. No call waits.
 #![tactic(auto)]
 
 mod account;

@@ -12,14 +12,16 @@
 //!
 //! `answer_batch` answers the next due lines of a feed over any desk: a given number of them, or all that are left
 //! (`AnswersBatch`). What the log holds is true of the history that the desk has seen. The log has one item for each due
-//! line, plans and adoptions too. The numbers of the new items lie between the lengths before and after. A gate is passed
-//! before each line and after its reply is kept, with the feed's number. No clause speaks of the gate.
+//! line, plans and adoptions too. The numbers of the new items lie between the lengths before and after. Where no line is left
+//! it answers why. A [`HoldPoint`] is called with the feed's number before each line and after its reply is kept. Every gate is
+//! one. No clause speaks of these calls.
 //!
 //! `answer_lines` answers the whole lines of a part of a feed's bytes over any desk (`AnswersPart`). It is told how many
 //! lines of the feed came before the part, and how many due lines to answer at most. It answers each due line once, in order,
-//! and no other line. Each answer is true of what the desk has seen. Entry numbers never fall. It tells how many bytes and
-//! lines were passed. Whatever bytes came before, what was answered of them goes on (`IsFed`). It passes no gate, and sets
-//! no limit to the bytes of the whole feed.
+//! and no other line. Each answer is true of what the desk has seen. Entry numbers never fall. It tells how many bytes of the
+//! part were passed, and how many lines of the feed by then. Whatever bytes came before, what was answered of them goes on
+//! (`IsFed`). It passes no gate. The lines before the part and its bytes must together be fewer than 2^32 (`room`); nothing
+//! else limits the bytes of the whole feed.
 #![tactic(auto)]
 
 mod answers;

@@ -5,11 +5,13 @@
 //!
 //! # What is promised
 //!
-//! `Display::show` (`Shows`): after it, each board that no note names shows the times of the table, where it tells what it shows.
-//! It does not matter what the boards showed before. The notes are true. `Display::show_growth` promises the same of boards that
-//! show the times after some first entries of the table. It leaves the table as it is. No clause says that it asks boards only
-//! for events whose times have moved. `Display::into_publisher` gives the publisher as it stands. Only `Display::new` takes
-//! memory.
+//! `Display::show` (`Shows`) is for boards that this display has kept up: each that no note names still shows what it published
+//! last. What boards showed before the first call does not matter. After it, each board that no note names shows the times of the
+//! table, where it told at first what it shows. The notes are true, and the boards have the same stops in the same order.
+//!
+//! `Display::show_growth` promises the same where the times that were published last are those after some first entries of the
+//! table. It leaves the table as it is. No clause says that it asks boards only for events whose times have moved.
+//! `Display::into_publisher` gives the publisher as it stands. Only `Display::new` takes memory.
 #![tactic(auto)]
 
 mod display;

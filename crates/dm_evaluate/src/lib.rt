@@ -8,9 +8,10 @@
 //! # What is promised
 //!
 //! An `Evaluator` keeps the relaxed problem of a path of decisions live. [`Evaluator::decide`] puts a decision behind the path.
-//! It refuses exactly where the relaxed problem would then have a cycle; the path and the times are then as before.
-//! [`Evaluator::undecide`] takes any decision of the path back, and never fails. After each of them the times are the least of
-//! the path's relaxed problem (`least`). `cost` is exactly its relaxed cost, a sum of kept numbers.
+//! It refuses exactly where the relaxed problem would then have a cycle; the path and the times are then as before, and
+//! `last_cycle` is such a cycle. [`Evaluator::undecide`] takes any decision of the path back, and never fails. After each of them
+//! the times are the least of the path's relaxed problem (`least`). `cost` is exactly its relaxed cost, a sum of kept numbers.
+//! `is_open`, `has_decided` and `is_violated` tell exactly whether a choice is open, decided or violated.
 //!
 //! [`Evaluator::violated`] gives exactly the first undecided choice that the times violate. It goes from mark to mark. When it
 //! meets a mark of what the times keep, it takes the mark away. No clause says that few places are marked. `into_priced` gives

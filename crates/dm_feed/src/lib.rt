@@ -7,8 +7,9 @@
 //! # What is promised
 //!
 //! [`read_line`] hears exactly what any bytes say: nothing (a blank line or a comment), the line whose parts they have, or that
-//! they are in no form. [`print_line`] and [`print_message`] write the one spelling. [`read_message`] reads exactly the spellings
-//! of messages, adopted lists too. Only [`read_message`] takes memory.
+//! they are in no form. [`print_line`] and [`print_message`] write the one spelling, or a proper front of it where a write
+//! failed. [`put_line`] and [`put_message`] do so behind other text. [`read_message`] reads exactly the spellings of messages,
+//! adopted lists too. Only [`read_message`] takes memory.
 //!
 //! [`LineReader`] reads a feed from a source. `LineReader::next` gives the due items of its feed in order, with their numbers and
 //! meanings. Where the source tells what is left, the clauses `in_order` and `exactly` determine the answer, unless a read fails.

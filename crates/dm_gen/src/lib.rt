@@ -6,8 +6,8 @@
 //!
 //! # What is promised
 //!
-//! [`make`] gives exactly the generated day that `specs/` defines. Only memory may be wanting. The day has the events of 1 to
-//! 2,000 trains, their drives, waits, headways and changes, and a feed of 500 delays drawn from one number.
+//! [`make`] gives exactly the generated day that `specs/` defines, or it wants memory. The day has the events of 1 to 2,000
+//! trains, their drives, waits, headways and changes, and a feed of 500 delays drawn from one number.
 //!
 //! The laws ([`laws`]) give the first draw from 7 and the sizes of the lists. Nothing but want of memory refuses the records
 //! (`records_make_network`), and their numbers are within the limits. Each line of the feed delays an event of that network

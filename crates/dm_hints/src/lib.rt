@@ -10,8 +10,8 @@
 //! sink holds of it.
 //!
 //! [`tell`] says on the standard error what went amiss, once the program has ended with its status. [`tell_live`] does so once a
-//! server, or the text of a store, has ended. Every call is proved to be safe and to end. Nothing is promised of the words. The
-//! calls read the files again for that, and may take memory. Want of memory leaves something unsaid.
+//! server, or the text of a store, has ended. To find what went amiss both may read the files again, and take memory. Want of
+//! memory leaves something unsaid. Every call is proved to be safe and to end. Nothing is promised of the words.
 #![tactic(auto)]
 
 mod bad;

@@ -16,8 +16,8 @@
 //!   of this network, these rows and this penalty. It has taken all of the bytes (dm_follow says what that means), and no line of
 //!   the journal breaks its rule.
 //! - `Broken` comes with the front fault: the first line that breaks its rule.
-//! - `ReadFault` comes only where the shelf does not tell the name sound, and `TooLong` only where more bytes stand under the
-//!   name.
+//! - `ReadFault` comes only where the shelf does not tell that the name is sound, and `TooLong` only where more bytes stand under
+//!   the name. The only other error is want of memory.
 //! - The shelf tells what it told before.
 #![tactic(auto)]
 

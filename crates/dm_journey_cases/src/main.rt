@@ -1,4 +1,4 @@
-//! Journeys on small networks, and on generated days beside all walks.
+//! Journeys on small networks, and on generated days, where they are compared with all walks.
 //!
 //! It stands on dm_samples for days and messages, and promises nothing.
 //!

@@ -5,14 +5,16 @@
 //! # What is promised
 //!
 //! [`read_events`], [`read_activities`] and [`read_delays`] give exactly the rows that the grammar in `specs/` relates to the
-//! bytes, in file order. Or they give the first fault with its record and column: the first record that breaks a rule, and in it
-//! the first column.
+//! bytes, in file order. Or they give the first fault: a byte order mark, or else the first record that breaks a rule, with its
+//! number. In that record a wrong number of fields goes first, and then the first column that breaks a rule. Only want of memory
+//! does not follow from the bytes.
 //!
-//! [`Columns::read`] gives the columns that two texts name, or refuses at the first word that breaks a rule, or for a required
-//! column that no word names. `Columns::standard` gives the standard columns. `first_piece` gives the first of the pieces that
-//! commas cut a text into.
+//! [`Columns::read`] gives the columns that two texts name. It refuses at the first word that breaks a rule, or else for the
+//! first required column that no word names. `Columns::standard` gives the standard columns, and `Column::name` the word for a
+//! column. `first_piece` gives the first of the pieces that commas cut a text into.
 //!
-//! Laws, in [`laws`]: the grammar relates at most one answer to given bytes, and `csv` cuts a file as the plain rule does.
+//! Laws, in [`laws`]: the grammar relates at most one answer to given bytes, and at most one to two texts of column words. The
+//! texts of the standard order give the standard columns. `csv` cuts a file as the plain rule does.
 #![tactic(auto)]
 
 mod activities;

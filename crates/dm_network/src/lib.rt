@@ -4,8 +4,9 @@
 //!
 //! # What is promised
 //!
-//! [`Network::build`] makes a network of the records of two files, or says exactly why there is none: `built` (a network, made of
-//! exactly the records, within the limits) or `refused` (the first fault in the order of the faults, want of memory aside).
+//! [`Network::build`] makes a network of the records of two files, or says exactly why there is none. `built`: the network is
+//! made of exactly the records, and is within the limits. `refused`: the fault is the first in the order of the faults, want of
+//! memory aside.
 //!
 //! The readers of a network answer exactly and take no memory. `in_row` lists exactly the activities with that head, and
 //! `out_row` those with that tail; each counts one step. `reveal` tells what holds of every network, and that the ids of its

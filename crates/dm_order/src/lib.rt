@@ -9,8 +9,10 @@
 //!
 //! `Order::new` holds exactly the active activities between events that have not passed. It answers that the rows have a cycle
 //! exactly where they have one, unless memory is short first. `add` holds more activities. It refuses them exactly where they
-//! close a cycle with those held. `last_cycle` then shows such a cycle, and all else is as before. `remove` lets activities go,
-//! and holds all others. After each call, every held activity goes forward in the order. `add` and `remove` take no memory.
+//! close a cycle with those held. `last_cycle` then shows such a cycle, and all else is as before. `remove` lets activities go
+//! and changes nothing else. After each call, every held activity goes forward in the order. `add` and `remove` take no memory.
+//!
+//! Laws, in [`laws`]: an order lists every event of its network once, and the activities that it holds have no cycle.
 #![tactic(auto)]
 
 mod faults;

@@ -13,14 +13,16 @@
 //! `Gate` tells nothing and has no count.
 //!
 //! The forms in memory meet the traits with all that they tell. A call fails exactly where its number is listed, where a full
-//! sink is given bytes, or where a shelf has no file of the name. `Calls` counts calls and faults exactly. But for the bytes all
-//! else stays.
+//! sink is given bytes, or where a shelf has no file of the name. `Calls` counts calls and faults exactly. All else but the bytes
+//! stays.
 //!
-//! `take_all` takes exactly what is left, up to a limit. `TooLong` comes exactly above the limit, and then one byte more than the
-//! limit was taken. `ReadFault` comes only where the count rose and the source did not tell that it is sound.
+//! `take_all` takes exactly what is left, where that is at most a limit. `TooLong` comes only where it is more, and then one byte
+//! more than the limit was taken. `ReadFault` comes only where the count rose and the source did not tell that it is sound. The
+//! only other fault is want of memory.
 //!
-//! `put_all`, and a `Page` with its `finish`, put exactly the text into the sink. On a fault the sink has taken a proper front of
-//! it. `put_all` and a `Page` take no memory.
+//! `put_all`, and a `Page` with its calls `put`, `put_bytes`, `put_number` and `put_pair` and its `finish`, put exactly the text
+//! into the sink. On a fault the sink has taken a proper front of it. `put_all` and a `Page` take no memory. An `OpenGate` holds
+//! nobody up.
 #![tactic(auto)]
 
 mod boards;

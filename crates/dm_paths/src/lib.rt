@@ -12,7 +12,8 @@
 //!
 //! `change_decision` and `pair_decision` give the decisions of the choice at a place. `push_some` pushes a decision if there
 //! is one. `with_decisions` sets decisions of free choices. [`all_undecided`] and [`binding_flags`] make the flags of the
-//! path without decisions: what is undecided, and what binds then. These last four take memory. `Undecided` sets one flag.
+//! path without decisions: what is undecided, and what binds then. These last four take memory. `binds` tells of one activity
+//! whether it binds then. [`Undecided`] reads and sets one flag.
 #![tactic(auto)]
 
 mod decisions;

@@ -2,8 +2,8 @@
 //!
 //! It goes over every list of three messages where two trains meet, and over generated days of 9 to 12 trains with drawn
 //! messages. The drawn messages are events that have passed or are recalled, dropped changes, pairs that are turned, delays
-//! and a clock. For each list and each day it has plans made of up to 64 nodes. On the days it also has plans made of windows
-//! and from parts of other plans.
+//! and a clock. For each list and each day it asks for plans of up to 64 nodes. On the days it also asks for plans of windows,
+//! and for plans that go on from parts of other plans.
 //!
 //! It judges each plan over plain lists. The times of a path come by rounds over all activities. Where there are few choices,
 //! the costs of all of them are compared. Plans of windows, what becomes of them over newer rows, and plans that go on from a

@@ -10,10 +10,11 @@
 //!
 //! # What is promised
 //!
-//! `Engine` holds rows and their least timetable. `update` makes a change, and `adopt` sets a list of decisions. `try_update`
-//! and `try_adopt` only tell whether it would be refused. On Ok the rows are those after the change, and the times are their
-//! least (`rows`, `least`). `Cyclic` comes exactly where the changed rows have a cycle. Then `last_cycle` is such a cycle,
-//! and rows and times are as before (`unchanged`, `cycle`).
+//! `Engine` holds rows and their least timetable. `new` shows a cycle exactly where the rows have one, unless memory is short
+//! first. `update` makes a change, and `adopt` sets a list of decisions. `try_update` and `try_adopt` only tell whether it would
+//! be refused. On Ok the rows are those after the change, and the times are their least (`rows`, `least`). `Cyclic` comes exactly
+//! where the changed rows have a cycle. Then `last_cycle` is such a cycle, and rows and times are as before (`unchanged`,
+//! `cycle`).
 //!
 //! `few_reads`: a delay, a pass, or a clock that is not taken back reads few rows of the network. Beside one row, it reads at
 //! most one for each of a list of different events that are touched or follow a changed one, and one for each of a list of
@@ -23,8 +24,10 @@
 //! stays one until `forget_moved`.
 //!
 //! `cost` is the cost of these times, a sum of three kept numbers. The engine's order holds exactly the active activities
-//! between events that have not passed. So a pass, a delay, a clock and a drop add nothing to it. All but `new` take no
-//! memory.
+//! between events that have not passed. So a pass, a delay, a clock and a drop add nothing to it. Only `new` takes memory.
+//!
+//! Laws, in [`laws`]: the times of an engine are the least of its rows, and its rows have no cycle. Where no time changes, a
+//! delay of an event makes it read at most two rows of the network.
 #![tactic(auto)]
 
 mod changing;

@@ -4,9 +4,9 @@
 //!
 //! It goes over every list of up to four messages from a small set, on a connection at one station and on its turnaround. It also
 //! goes over thousands of drawn messages on generated days. It compares times and cost with those that dm_times computes from the
-//! rows alone, and each refusal for a cycle with the rows after the message. It also compares a copy of the times that is brought
-//! up to date where the engine notes that they have moved. For each case it prints `NAME ok`, or the number of messages after
-//! which the two differ.
+//! rows alone, and each refusal for a cycle with the rows after the message. It also compares with them a copy of the times that
+//! is brought up to date only where the engine notes that they have moved. For each case it prints `NAME ok`, or the number of
+//! messages after which the two differ.
 #![tactic(auto)]
 
 mod days;

@@ -13,8 +13,8 @@
 //! `keeps_up`: what holds of each call in this way also holds of all calls since a first list of boards.
 //!
 //! `publish_listed` takes the places of the events whose times differ from those published last (`last`). It promises that boards
-//! that showed the last times show the new ones. No clause says that it asks boards for no other events. Neither call takes
-//! memory.
+//! that showed the last times show the new ones. No clause says that it asks boards for no other events. Each of the two calls
+//! answers how many boards it dropped. `notes` gives the notes of all boards that were dropped. Only `new` takes memory.
 #![tactic(auto)]
 
 mod changes;

@@ -5,9 +5,10 @@
 //!
 //! # What is promised
 //!
-//! The readers read the records of a run's text, from the opening lines to the times and notes. Each gives the one value that a
-//! line spells, exactly where the line spells one. They take memory for lists alone (choices, cycles). `EntryLine::into_entry` is
-//! the entry of a line.
+//! The readers read the records of a run's text, from the opening lines to the times and notes: [`version_line`],
+//! [`number_line`], [`is_word_line`], [`entry_line`], [`opening_line`], [`item_line`], [`stop_line`], [`note_line`] and
+//! [`time_line`]. Each gives the one value that a line spells, exactly where the line spells one. They take memory for lists
+//! alone (choices, cycles). `EntryLine::into_entry` is the entry of a line.
 //!
 //! Laws, in [`laws`]:
 //!

@@ -5,7 +5,7 @@
 //! # What is promised
 //!
 //! [`relax`] gives exactly the least times of a path's relaxed problem, their cost, and the first undecided choice that they
-//! violate. Or it gives a cycle, exactly where what binds there has one.
+//! violate. Or it gives a cycle, exactly where what binds there has one, unless memory is short.
 //!
 //! [`complete`] takes a path that violates nothing. It gives exactly what differs from the rows in the path's completion.
 //!

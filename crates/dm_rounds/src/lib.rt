@@ -7,8 +7,8 @@
 //! # What is promised
 //!
 //! [`begin`] makes a job for each feed, in a box. A feed that could not be opened has an empty log that ends with a fault.
-//! [`answer_job`] has the next lines of a feed that has not ended answered truly over a desk. `logs_of` gives the logs
-//! without memory.
+//! [`answer_job`] answers truly, over a desk, the next lines of a feed that has not ended. `have_ended` tells exactly whether
+//! all feeds have ended. `logs_of` gives the logs, and takes no memory.
 //!
 //! `AnswersFeeds` says what answering in rounds comes to. Each log is true of the one history that the desk has seen, and has
 //! a spelling. Each entry that was made is named by one item. No entry number of an earlier round is above one of a later

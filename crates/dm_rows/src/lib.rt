@@ -12,9 +12,12 @@
 //! - `is_active`, `floor_of`, `span_of`, `flip_of`, `free_choices` and `admit` answer by the definitions. `admit` answers with
 //!   the first refusal by numbers, ids, passed events and the clock.
 //! - `apply` changes the rows that one message names. It keeps all others and all sizes.
-//! - `copy` gives equal rows.
+//! - `is_free_change`, `is_free_pair` and `choice_of_pair` answer for one place by the same definitions. So do the readers of
+//!   [`Rows`] and the calls of [`Decision`] and [`Choice`].
+//! - `copy` gives equal rows. `copy_from` makes rows equal to others of the same network, in the room that is there.
 //!
-//! Only `start_rows`, `copy`, `free_choices` and the admission of an `Adopt` take memory.
+//! Only `start_rows`, `copy`, `free_choices` and the admission of an `Adopt` take memory. `admit` looks for no cycle and for no
+//! full history.
 //!
 //! Laws of `laws`:
 //!
@@ -22,7 +25,10 @@
 //! - A timetable is least for the rows exactly where it is least for their graph.
 //! - Where none of a network's held activities enters a passed event, they can be met exactly where they have no cycle, and then
 //!   a timetable is least.
-//! - An adopted list sets each of its decisions.
+//! - An adopted list whose decisions all name something sets each of them.
+//! - Each activity of a network binds at the start or takes at least a second. What binds at the start is what is active under
+//!   the start rows.
+//! - Nothing that is active, or that binds in a relaxed problem, enters a passed event.
 //! - What the definitions give on two small networks: times, costs, refusals, a cycle, touched events, free and violated choices.
 #![tactic(auto)]
 

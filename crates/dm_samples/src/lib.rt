@@ -6,7 +6,8 @@
 //! - [`Sample`] names the small networks.
 //! - [`generated_day`] and [`turning_day`] make days of many trains. The days of the second can have cycles.
 //! - [`network_of`] makes a network of records, as [`event`] and [`activity`] make them.
-//! - [`Draws`] draws messages and decisions over days from a seed. [`drawn_rows`] have heard some of these messages.
+//! - [`Draws`] draws messages and decisions over days from a seed. [`hear`] makes the change of a message that nothing refuses.
+//!   [`rows_on_time`] are rows without a delay, and [`drawn_rows`] have heard some of the drawn messages.
 //! - [`decides_one_of`] tells whether a decision decides a choice of a list.
 //! - [`update`] of an engine and the moves of [`EvaluatorOn`], an evaluator with its network, are for programs that count no
 //!   steps.
@@ -14,7 +15,7 @@
 //!
 //! # What is promised
 //!
-//! `drawn_rows` gives rows of the network. After `hear`, rows of the network are still rows of the network.
+//! `drawn_rows` and `rows_on_time` give rows of the network. After `hear`, rows of the network are still rows of the network.
 //!
 //! `decides_one_of` says yes only where the choice is listed.
 //!

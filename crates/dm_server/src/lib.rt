@@ -10,11 +10,16 @@
 //! they were. After each such call the history that the pass has seen is legal. Calls that wait promise only if they return.
 //! That they return is not promised.
 //!
+//! `new` makes a server and its first pass, which has all the seats. It shows a cycle exactly where the start rows have one,
+//! unless memory is short first. `split` makes a pass that has seen as much, and `join` takes one in, with its entries. `close`
+//! gives the table back once all other passes were joined. Its history is then what the pass has seen, and the pass's own entries
+//! are exactly those from its opening on.
+//!
 //! `post`: the pass has seen at least as much and then its own entry at the told number. Or there is a refusal that applies
 //! after what the pass has then seen, or want of memory.
 //!
 //! `time`, `cost`, `copy_times`, `snapshot`, `length`: the answer is that of the least timetable and rows after what the pass
-//! has then seen. They also tell how many entries that is.
+//! has then seen. They also tell how many entries that is. `time` refuses exactly an unknown event.
 //!
 //! `follow_times` answers the same. It starts from the times after a given number of first entries that the pass had seen. It
 //! lists each event whose time was another then.

@@ -1,6 +1,6 @@
 //! The sweep that computes times along an order of events, over the constraints that it is given.
 //!
-//! It stands on dm_network, on dm_marks, and on dm_graph for the search for an order. It does not know what is held, or why.
+//! It stands on dm_network, on dm_marks, and on dm_graph for the search for an order. It does not know why an activity is held.
 //!
 //! [`Constraints`] say which activities of a network are held, with the floor of each event and the span of each activity.
 //! Together they are a graph. A sweep computes the marked events anew, in the order. It goes on along the held activities out of
@@ -10,13 +10,16 @@
 //! # What is promised
 //!
 //! `least_times` gives the least timetable of the constraints that it is given. Exactly where the held activities have a cycle,
-//! it shows one instead.
+//! it shows one instead, unless memory is short first. `ids_of` gives the ids of the activities at given places.
 //!
 //! `settle_watched` gives the least timetable of the constraints as they are now, from marked events alone and without memory. A
 //! clause bounds the rows of arcs that it reads. It tells two [`Watcher`]s of each time that the sweep writes, before it is
 //! written, with the event's two rows. The call ensures that a watcher that knew the old times knows the new ones.
 //!
-//! Every time is below 2^38 seconds.
+//! Every time is below 2^38 seconds. The other calls of [`Constraints`] and [`Times`] read and change exactly what they name.
+//!
+//! Laws, in [`laws`]: in a least timetable each event has the least time that the graph allows beside the others. Where floors
+//! and spans are within the limits and there is no cycle, each time of it is below 2^38 seconds.
 #![tactic(auto)]
 
 mod constraints;

@@ -4,8 +4,8 @@
 //!
 //! `dm_speed [COUNT [KIND]]` makes COUNT changes of a kind, or of each kind in turn. Then it makes two more that stay, and prints
 //! what the day costs then. The kind `decision` moves an evaluator in place of an engine. The kind `apart` passes and recalls an
-//! event of a pair, with 20,000 other events between the two. The time is taken from outside. At the end the times are compared
-//! with those from scratch.
+//! event of a pair that has 20,000 other events between its two events. The time is taken from outside. At the end the times are
+//! compared with those from scratch.
 //!
 //! The costs in `stdout` are worked out by hand, from what the generator makes. The last train starts 600 seconds late. Each leg
 //! has 30 seconds to spare under way and 30 at the stop behind it. So the train arrives 570, 510, .. 30 seconds late: 3,000

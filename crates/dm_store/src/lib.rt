@@ -18,12 +18,15 @@
 //! of another version (`OtherVersion`), and a file where, behind the blocks, an open gate stands before less than a block
 //! (`Broken`). If it would not have refused a journal, it never refuses what a crash during either call left of that journal.
 //!
-//! `Full` comes exactly where the journal would be longer than [`LARGEST_JOURNAL`]. `Failed` and `Unread` come only where the
-//! store's count of faults rose, or stands at its last value. At `Unread` the journal could not be read, and stands as it did. At
-//! `Failed` of [`Journal::recover`] the journal was read, and nothing is refused of it.
+//! `Full` comes only where the journal would be longer than [`LARGEST_JOURNAL`], and there no commit answers `Ok`. `Failed` and
+//! `Unread` come only where the store's count of faults rose, or stands at its last value. At `Unread` the journal could not be
+//! read, and stands as it did. At `Failed` of [`Journal::recover`] the journal was read, and nothing is refused of it.
 //!
-//! [`first_block`] reads the block in front of a file, where one stands there. In each file one list of contents stands, and no
-//! other (`laws`).
+//! [`first_block`] reads the block in front of a file, where one stands there. [`refusal`] tells why the file of a journal is
+//! left as it stands, or that its end is repaired.
+//!
+//! Laws, in [`laws`]: in each file one list of contents stands, and no other; and a journal of a head and a round has the bytes
+//! that were worked out by hand.
 //!
 //! [`MemStore`] is a store in memory that tells. Some image is always left of it: what a read returns, with what is shown. A new
 //! one has its journal on the disk. [`MemStore::after_crash`] gives a store that a crash at this moment may leave, torn as asked.
@@ -43,10 +46,10 @@
 //! new one. It has shown what a read of it returns. After a loss of power, that may be less than people saw; the journal has the
 //! rest.
 //!
-//! One server has the folder: it holds `flock` on `lock`, which the system lets go where the process ends. Each sync checks by
-//! device and inode whether `lock` and `journal` still are the files that were opened, and fails where they are not. That happens
-//! where the folder was moved, removed or put anew under a running server. A disk that loses what it said was written is none of
-//! these.
+//! One server has the folder: it holds `flock` on `lock`, which the system lets go where the process ends. [`FileStore::open`]
+//! answers `Locked` where another server has it. Each sync checks by device and inode whether `lock` and `journal` still are the
+//! files that were opened, and fails where they are not. That happens where the folder was moved, removed or put anew under a
+//! running server. Nothing of this holds on a disk that loses what it said was written.
 #![tactic(auto)]
 
 mod blocks;

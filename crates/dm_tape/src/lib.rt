@@ -7,7 +7,7 @@
 //! # What is promised
 //!
 //! `put_part` prints exactly the text of what one feed was answered, and `put_round` that of a whole round. The text stands
-//! behind what was printed through the page before. Where a write failed, a proper front of both stands there. They take no
+//! behind what was printed through the page before. Where a write failed, the sink has a proper front of both. Neither call takes
 //! memory.
 //!
 //! `read_round` reads the round of a given number of feeds from bytes that begin with its text, and tells how long that text

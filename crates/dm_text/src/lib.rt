@@ -10,6 +10,8 @@
 //! before the line is whole. [`behind`] and [`number_in_front`] read a line from its front, exactly. `behind` gives what stands
 //! behind a text. `number_in_front` gives the number whose digits stand in front, up to a limit. A number has one spelling.
 //! Nothing here takes memory.
+//!
+//! Law, in [`laws`]: at a place at most one line begins, and where one begins the text is not cut.
 #![tactic(auto)]
 
 pub mod laws;

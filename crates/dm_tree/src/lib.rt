@@ -14,7 +14,8 @@
 //!   too large to count, that is want of memory.
 //! - [`Tree::second_child`] leads past the first child's tree, and [`Tree::child_towards`] leads from the root to any node,
 //!   choice by choice. Both take no memory. The decisions on the way are the path of the node.
-//! - [`turn_back`] leads from a leaf's path to that of the next node.
+//! - [`turn_back`] leads from a leaf's path to that of the next node, or tells that there is none.
+//! - [`nodes`] counts the nodes of a tree. A [`Partial`] is a tree in which holes may stand.
 //!
 //! Laws:
 //!

@@ -12,7 +12,7 @@
 //! its number. At `close` the pass's own numbers are exactly those above the opening length. `take` waits, so it promises
 //! only if it returns. That it returns is not promised. All but `new` take no memory.
 //!
-//! `rest` has no clause. It is to wake one caller that stands back. How soon anybody is served is not promised.
+//! `rest` has no clause. It is meant to wake one caller that stands back. How soon anybody is served is not promised.
 #![tactic(auto)]
 
 mod parking;

@@ -16,11 +16,11 @@
 //!
 //! With these choices the rows have no cycle. Want of memory may come at any time.
 //!
-//! `compare` gives these choices and what the rows cost with them, beside a true plan of the rows for a budget. The cost is no
-//! less than the plan's bound (`Compares`).
+//! `compare` takes a plan and hands it on. Where that is a true plan of the rows for some budget, it gives these choices and what
+//! the rows cost with them, and the cost is no less than the plan's bound (`Compares`).
 //!
-//! Law: `rule_choices_are_bounded`. A rule has one list of choices for rows. With them the rows have no cycle, and cost no less
-//! than the bound of any true plan of the rows, whatever its budget.
+//! Law: `rule_choices_are_bounded`. A rule has one list of choices for rows. With them rows without a cycle still have none, and
+//! cost no less than the bound of any true plan of the rows, whatever its budget.
 #![tactic(auto)]
 
 mod choosing;

@@ -7,11 +7,11 @@
 //!
 //! # What is promised
 //!
-//! `Watch::round` asks that the logs answer what the feeds have given (`IsWatching`), and that all of them were shown. Both hold
-//! again after the round (`watching`, `shown`). `answers`: the next due lines of each feed were answered, in the order of the
-//! feeds (`GoesRound`). `idle`, `new`: where no log has grown, nothing was done to the journal, and the answer says so. `cause`:
-//! each stop has its cause (`StopsRound`); want of memory always counts as one. `later`: the count of the store's faults never
-//! falls. At `Err` the watch is gone: a later start goes on with what is in the journal.
+//! `Watch::round` asks that the logs answer what the feeds have given (`IsWatching`), and that all of them were shown. At `Ok`
+//! both hold again (`watching`, `shown`), and the next due lines of each feed were answered, in the order of the feeds
+//! (`answers`, `GoesRound`). Where no log has grown, nothing was done to the journal, and the answer says so (`idle`, `new`). At
+//! `Err` the watch is gone: a later start goes on with what is in the journal. `cause`: each stop has its cause (`StopsRound`);
+//! want of memory always counts as one. `later`: the count of the store's faults never falls.
 //!
 //! `rounds` (`Rounds`) is for logs that were settled in the journal and in the reply files before the round. The round leads from
 //! the book before it to a later book. A crash at any moment of the round leaves a true book between the two, and all that was

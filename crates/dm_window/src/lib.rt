@@ -2,14 +2,14 @@
 //!
 //! It stands on dm_search for plans over tasks, and on dm_relax and dm_times for what rows with choices cost.
 //!
-//! A window goes from one time to another. A free change is in the window where its head is scheduled then, and a free pair where
-//! both its events are. A choice that is held is not in the window. What is decided outside the window, or held, stays as the
-//! rows have it.
+//! A window goes from one time to another, with both of them in it. A free change is in the window where its head is scheduled
+//! then, and a free pair where both its events are. A choice that is held is not in the window. What is decided outside the
+//! window, or held, stays as the rows have it.
 //!
 //! # What is promised
 //!
 //! `held_choices` gives the choices that activities make, where each activity is a change or a headway of a pair. Or it gives the
-//! first activity that makes none.
+//! first id that is no activity, or whose activity makes no choice.
 //!
 //! `window_plan` gives a true plan of the window, with the snapshot's entry, or answers want of memory. It asks that the rows
 //! have no cycle and that the budget is 1 to 16,384.
@@ -18,12 +18,17 @@
 //! - Every path begins with the base: the decisions that keep every other free choice as the rows have it.
 //! - All else is as in a true plan of a whole network.
 //!
+//! `thin` gives those of a plan's choices that stay where choices that are worth little are given back (`IsMinimal`), in the
+//! plan's order. With them the rows have no cycle, and cost at most a given amount more than the plan. Each comes with what it is
+//! worth: to leave out any one of them makes a cycle, or costs more than that amount allows.
+//!
 //! `rebase` gives those of a plan's choices that differ from newer rows, in their order, and what these rows cost with them,
 //! under the newer entry. What it gives carries no mark. It is refused exactly by its faults, in this order:
 //!
 //! - `NotFree`, with the first choice of the plan that is no free choice of the newer rows.
 //! - `Cycle`, where the newer rows with the choices that differ have a cycle, which it shows by ids.
-//! - `OutOfMemory`, which may come at any time.
+//!
+//! `OutOfMemory` may come at any time.
 //!
 //! Laws:
 //!

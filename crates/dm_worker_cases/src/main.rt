@@ -8,8 +8,8 @@
 //!   evaluator and without. This plan is searched by 1, 2 and 16 workers.
 //! - One of two workers is held up by a gate until the other has stolen one of its nodes.
 //! - Two days on which more than 64 choices are violated at the root are planned by 1, 2 and 4 workers. The workers expand the
-//!   tree from their deques. Each of them passes the gate as it starts and as it ends. On the late one of these days, the plan by
-//!   several workers is compared with the plan by one.
+//!   tree from their deques. Each of them passes the gate as it starts and as it ends. On one of these days every third train
+//!   leaves late; there the plan by several workers is compared with the plan by one.
 //! - On a generated day of 100 trains, 16 workers search 50 times.
 //!
 //! All else that is due was worked out by hand, and holds however the threads take turns.

@@ -5,8 +5,8 @@
 //!
 //! # What is promised
 //!
-//! `search` gives a true plan of the rows of a snapshot, or wants memory. This is the clause of dm_search's `finish`.
-//! `search_task` does so for any task, with an entry: it is `find` and then `plan_of`.
+//! `search` gives a true plan of the rows of a snapshot, with the snapshot's entry, or wants memory. Its clauses are those of
+//! dm_search's `plan`. `search_task` does so for any task, with an entry: it is `find` and then `plan_of`.
 //!
 //! [`laws::expand`] is what a worker does at one node, for a path over the rows of a snapshot. It looks at the word once, and
 //! answers dm_search's `step` for the value that the word has. Where it has found choices, it lowers the word. Where it wants
@@ -18,8 +18,8 @@
 //! taken, once. In the end no tally is out, and each deque is empty. No path of a leaf that is handed in is a front of another's.
 //! Each leaf is a cycle, a bound with its relaxed cost, or an open leaf at which some choice is violated. The choices that come
 //! out cost no more than those that went in, and no more than any bound that is handed in. This is because a worker lowers the
-//! word only by the costs of choices that it keeps. (That the choices that come out are no dearer than a value of the word at
-//! which a worker pruned is proved inside, and is no clause of `find`.)
+//! word only by the costs of choices that it keeps. (The choices that come out cost no more than any value of the word at which a
+//! worker pruned. That is proved inside, and is no clause of `find`.)
 //!
 //! [`laws::plan_of`] gives a true plan of what was found. It costs no more than these choices. Where the least tree with the
 //! leaves keeps to the budget, each choice, cycle and bound of it stands in the plan's tree at the same path. So each bound that
