@@ -17,7 +17,7 @@ use dm_graph::search::Cyclic;
 use dm_marks::Marks;
 use dm_network::Network;
 use dm_order::{Order, OrderFault};
-use dm_settle::{Constraints, Times, Watcher, settle_watched};
+use dm_settle::{Constraints, Sweep, Times, Watcher};
 use std::alloc::Global;
 use std::marker::Model;
 use std::sync::ledger::Ledger;
@@ -136,17 +136,13 @@ impl LiveTimetable {
             self.order.ranks(),
             &mut self.placed,
         );
-        settle_watched(
-            &mut self.placed,
+        let sweep = Sweep {
             net,
-            &self.constraints,
-            self.order.order(),
-            self.order.ranks(),
-            &mut self.times,
-            watcher,
-            other,
-            steps,
-        );
+            constraints: &self.constraints,
+            order: self.order.order(),
+            ranks: self.order.ranks(),
+        };
+        sweep.settle_watched(&mut self.placed, &mut self.times, watcher, other, steps);
     }
 
     /// Sets the floor of an event, at most the latest passed time; a fixed event keeps its floor. The event is marked where its

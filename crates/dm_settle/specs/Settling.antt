@@ -2,8 +2,11 @@
 use Rattle.std.specs.Prelude.{ℕ, ◌≡◌, ◌≢◌, nat_eq, ◌+◌, ◌^◌, ◌<◌, ◌⊎◌, Bool, true, false, List, length, slice_index}
 use Rattle.std.specs.List.{Contains, IsDistinct}
 use Rattle.dm_graph.specs.Arcs.{Arcs, Binds}
+use Rattle.dm_graph.specs.Arrays.{AreRanks}
 use Rattle.dm_graph.specs.Graph.{Graph, IsJoin, IsLeast}
 use Rattle.dm_marks.specs.Marked.{is_marked}
+use Rattle.dm_settle.specs.declared.sweep.Sweep.{Sweep}
+use Rattle.dm_settle.specs.Constraints.{IsSizedFor, arcs_given, graph_given}
 
 -- the times, one for each event, are the least timetable of the graph
 pub record AreLeast (g : Graph) (times : List ℕ) : Type 0 where
@@ -38,6 +41,21 @@ pub record MarksUnsettled (g : Graph) (ranks : List ℕ) (marks : List Bool) (ti
   pub as_many_marks : length marks ≡ g.shape.events
   pub as_many_times : length times ≡ g.shape.events
   pub settled : (e : ℕ) → e < g.shape.events → is_marked marks (slice_index ranks e) ≡ false → IsSettled g times e
+
+-- the held activities of a sweep as arcs
+abbrev pub arcs_swept : Sweep → Arcs
+arcs_swept s = arcs_given s.net.now s.constraints.now
+
+-- the held activities of a sweep with their spans, and the floors of the events
+abbrev pub graph_swept : Sweep → Graph
+graph_swept s = graph_given s.net.now s.constraints.now
+
+-- a sweep may begin with these marks and times
+pub record MayBegin (s : Sweep) (marks : List Bool) (times : List ℕ) : Type 0 where
+  pub sized : IsSizedFor s.net.now s.constraints.now
+  pub ranked : AreRanks (length s.net.now.events) s.order.now s.ranks.now
+  pub forward : GoesForward (arcs_swept s) s.ranks.now marks
+  pub unsettled : MarksUnsettled (graph_swept s) s.ranks.now marks times
 
 -- the marks and the times at a moment, and how many rows have been read
 pub record State : Type 0 where

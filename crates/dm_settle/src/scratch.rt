@@ -8,7 +8,7 @@ ghost use Rattle.dm_settle.specs.Settling.{AreLeast, AreEarly};
 
 use crate::constraints::Constraints;
 use crate::faults::NoTimes;
-use crate::sweep::settle_watched;
+use crate::sweep::Sweep;
 use crate::times::Times;
 use crate::watching::Unwatched;
 use dm_base::{ActId, Items, Steps};
@@ -69,17 +69,13 @@ fn settle_all<L: Ledger>(
     ensures early { AreEarly times.new }
 {
     let mut steps = Steps::<L>::new(blank);
-    settle_watched(
-        marks,
+    let sweep = Sweep {
         net,
         constraints,
-        search.order(),
-        search.ranks(),
-        times,
-        &mut Unwatched,
-        &mut Unwatched,
-        &mut steps,
-    );
+        order: search.order(),
+        ranks: search.ranks(),
+    };
+    sweep.settle_watched(marks, times, &mut Unwatched, &mut Unwatched, &mut steps);
 }
 
 /// A search that has found an order of the held activities, or a cycle of them.

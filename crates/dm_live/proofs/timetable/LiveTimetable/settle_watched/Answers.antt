@@ -1,4 +1,5 @@
 use Rattle.std.proofs.Common.{Bool, List, ℕ, refl, sym, subst, ◌∙◌, length}
+use Rattle.dm_graph.specs.Arrays.{AreRanks}
 use Rattle.dm_settle.specs.Constraints.{arcs_given}
 use Rattle.dm_live.specs.Live.{IsLive, LiveValue, ReadsFew}
 use Rattle.dm_live.specs.Inside.Placing.{ArePlaced}
@@ -23,14 +24,13 @@ returns-clause-few_reads g c =
     c.place_marks.new.placed c.settle_watched.new.marks c.self.inside.times c.settle_watched.new.times c.args.steps.now c.settle_watched.new.steps
     was.marked.as_many_marks placed refl refl c.settle_watched.ensures.few_reads)
 
-pub settle_watched-requires-clause-forward : goal.settle_watched-requires-clause-forward
-settle_watched-requires-clause-forward g c =
-    (sweep_begins c.args.net.now (record { given = c.self.inside.constraints; order = c.self.inside.order; times = c.self.inside.times; marks = c.self.inside.marks; fixed = c.self.inside.fixed.items })
-    (subst (IsLive c.args.net.now) (sym c.self.view_is) c.requires.live) c.ranks.result.now c.ranks-2.result.now c.deref.result.now c.place_marks.new.placed
-    c.ranks.ensures c.ranks-2.ensures c.deref.ensures.value c.place_marks.ensures.placed).0
-
-pub settle_watched-requires-clause-marks : goal.settle_watched-requires-clause-marks
-settle_watched-requires-clause-marks g c =
-    (sweep_begins c.args.net.now (record { given = c.self.inside.constraints; order = c.self.inside.order; times = c.self.inside.times; marks = c.self.inside.marks; fixed = c.self.inside.fixed.items })
-    (subst (IsLive c.args.net.now) (sym c.self.view_is) c.requires.live) c.ranks.result.now c.ranks-2.result.now c.deref.result.now c.place_marks.new.placed
-    c.ranks.ensures c.ranks-2.ensures c.deref.ensures.value c.place_marks.ensures.placed).1
+pub settle_watched-requires-clause-begins : goal.settle_watched-requires-clause-begins
+settle_watched-requires-clause-begins g c =
+    let was = subst (IsLive c.args.net.now) (sym c.self.view_is) c.requires.live in
+    let ranked : AreRanks (length c.args.net.now.events) c.order-2.result.now c.ranks-2.result.now =
+    rw (c.order-2.ensures, c.ranks-2.ensures) was.ordered.ranked in
+    let begins =
+    sweep_begins c.args.net.now (record { given = c.self.inside.constraints; order = c.self.inside.order; times = c.self.inside.times; marks = c.self.inside.marks; fixed = c.self.inside.fixed.items })
+    was c.ranks.result.now c.ranks-2.result.now c.deref.result.now c.place_marks.new.placed
+    c.ranks.ensures c.ranks-2.ensures c.deref.ensures.value c.place_marks.ensures.placed in
+    record { sized = was.sized; ranked = ranked; forward = begins.0; unsettled = begins.1 }

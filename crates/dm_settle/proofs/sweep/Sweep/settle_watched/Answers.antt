@@ -1,16 +1,16 @@
 use Rattle.std.proofs.Common.{Bool, List, refl, subst, ◌∙◌, inl, arith, slice_index}
-use Rattle.dm_settle.specs.Constraints.{arcs_given, graph_given}
+use Rattle.dm_settle.specs.Settling.{arcs_swept, graph_swept}
 use Rattle.dm_settle.specs.Inside.Sweep.{Renews}
 use Rattle.dm_settle.proofs.Given.{given_is_bounded}
 use Rattle.dm_settle.proofs.Going.{next_tails_are_early, sweeps_on, reads_on}
 use Rattle.dm_settle.proofs.Sweeping.{all_settled, settled_is_least}
 use Rattle.dm_settle.proofs.Reading.{none_read}
-use Rattle.dm_settle.proofs.sweep.settle_watched.Goals as goal
+use Rattle.dm_settle.proofs.sweep.Sweep.settle_watched.Goals as goal
 
 pub loop-next-init : goal.loop-next-init
 loop-next-init g c = record {
-  sweeping = record { unsettled = c.requires.marks; later = λ k _. omega arith; may_move = λ e _ marked. inl marked };
-  read = none_read (arcs_given c.args.net.now c.args.constraints.now) c.args.ranks.now (record { marks = c.args.marks.now; times = c.args.times.now; steps = c.args.steps.now });
+  sweeping = record { unsettled = c.requires.begins.unsettled; later = λ k _. omega arith; may_move = λ e _ marked. inl marked };
+  read = none_read (arcs_swept c.args.self.now) c.args.self.now.ranks.now (record { marks = c.args.marks.now; times = c.args.times.now; steps = c.args.steps.now });
   knows = c.requires.knows;
   other_knows = c.requires.other_knows;
   flags = refl;
@@ -18,24 +18,24 @@ loop-next-init g c = record {
 
 pub renew-requires-clause-early : goal.renew-requires-clause-early
 renew-requires-clause-early g c =
-    next_tails_are_early (graph_given c.args.net.now c.args.constraints.now) c.args.order.now c.args.ranks.now c.requires.ranks c.args.marks.now c.requires.forward
+    next_tails_are_early (graph_swept c.args.self.now) c.args.self.now.order.now c.args.self.now.ranks.now c.requires.begins.ranked c.args.marks.now c.requires.begins.forward
     c.loop-next.marks c.loop-next.times c.loop-next.place c.in-Some.next c.loop-next.invariant.sweeping c.in-Some.ensures.first
-    (given_is_bounded c.args.net.now c.args.constraints.now c.reveal.ensures.within c.within_limits.ensures)
+    (given_is_bounded c.args.self.now.net.now c.args.self.now.constraints.now c.reveal.ensures.within c.within_limits.ensures)
 
 pub loop-next-preserved : goal.loop-next-preserved
 loop-next-preserved g c =
     let renews =
-    subst (λ (marks : List Bool). Renews c.renew.result (graph_given c.args.net.now c.args.constraints.now) c.args.ranks.now (slice_index c.args.order.now c.in-Some.next)
+    subst (λ (marks : List Bool). Renews c.renew.result (graph_swept c.args.self.now) c.args.self.now.ranks.now (slice_index c.args.self.now.order.now c.in-Some.next)
     (record { marks = marks; times = c.loop-next.times; steps = c.loop-next.steps })
     (record { marks = c.renew.new.marks; times = c.renew.new.times; steps = c.renew.new.steps }))
     c.in-Some.ensures.same c.renew.ensures.renews in
     record {
       sweeping =
-          sweeps_on (graph_given c.args.net.now c.args.constraints.now) c.args.order.now c.args.ranks.now c.requires.ranks c.args.marks.now c.requires.forward
+          sweeps_on (graph_swept c.args.self.now) c.args.self.now.order.now c.args.self.now.ranks.now c.requires.begins.ranked c.args.marks.now c.requires.begins.forward
           c.loop-next.marks c.loop-next.times c.loop-next.place c.in-Some.next c.loop-next.invariant.sweeping c.in-Some.ensures.first
           c.loop-next.steps (record { marks = c.renew.new.marks; times = c.renew.new.times; steps = c.renew.new.steps }) c.renew.result renews;
       read =
-          reads_on (graph_given c.args.net.now c.args.constraints.now) c.args.order.now c.args.ranks.now c.requires.ranks c.args.marks.now c.requires.forward
+          reads_on (graph_swept c.args.self.now) c.args.self.now.order.now c.args.self.now.ranks.now c.requires.begins.ranked c.args.marks.now c.requires.begins.forward
           c.loop-next.marks c.loop-next.times c.loop-next.place c.in-Some.next c.loop-next.invariant.sweeping c.in-Some.ensures.first
           c.loop-next.steps (record { marks = c.renew.new.marks; times = c.renew.new.times; steps = c.renew.new.steps })
           (record { marks = c.args.marks.now; times = c.args.times.now; steps = c.args.steps.now }) c.loop-next.invariant.read c.renew.result renews;
@@ -46,7 +46,7 @@ loop-next-preserved g c =
 
 pub returns-clause-least : goal.returns-clause-least
 returns-clause-least g c =
-    settled_is_least (graph_given c.args.net.now c.args.constraints.now) c.args.order.now c.args.ranks.now c.requires.ranks c.args.marks.now c.requires.forward
+    settled_is_least (graph_swept c.args.self.now) c.args.self.now.order.now c.args.self.now.ranks.now c.requires.begins.ranked c.args.marks.now c.requires.begins.forward
     c.loop-next.times c.loop-next.invariant.sweeping.unsettled.as_many_times
-    (all_settled (graph_given c.args.net.now c.args.constraints.now) c.args.order.now c.args.ranks.now c.requires.ranks c.args.marks.now c.requires.forward
+    (all_settled (graph_swept c.args.self.now) c.args.self.now.order.now c.args.self.now.ranks.now c.requires.begins.ranked c.args.marks.now c.requires.begins.forward
     c.loop-next.marks c.loop-next.times c.loop-next.place c.loop-next.invariant.sweeping c.in_default.ensures.none)
