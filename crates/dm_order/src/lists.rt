@@ -5,7 +5,7 @@ ghost use Rattle.dm_order.specs.Orders.{GoesForward, GoForward};
 ghost use Rattle.dm_order.specs.Inside.Placing.{AreLists, IsBehind, IsForwardOrAlike, HasSameEnds, GoForwardOrAlike, GoForwardBut, cycle_in, RefusesLists};
 
 use crate::faults::OrderFault;
-use crate::reach::Reach;
+use crate::reach::{Ranked, Reach};
 use crate::shift::Places;
 use crate::way::Way;
 use dm_graph::search::{Cyclic, Search};
@@ -151,15 +151,11 @@ impl Lists {
         let _few = net.events();
         let low = self.places.ranks[net.activity(first).head];
         let high = self.places.ranks[net.activity(first).tail];
-        self.reach.reach(
-            net,
-            held,
-            &self.places.order,
-            &self.places.ranks,
-            low,
-            high,
-            first,
-        );
+        let ranked = Ranked {
+            order: &self.places.order,
+            ranks: &self.places.ranks,
+        };
+        self.reach.reach(net, held, &ranked, low, high, first);
         if self.reach.causes[high].is_some() {
             self.way.close(
                 net,

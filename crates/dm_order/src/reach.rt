@@ -1,5 +1,5 @@
 //! Which events in an interval of places the held activities lead to.
-ghost use Rattle.std.specs.Prelude.{◌≡◌, ◌<◌, ◌≤◌, length, IfOk};
+ghost use Rattle.std.specs.Prelude.{◌≡◌, ◌<◌, ◌≤◌, length, slice_index, IfOk};
 ghost use Rattle.dm_graph.specs.Arrays.{AreRanks};
 ghost use Rattle.dm_network.specs.Net.{places_out_of};
 ghost use Rattle.dm_order.specs.Inside.Reaching.{followed, followed_all, HasReached, IsCleared};
@@ -9,6 +9,13 @@ use dm_network::Network;
 use std::alloc::{AllocError, Global};
 use std::marker::Brand;
 use std::sync::ledger::{Blank, Ledger};
+
+/// The events in an order, and the place of each.
+#[derive(Clone, Copy)]
+pub struct Ranked<'o> {
+    pub order: &'o [usize],
+    pub ranks: &'o [usize],
+}
 
 /// By which activity the event at each place was reached, or `None`.
 #[derive(Drop)]
@@ -31,32 +38,23 @@ impl Reach {
         &mut self,
         net: &Network,
         held: &[bool],
-        order: &[usize],
-        ranks: &[usize],
+        ranked: &Ranked<'_>,
         low: usize,
         high: usize,
         first: usize,
     )
         requires flags { length held.now ≡ length net.now.activities }
-        requires ranked { AreRanks (length net.now.events) order.now ranks.now }
+        requires ranked { AreRanks (length net.now.events) ranked.now.order.now ranked.now.ranks.now }
         requires room { length self.old.causes.items ≡ length net.now.events }
         requires interval { low ≤ high }
         requires within { high < length net.now.events }
-        ensures { HasReached net.now held.now ranks.now low high high self.new.causes.items }
+        ensures { HasReached net.now held.now ranked.now.ranks.now low high high self.new.causes.items }
     {
         net.reveal();
         self.clear(low, high, first);
         for place in low..high {
             if self.causes[place].is_some() {
-                self.follow_all::<Brand>(
-                    net,
-                    held,
-                    ranks,
-                    place,
-                    high,
-                    order[place],
-                    Blank::new(1),
-                );
+                self.follow_all::<Brand>(net, held, ranked, place, high, Blank::new(1));
             }
         }
     }
@@ -73,32 +71,31 @@ impl Reach {
         self.causes[low] = Some(first);
     }
 
-    /// Reaches what the held activities out of an event lead to, up to a high place, for a ledger that nothing reads.
+    /// Reaches what the held activities out of the event at a place lead to, up to a high place, for a ledger that nothing reads.
     fn follow_all<L: Ledger>(
         &mut self,
         net: &Network,
         held: &[bool],
-        ranks: &[usize],
+        ranked: &Ranked<'_>,
         at: usize,
         high: usize,
-        event: usize,
         blank: Blank,
     )
         requires name { blank.name ≡ L.name }
         requires parts { blank.parts ≡ L.parts }
         requires has_a_part { 0 < blank.parts }
         requires flags { length held.now ≡ length net.now.activities }
-        requires ranks { length ranks.now ≡ length net.now.events }
+        requires ranked { AreRanks (length net.now.events) ranked.now.order.now ranked.now.ranks.now }
         requires within { high < length self.old.causes.items }
-        requires is_event { event < length net.now.events }
-        ensures causes { self.new.causes.items ≡ followed_all net.now held.now ranks.now at high self.old.causes.items
-            (places_out_of net.now event) }
+        requires is_place { at < length net.now.events }
+        ensures causes { self.new.causes.items ≡ followed_all net.now held.now ranked.now.ranks.now at high self.old.causes.items
+            (places_out_of net.now (slice_index ranked.now.order.now at)) }
         ensures as_many { length self.new.causes.items ≡ length self.old.causes.items }
     {
         let mut steps = Steps::<L>::new(blank);
         net.reveal();
-        for a in net.out_row(event, &mut steps) {
-            self.follow(net, held, ranks, at, high, *a);
+        for a in net.out_row(ranked.order[at], &mut steps) {
+            self.follow(net, held, ranked.ranks, at, high, *a);
         }
     }
 

@@ -15,13 +15,13 @@ loop-place-preserved c =
     let was : is_reached c.loop-place.self.causes.items c.loop-place.place ≡ c.is_some.result = ap is_some item ∙ sym c.is_some.ensures in
     elim c.if-is_some.branch [
       | then-is_some w ↦
-          subst (λ (r : Reach). HasReached c.args.net.now c.args.held.now c.args.ranks.now c.args.low c.args.high (c.loop-place.place + 1) r.causes.items) (sym w.self-is)
-          (goes_on c.args.net.now c.args.held.now c.args.order.now c.args.ranks.now c.requires.ranked c.reveal.ensures.network.formed.ends_are_known
+          subst (λ (r : Reach). HasReached c.args.net.now c.args.held.now c.args.ranked.now.ranks.now c.args.low c.args.high (c.loop-place.place + 1) r.causes.items) (sym w.self-is)
+          (goes_on c.args.net.now c.args.held.now c.args.ranked.now.order.now c.args.ranked.now.ranks.now c.requires.ranked c.reveal.ensures.network.formed.ends_are_known
           c.args.low c.args.high c.loop-place.place c.loop-place.self.causes.items c.loop-place.invariant
           (omega arith) (omega arith) c.requires.within w.follow_all.new.self.causes.items w.follow_all.ensures.causes (was ∙ w.if-is_some.true))
       | else-is_some w ↦
-          subst (λ (r : Reach). HasReached c.args.net.now c.args.held.now c.args.ranks.now c.args.low c.args.high (c.loop-place.place + 1) r.causes.items) (sym w.self-is)
-          (passes_by c.args.net.now c.args.held.now c.args.order.now c.args.ranks.now c.requires.ranked c.reveal.ensures.network.formed.ends_are_known
+          subst (λ (r : Reach). HasReached c.args.net.now c.args.held.now c.args.ranked.now.ranks.now c.args.low c.args.high (c.loop-place.place + 1) r.causes.items) (sym w.self-is)
+          (passes_by c.args.net.now c.args.held.now c.args.ranked.now.order.now c.args.ranked.now.ranks.now c.requires.ranked c.reveal.ensures.network.formed.ends_are_known
           c.args.low c.args.high c.loop-place.place c.loop-place.self.causes.items c.loop-place.invariant
           (omega arith) (omega arith) c.requires.within (was ∙ w.if-is_some.false))
     ]
