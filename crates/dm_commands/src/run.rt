@@ -1,7 +1,7 @@
 //! A run, from its words to the text of its answered feeds.
 
-ghost use Rattle.std.specs.Prelude.{◌≡◌, ◌<◌, ◌≤◌, ℕ, List, length, map, vec_len, IfOk};
-ghost use Rattle.dm_base.specs.declared.limits.TheConstants.{BOARDS, FEEDS, PENALTY, WORKERS};
+ghost use Rattle.std.specs.Prelude.{◌≡◌, ◌≤◌, ℕ, List, length, map, vec_len, IfOk};
+ghost use Rattle.dm_base.specs.declared.limits.TheConstants.{BOARDS, FEEDS};
 ghost use Rattle.dm_rows.specs.Rows.{IsSized};
 ghost use Rattle.dm_crew.specs.AtOnce.{AnswersDay};
 ghost use Rattle.dm_crew.specs.Boards.{AreShown};
@@ -18,7 +18,7 @@ use crate::feeds::{names_of, open_feeds};
 use crate::means::CommandMeans;
 use crate::print::end_run;
 use crate::status::Status;
-use dm_crew::{AnsweredDay, answer_at_once};
+use dm_crew::{AnsweredDay, Crew, answer_at_once};
 use dm_desk::HoldPoint;
 use dm_input::{Opened, read_opening};
 use dm_network::Network;
@@ -65,26 +65,16 @@ pub fn run_feeds<
     let Ok(feeds) = open_feeds(means.alloc, shelf, names.as_slice()) else {
         return Status::NoMemory;
     };
-    let answered = answer_run(
-        means,
-        &net,
-        rows,
-        run.files.penalty,
-        run.files.plans,
-        feeds,
-        run.batch as u32,
-        run.workers,
-        boards,
-    );
+    let answered = answer_run(means, run, &net, rows, feeds, boards);
     match answered {
         Ok(answered) => end_run(&answered, out),
         Err(AllocError) => Status::NoMemory,
     }
 }
 
-/// Answers feeds over a network in rounds, from the rows before any message. In a round each feed has a thread of its own where
-/// two or more are still read and one can be made; else the caller answers it. Boards are shown the times before the first round
-/// and after each. Each feed may have so many plans. So many workers search for each plan.
+/// Answers the feeds of a run over a network in rounds, from the rows before any message. In a round each feed has a thread of its
+/// own where two or more are still read and one can be made; else the caller answers it. Boards are shown the times before the
+/// first round and after each.
 pub fn answer_run<
     'n,
     R: Threads + Wait + Sync,
@@ -93,46 +83,39 @@ pub fn answer_run<
     S: Source + Send + Drop,
 >(
     means: &CommandMeans<'_, '_, '_, R, F, G>,
+    run: &RunWords<'_>,
     net: &'n Network,
     rows: Rows,
-    penalty: u64,
-    plans: u32,
     feeds: Vec<Option<S>>,
-    batch: u32,
-    workers: u32,
     boards: &mut Vec<Box<dyn Board>>,
 ) -> Result<AnsweredDay<'n>, AllocError>
     requires searches { Searches (F.pre means.now.search.now) (F.post means.now.search.now) }
+    requires within { AreWithin (run_of run.now) }
     requires sized { IsSized net.now rows }
     requires start { IsAtStart net.now rows }
-    requires penalty { penalty ≤ PENALTY }
     requires few { length feeds.items ≤ FEEDS }
-    requires some { 0 < batch }
-    requires workers { (1 ≤ workers) × (workers ≤ WORKERS) }
     requires few_boards { vec_len boards.old ≤ BOARDS }
-    ensures answers { IfOk result (λ day. AnswersDay S.left S.is_sound net.now rows penalty plans feeds.items batch day.table
-        day.logs.items) }
+    ensures answers { IfOk result (λ day. AnswersDay S.left S.is_sound net.now rows run.now.files.penalty run.now.files.plans
+        feeds.items run.now.batch day.table day.logs.items) }
     ensures shown { IfOk result (λ day. AreShown place times (λ b. (Board-box b).faults b.value) (λ b. (Board-box b).is_sound b.value)
         net.now day.table.times (length day.table.history) day.publisher.notes boards.old.items boards.new.items) }
     ensures stops { map place boards.new.items ≡ map place boards.old.items }
 {
     net.reveal();
+    let penalty = run.files.penalty;
+    let workers = run.workers;
     let planner = |snapshot: &Snapshot, budget: u64| -> Result<Plan, AllocError>
         requires { Searches (F.pre means.now.search.now) (F.post means.now.search.now)
             × MaySearch net.now penalty snapshot.now budget workers }
         ensures { IfOk result (FindsPlan net.entry.now penalty snapshot.now budget) }
     { (means.search)(net, penalty, snapshot, budget, workers) };
-    answer_at_once(
-        means.rt,
-        means.alloc,
-        net,
-        rows,
-        penalty,
-        plans,
-        feeds,
-        &planner,
-        means.gate,
-        batch,
-        boards,
-    )
+    let crew = Crew {
+        rt: means.rt,
+        alloc: means.alloc,
+        planner: &planner,
+        plans: run.files.plans,
+        gate: means.gate,
+        batch: run.batch as u32,
+    };
+    answer_at_once(&crew, net, rows, penalty, feeds, boards)
 }

@@ -44,11 +44,10 @@ impl Drop for AnsweredDay<'_> {
     }
 }
 
-/// Answers feeds over a server of these rows, at a penalty in seconds for each passenger, until each has ended, in rounds of so
-/// many lines a feed. Each feed may have so many plans. In a round each feed has a thread of its own where two or more are still
-/// read and one can be made; else the caller answers it. A feed that could not be opened is `None`. Boards are shown the times
-/// before the first round, and after each round those that have moved. Want of memory may come at any point up to the end of the
-/// last round.
+/// Answers feeds over a server of these rows, at a penalty in seconds for each passenger, until each has ended, in rounds. In a
+/// round each feed has a thread of its own where two or more are still read and one can be made; else the caller answers it. A
+/// feed that could not be opened is `None`. Boards are shown the times before the first round, and after each round those that
+/// have moved. Want of memory may come at any point up to the end of the last round.
 pub fn answer_at_once<
     'n,
     R: Threads + Wait + Sync,
@@ -56,27 +55,23 @@ pub fn answer_at_once<
     L: Fn(&Snapshot, u64) -> Result<Plan, AllocError> + Sync,
     H: HoldPoint + Sync,
 >(
-    rt: &R,
-    alloc: Global,
+    crew: &Crew<'_, R, L, H>,
     net: &'n Network,
     rows: Rows,
     penalty: u64,
-    plans: u32,
     feeds: Vec<Option<S>>,
-    planner: &L,
-    gate: &H,
-    batch: u32,
     boards: &mut Vec<Box<dyn Board>>,
 ) -> Result<AnsweredDay<'n>, AllocError>
     requires sized { IsSized net.now rows }
     requires no_cycle { HasNoCycle net.now rows }
     requires penalty { penalty ≤ PENALTY }
-    requires plans { PlansUnder (L.pre planner.now) (L.post planner.now) (day_desk net.now rows penalty plans).setting }
+    requires plans { PlansUnder (L.pre crew.now.planner.now) (L.post crew.now.planner.now)
+        (day_desk net.now rows penalty crew.now.plans).setting }
     requires few { length feeds.items ≤ FEEDS }
-    requires some { 0 < batch }
+    requires some { 0 < crew.now.batch }
     requires few_boards { vec_len boards.old ≤ BOARDS }
-    ensures answers { IfOk result (λ day. AnswersDay S.left S.is_sound net.now rows penalty plans feeds.items batch day.table
-        day.logs.items) }
+    ensures answers { IfOk result (λ day. AnswersDay S.left S.is_sound net.now rows penalty crew.now.plans feeds.items
+        crew.now.batch day.table day.logs.items) }
 
     // Each board that no note names shows the times of the table, and each note has its cause.
     ensures shown { IfOk result (λ day. AreShown place times (λ b. (Board-box b).faults b.value) (λ b. (Board-box b).is_sound b.value)
@@ -84,18 +79,9 @@ pub fn answer_at_once<
     ensures stops { map place boards.new.items ≡ map place boards.old.items }
 {
     let seats = feeds.len() as u32 + 1;
-    let mut display = Display::new(alloc, net, boards.len())?;
-    let (server, mut main) = new_server(alloc, net, rows, penalty, seats)?;
-    let crew = Crew {
-        rt,
-        alloc,
-        server: &server,
-        planner,
-        plans,
-        gate,
-        batch,
-    };
-    let logs = crew.answer_feeds::<Brand, S>(&mut main, feeds, &mut display, boards)?;
+    let mut display = Display::new(crew.alloc, net, boards.len())?;
+    let (server, mut main) = new_server(crew.alloc, net, rows, penalty, seats)?;
+    let logs = crew.answer_feeds::<Brand, S>(&server, &mut main, feeds, &mut display, boards)?;
     let table = server.close(main);
     Ok(AnsweredDay {
         table,

@@ -4,9 +4,11 @@
 //!
 //! # What is promised
 //!
-//! [`answer_at_once`] answers a day's feeds over a server of its rows, in rounds of `batch` lines a feed. In a round each feed
-//! has a pass of its own, split from the main one; then all passes are joined. Before the first round it publishes the times on a
-//! list of boards. After each round it publishes those that have moved.
+//! A [`Crew`] is what feeds are answered with: threads, memory, what makes plans, and how many lines a round takes of each feed.
+//!
+//! [`answer_at_once`] answers a day's feeds over a server of its rows, in rounds. In a round each feed has a pass of its own, split
+//! from the main one; then all passes are joined. Before the first round it publishes the times on a list of boards. After each
+//! round it publishes those that have moved.
 //!
 //! The clause `answers` (`AnswersDay`) says:
 //!
@@ -37,3 +39,4 @@ mod work;
 
 pub use day::{AnsweredDay, answer_at_once};
 pub use desk::{Caller, Seat, ServerDesk};
+pub use rounds::Crew;

@@ -30,13 +30,12 @@ use std::sync::Wait;
 use std::thread;
 use std::thread::Threads;
 
-/// What feeds are answered with: a server, what plans for it, how many plans a feed may have, a gate, and how many lines a feed has
-/// in a round.
+/// What feeds are answered with: threads, memory, what makes plans, how many plans a feed may have, a gate, and how many lines a
+/// feed has in a round.
 #[derive(Drop)]
-pub struct Crew<'c, 'n, R, L, H> {
+pub struct Crew<'c, R, L, H> {
     pub rt: &'c R,
     pub alloc: Global,
-    pub server: &'c Server<'n>,
     pub planner: &'c L,
     pub plans: u32,
     pub gate: &'c H,
@@ -44,22 +43,22 @@ pub struct Crew<'c, 'n, R, L, H> {
 }
 
 impl<
-    'n,
     R: Threads + Wait + Sync,
     L: Fn(&Snapshot, u64) -> Result<Plan, AllocError> + Sync,
     H: HoldPoint + Sync,
-> Crew<'_, 'n, R, L, H> {
+> Crew<'_, R, L, H> {
     /// Answers feeds over the server until each has ended, each round's feeds at once. Boards are shown the times before the first
     /// round, and after each round those that have moved. It may answer want of memory at any point up to the end of the last round,
     /// and then says nothing of the passes.
-    pub fn answer_feeds<P: Seat + Send + Sync, S: Source + Send + Drop>(
+    pub fn answer_feeds<'n, P: Seat + Send + Sync, S: Source + Send + Drop>(
         &self,
+        server: &Server<'n>,
         main: &mut Pass<Kept<'n>>,
         feeds: Vec<Option<S>>,
         display: &mut Display<'n>,
         boards: &mut Vec<Box<dyn Board>>,
     ) -> Result<Vec<FeedLog>, AllocError>
-        requires here { main.old.turn ≡ self.now.server.now.id }
+        requires here { main.old.turn ≡ server.now.id }
         requires idle { main.old.holds ≡ false }
         requires base { main.old.base ≡ Some P.base }
         requires legal { HasSeenLegal (desk_of self.now.plans P.base main.old) }
@@ -78,24 +77,25 @@ impl<
     {
         let logs = Vec::with_capacity(self.alloc, feeds.len())?;
         let mut jobs = begin(self.alloc, feeds)?;
-        show::<P, R>(self.rt, self.server, main, display, boards);
+        show::<P, R>(self.rt, server, main, display, boards);
         for _ in self.rt.forever() {
             if have_ended(&jobs) {
                 break;
             }
-            jobs = self.answer_round::<P, S>(main, jobs)?;
-            show_growth::<P, R>(self.rt, self.server, main, display, boards);
+            jobs = self.answer_round::<P, S>(server, main, jobs)?;
+            show_growth::<P, R>(self.rt, server, main, display, boards);
         }
         Ok(logs_of(jobs, logs))
     }
 
     // Answers the next lines of each feed.
-    fn answer_round<P: Seat + Send + Sync, S: Source + Send + Drop>(
+    fn answer_round<'n, P: Seat + Send + Sync, S: Source + Send + Drop>(
         &self,
+        server: &Server<'n>,
         main: &mut Pass<Kept<'n>>,
         jobs: Vec<Box<Job<S>>>,
     ) -> Result<Vec<Box<Job<S>>>, AllocError>
-        requires here { main.old.turn ≡ self.now.server.now.id }
+        requires here { main.old.turn ≡ server.now.id }
         requires idle { main.old.holds ≡ false }
         requires base { main.old.base ≡ Some P.base }
         requires legal { HasSeenLegal (desk_of self.now.plans P.base main.old) }
@@ -110,35 +110,37 @@ impl<
         ensures round { IfOk result (λ after. AnswersRound S.left S.is_sound self.now.batch (desk_of self.now.plans P.base main.old)
             (map (λ b. b.value) jobs.items) (desk_of self.now.plans P.base main.new) (map (λ b. b.value) after.items)) }
     {
-        let works = share_out(self.alloc, self.server, main, jobs)?;
-        let works = self.work_all::<P, S>(works)?;
-        gather::<P, S>(self.alloc, self.server, main, works)
+        let works = share_out(self.alloc, server, main, jobs)?;
+        let works = self.work_all::<P, S>(server, works)?;
+        gather::<P, S>(self.alloc, server, main, works)
     }
 
     // Answers the next lines of feeds. Where two or more are still read, each has a thread of its own if one can be made; else the
     // caller does all the work, one feed after another.
-    fn work_all<P: Seat + Send + Sync, S: Source + Send + Drop>(
+    fn work_all<'n, P: Seat + Send + Sync, S: Source + Send + Drop>(
         &self,
+        server: &Server<'n>,
         works: Vec<Work<'n, S>>,
     ) -> Result<Vec<Work<'n, S>>, AllocError>
-        requires ready { All (λ w. IsReady self.now.server.now.id self.now.plans P.base w.feed w.pass w.job.value) works.items }
+        requires ready { All (λ w. IsReady server.now.id self.now.plans P.base w.feed w.pass w.job.value) works.items }
         requires plans { PlansUnder (L.pre self.now.planner.now) (L.post self.now.planner.now) (setting_of self.now.plans P.base) }
         ensures len { IfOk result (λ after. vec_len after ≡ vec_len works.entry) }
         ensures each { IfOk result (λ after. AreWorkedEach S.left S.is_sound self.now.plans P.base self.now.batch
             works.entry.items after.items) }
     {
         if count_read(&works) >= 2 {
-            return self.work_side_by_side::<P, S>(works);
+            return self.work_side_by_side::<P, S>(server, works);
         }
-        self.work_one_by_one::<P, S>(works)
+        self.work_one_by_one::<P, S>(server, works)
     }
 
     // Answers the next lines of feeds, each in a thread of its own if one can be made.
-    fn work_side_by_side<P: Seat + Send + Sync, S: Source + Send + Drop>(
+    fn work_side_by_side<'n, P: Seat + Send + Sync, S: Source + Send + Drop>(
         &self,
+        server: &Server<'n>,
         works: Vec<Work<'n, S>>,
     ) -> Result<Vec<Work<'n, S>>, AllocError>
-        requires ready { All (λ w. IsReady self.now.server.now.id self.now.plans P.base w.feed w.pass w.job.value) works.items }
+        requires ready { All (λ w. IsReady server.now.id self.now.plans P.base w.feed w.pass w.job.value) works.items }
         requires plans { PlansUnder (L.pre self.now.planner.now) (L.post self.now.planner.now) (setting_of self.now.plans P.base) }
         ensures len { IfOk result (λ after. vec_len after ≡ vec_len works.entry) }
         ensures each { IfOk result (λ after. AreWorkedEach S.left S.is_sound self.now.plans P.base self.now.batch
@@ -147,16 +149,17 @@ impl<
         thread::map_vec(
             self.rt,
             works,
-            &|work: Work<'_, S>| work.worked::<P, R, L, H>(self),
+            &|work: Work<'_, S>| work.worked::<P, R, L, H>(self, server),
         )
     }
 
     // Answers the next lines of feeds, one feed after another.
-    fn work_one_by_one<P: Seat, S: Source + Drop>(
+    fn work_one_by_one<'n, P: Seat, S: Source + Drop>(
         &self,
+        server: &Server<'n>,
         works: Vec<Work<'n, S>>,
     ) -> Result<Vec<Work<'n, S>>, AllocError>
-        requires ready { All (λ w. IsReady self.now.server.now.id self.now.plans P.base w.feed w.pass w.job.value) works.items }
+        requires ready { All (λ w. IsReady server.now.id self.now.plans P.base w.feed w.pass w.job.value) works.items }
         requires plans { PlansUnder (L.pre self.now.planner.now) (L.post self.now.planner.now) (setting_of self.now.plans P.base) }
         ensures len { IfOk result (λ after. vec_len after ≡ vec_len works.entry) }
         ensures each { IfOk result (λ after. AreWorkedEach S.left S.is_sound self.now.plans P.base self.now.batch
@@ -164,7 +167,7 @@ impl<
     {
         let mut done = Vec::with_capacity(self.alloc, works.len())?;
         for work in works {
-            done.push(work.worked::<P, R, L, H>(self))?;
+            done.push(work.worked::<P, R, L, H>(self, server))?;
         }
         Ok(done)
     }

@@ -11,7 +11,7 @@ use dm_desk::HoldPoint;
 use dm_outside::Source;
 use dm_rounds::{Job, Progress, answer_job};
 use dm_rows::Snapshot;
-use dm_server::Kept;
+use dm_server::{Kept, Server};
 use dm_tree::Plan;
 use dm_turn::Pass;
 use std::alloc::AllocError;
@@ -37,8 +37,8 @@ impl<'n, S: Source + Drop> Work<'n, S> {
         R: Wait,
         L: Fn(&Snapshot, u64) -> Result<Plan, AllocError>,
         H: HoldPoint,
-    >(self, crew: &Crew<'_, 'n, R, L, H>) -> Work<'n, S>
-        requires ready { IsReady crew.now.server.now.id crew.now.plans P.base self.feed self.pass self.job.value }
+    >(self, crew: &Crew<'_, R, L, H>, server: &Server<'n>) -> Work<'n, S>
+        requires ready { IsReady server.now.id crew.now.plans P.base self.feed self.pass self.job.value }
         requires plans { PlansUnder (L.pre crew.now.planner.now) (L.post crew.now.planner.now) (setting_of crew.now.plans P.base) }
         ensures feed { result.feed ≡ self.entry.feed }
         ensures worked { IsWorked S.left S.is_sound crew.now.plans P.base crew.now.batch self.entry.feed self.entry.pass
@@ -50,8 +50,8 @@ impl<'n, S: Source + Drop> Work<'n, S> {
             feed,
             answer: _,
         } = self;
-        let (pass, answer) = answer_seated::<Brand, R, S, L, H>(crew, pass, &mut job, feed);
-        crew.server.rest();
+        let (pass, answer) = answer_seated::<Brand, R, S, L, H>(crew, server, pass, &mut job, feed);
+        server.rest();
         Work {
             pass,
             job,
@@ -70,20 +70,21 @@ fn answer_seated<
     L: Fn(&Snapshot, u64) -> Result<Plan, AllocError>,
     H: HoldPoint,
 >(
-    crew: &Crew<'_, 'n, R, L, H>,
+    crew: &Crew<'_, R, L, H>,
+    server: &Server<'n>,
     pass: Pass<Kept<'n>>,
     job: &mut Job<S>,
     feed: u32,
 ) -> (Pass<Kept<'n>>, Result<(), AllocError>)
     requires pass { pass ≡ P.pass }
-    requires ready { IsReady crew.now.server.now.id crew.now.plans P.base feed pass job.old }
+    requires ready { IsReady server.now.id crew.now.plans P.base feed pass job.old }
     requires plans { PlansUnder (L.pre crew.now.planner.now) (L.post crew.now.planner.now) (setting_of crew.now.plans P.base) }
     ensures { IsWorked S.left S.is_sound crew.now.plans P.base crew.now.batch feed pass.entry job.old result.0 job.new result.1 }
 {
     let mut desk: ServerDesk<'_, '_, 'n, R, P> = ServerDesk {
         caller: Caller {
             rt: crew.rt,
-            server: crew.server,
+            server,
             plans: crew.plans,
         },
         pass,

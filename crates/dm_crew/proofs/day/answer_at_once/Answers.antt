@@ -39,11 +39,11 @@ answer_feeds-requires-clause-base g c = λ lifetimes bounds.
 
 pub answer_feeds-requires-clause-legal : goal.answer_feeds-requires-clause-legal
 answer_feeds-requires-clause-legal g c = λ lifetimes bounds.
-    subst (λ (p : PassValue Base). HasSeenLegal (desk_of c.args.plans (base_in c.in_ok-server.main.base) p)) (sym (first g (goal.at.answer_feeds-requires-clause-legal g c).In_ok-server)) (none_legal (base_in c.in_ok-server.main.base))
+    subst (λ (p : PassValue Base). HasSeenLegal (desk_of c.args.crew.now.plans (base_in c.in_ok-server.main.base) p)) (sym (first g (goal.at.answer_feeds-requires-clause-legal g c).In_ok-server)) (none_legal (base_in c.in_ok-server.main.base))
 
 pub answer_feeds-requires-clause-plans : goal.answer_feeds-requires-clause-plans
 answer_feeds-requires-clause-plans g c = λ lifetimes bounds.
-    plans_at _ _ c.args.plans (record { network = c.args.net.now; start = c.args.rows; penalty = c.args.penalty }) (base_in c.in_ok-server.main.base) (there g (goal.at.answer_feeds-requires-clause-plans g c).In_ok-server) c.requires.plans
+    plans_at _ _ c.args.crew.now.plans (record { network = c.args.net.now; start = c.args.rows; penalty = c.args.penalty }) (base_in c.in_ok-server.main.base) (there g (goal.at.answer_feeds-requires-clause-plans g c).In_ok-server) c.requires.plans
 
 pub answer_feeds-requires-clause-rooms : goal.answer_feeds-requires-clause-rooms
 answer_feeds-requires-clause-rooms g c =
@@ -72,8 +72,8 @@ pub returns-clause-answers : goal.returns-clause-answers
 returns-clause-answers g c =
     let is = first g (goal.at.returns-clause-answers g c).In_ok-server in
     let base = base_in c.in_ok-server.main.base in
-    subst (λ (b : Base). AnswersDay g.S.Source.left g.S.Source.is_sound b.network b.start b.penalty c.args.plans c.args.feeds.items c.args.batch c.close-table.result c.in_ok-logs.logs.items) (there g (goal.at.returns-clause-answers g c).In_ok-server)
-    (answers_day g.S.Source.left g.S.Source.is_sound base.network base.start base.penalty c.args.plans c.args.feeds.items c.args.batch c.in_ok-server.main c.answer_feeds.new.main c.close-table.result c.in_ok-logs.logs.items
+    subst (λ (b : Base). AnswersDay g.S.Source.left g.S.Source.is_sound b.network b.start b.penalty c.args.crew.now.plans c.args.feeds.items c.args.crew.now.batch c.close-table.result c.in_ok-logs.logs.items) (there g (goal.at.returns-clause-answers g c).In_ok-server)
+    (answers_day g.S.Source.left g.S.Source.is_sound base.network base.start base.penalty c.args.crew.now.plans c.args.feeds.items c.args.crew.now.batch c.in_ok-server.main c.answer_feeds.new.main c.close-table.result c.in_ok-logs.logs.items
     (ap (λ (p : PassValue Base). p.seen) is) (ap (λ (p : PassValue Base). p.mine) is) (ap (λ (p : PassValue Base). p.opening) is) (ap (λ (p : PassValue Base). p.base) is) c.in_ok-logs.ensures.same c.close-table.ensures.base c.close-table.ensures.history c.close-table.ensures.table c.close-table.ensures.numbers c.in_ok-logs.ensures.answers)
 
 -- what boards show is noted by a publisher that is the same

@@ -8,7 +8,7 @@ use Rattle.dm_crew.proofs.rounds.Crew.answer_round.Goals as goal
 use Rattle.dm_crew.proofs.rounds.Crew.answer_round.Goals.{In_ok-works, In_ok-works-2}
 
 -- the parts of the round before they are worked, whatever comes of them
-shared : (g : given.Over) (c : goal.In_ok-works g) (after : List (Work _)) → IsShared g.S.Source.left g.S.Source.is_sound c.args.self.now.plans g.P.Seat.base c.args.self.now.batch c.requires.some c.args.self.now.server.now.id c.in_ok-works.works.items after (map (λ b. b.value) c.args.jobs.items) c.args.main.now (λ (w : Work _). w.job.value) (λ (w : Work _). w.pass) (λ (w : Work _). w.feed) (λ (w : Work _). w.answer)
+shared : (g : given.Over) (c : goal.In_ok-works g) (after : List (Work _)) → IsShared g.S.Source.left g.S.Source.is_sound c.args.self.now.plans g.P.Seat.base c.args.self.now.batch c.requires.some c.args.server.now.id c.in_ok-works.works.items after (map (λ b. b.value) c.args.jobs.items) c.args.main.now (λ (w : Work _). w.job.value) (λ (w : Work _). w.pass) (λ (w : Work _). w.feed) (λ (w : Work _). w.answer)
 shared g c after = record {
   here = c.requires.here;
   idle = c.requires.idle;
@@ -22,7 +22,7 @@ shared g c after = record {
 }
 
 -- and what comes of them
-worked : (g : given.Over) (c : goal.In_ok-works-2 g) → AreWorked g.S.Source.left g.S.Source.is_sound c.args.self.now.plans g.P.Seat.base c.args.self.now.batch c.requires.some c.args.self.now.server.now.id c.in_ok-works.works.items c.in_ok-works-2.works.items (map (λ b. b.value) c.args.jobs.items) c.args.main.now (λ (w : Work _). w.job.value) (λ (w : Work _). w.pass) (λ (w : Work _). w.feed) (λ (w : Work _). w.answer)
+worked : (g : given.Over) (c : goal.In_ok-works-2 g) → AreWorked g.S.Source.left g.S.Source.is_sound c.args.self.now.plans g.P.Seat.base c.args.self.now.batch c.requires.some c.args.server.now.id c.in_ok-works.works.items c.in_ok-works-2.works.items (map (λ b. b.value) c.args.jobs.items) c.args.main.now (λ (w : Work _). w.job.value) (λ (w : Work _). w.pass) (λ (w : Work _). w.feed) (λ (w : Work _). w.answer)
 worked g c = record {
   as_many = sym c.in_ok-works-2.works.ok.0 ∙ (c.in_ok-works-2.ensures.len ∙ c.in_ok-works.works.ok.0);
   each = c.in_ok-works-2.ensures.each;
@@ -38,27 +38,27 @@ enough g c = omega (arith, length-map c.args.jobs.items (λ b. b.value), c.args.
 
 pub work_all-requires-clause-ready : goal.work_all-requires-clause-ready
 work_all-requires-clause-ready g c = λ lifetimes bounds.
-    all_ready g.S.Source.left g.S.Source.is_sound c.args.self.now.plans g.P.Seat.base c.args.self.now.batch c.requires.some c.args.self.now.server.now.id c.in_ok-works.works.items c.in_ok-works.works.items (map (λ b. b.value) c.args.jobs.items) c.args.main.now (λ (w : Work _). w.job.value) (λ (w : Work _). w.pass) (λ (w : Work _). w.feed) (λ (w : Work _). w.answer) (shared g (goal.at.work_all-requires-clause-ready g c).In_ok-works c.in_ok-works.works.items)
+    all_ready g.S.Source.left g.S.Source.is_sound c.args.self.now.plans g.P.Seat.base c.args.self.now.batch c.requires.some c.args.server.now.id c.in_ok-works.works.items c.in_ok-works.works.items (map (λ b. b.value) c.args.jobs.items) c.args.main.now (λ (w : Work _). w.job.value) (λ (w : Work _). w.pass) (λ (w : Work _). w.feed) (λ (w : Work _). w.answer) (shared g (goal.at.work_all-requires-clause-ready g c).In_ok-works c.in_ok-works.works.items)
 
 pub gather-requires-clause-passes : goal.gather-requires-clause-passes
 gather-requires-clause-passes g c =
     let parts = shared g (goal.at.gather-requires-clause-passes g c).In_ok-works c.in_ok-works-2.works.items in
-    all_idle g.S.Source.left g.S.Source.is_sound c.args.self.now.plans g.P.Seat.base c.args.self.now.batch c.requires.some c.args.self.now.server.now.id c.in_ok-works.works.items c.in_ok-works-2.works.items (map (λ b. b.value) c.args.jobs.items) c.args.main.now (λ (w : Work _). w.job.value) (λ (w : Work _). w.pass) (λ (w : Work _). w.feed) (λ (w : Work _). w.answer) parts (worked g (goal.at.gather-requires-clause-passes g c).In_ok-works-2)
+    all_idle g.S.Source.left g.S.Source.is_sound c.args.self.now.plans g.P.Seat.base c.args.self.now.batch c.requires.some c.args.server.now.id c.in_ok-works.works.items c.in_ok-works-2.works.items (map (λ b. b.value) c.args.jobs.items) c.args.main.now (λ (w : Work _). w.job.value) (λ (w : Work _). w.pass) (λ (w : Work _). w.feed) (λ (w : Work _). w.answer) parts (worked g (goal.at.gather-requires-clause-passes g c).In_ok-works-2)
 
 pub gather-requires-clause-legal_all : goal.gather-requires-clause-legal_all
 gather-requires-clause-legal_all g c =
     let parts = shared g (goal.at.gather-requires-clause-legal_all g c).In_ok-works c.in_ok-works-2.works.items in
-    all_legal g.S.Source.left g.S.Source.is_sound c.args.self.now.plans g.P.Seat.base c.args.self.now.batch c.requires.some c.args.self.now.server.now.id c.in_ok-works.works.items c.in_ok-works-2.works.items (map (λ b. b.value) c.args.jobs.items) c.args.main.now (λ (w : Work _). w.job.value) (λ (w : Work _). w.pass) (λ (w : Work _). w.feed) (λ (w : Work _). w.answer) parts (worked g (goal.at.gather-requires-clause-legal_all g c).In_ok-works-2)
+    all_legal g.S.Source.left g.S.Source.is_sound c.args.self.now.plans g.P.Seat.base c.args.self.now.batch c.requires.some c.args.server.now.id c.in_ok-works.works.items c.in_ok-works-2.works.items (map (λ b. b.value) c.args.jobs.items) c.args.main.now (λ (w : Work _). w.job.value) (λ (w : Work _). w.pass) (λ (w : Work _). w.feed) (λ (w : Work _). w.answer) parts (worked g (goal.at.gather-requires-clause-legal_all g c).In_ok-works-2)
 
 pub returns-clause-same : goal.returns-clause-same
 returns-clause-same g c =
     let ready = (goal.at.returns-clause-same g c).In_ok-works in
-    told_same g.S.Source.left g.S.Source.is_sound c.args.self.now.plans g.P.Seat.base c.args.self.now.batch c.requires.some c.args.self.now.server.now.id c.in_ok-works.works.items c.in_ok-works-2.works.items (map (λ b. b.value) c.args.jobs.items) c.args.main.now (λ (w : Work _). w.job.value) (λ (w : Work _). w.pass) (λ (w : Work _). w.feed) (λ (w : Work _). w.answer) c.share_out.new.main c.gather.new.main (shared g ready c.in_ok-works-2.works.items) (worked g (goal.at.returns-clause-same g c).In_ok-works-2) (apart g ready) (enough g ready) c.gather.result c.gather.ensures.gathered
+    told_same g.S.Source.left g.S.Source.is_sound c.args.self.now.plans g.P.Seat.base c.args.self.now.batch c.requires.some c.args.server.now.id c.in_ok-works.works.items c.in_ok-works-2.works.items (map (λ b. b.value) c.args.jobs.items) c.args.main.now (λ (w : Work _). w.job.value) (λ (w : Work _). w.pass) (λ (w : Work _). w.feed) (λ (w : Work _). w.answer) c.share_out.new.main c.gather.new.main (shared g ready c.in_ok-works-2.works.items) (worked g (goal.at.returns-clause-same g c).In_ok-works-2) (apart g ready) (enough g ready) c.gather.result c.gather.ensures.gathered
 
 pub returns-clause-round : goal.returns-clause-round
 returns-clause-round g c =
     let ready = (goal.at.returns-clause-round g c).In_ok-works in
-    told_round g.S.Source.left g.S.Source.is_sound c.args.self.now.plans g.P.Seat.base c.args.self.now.batch c.requires.some c.args.self.now.server.now.id c.in_ok-works.works.items c.in_ok-works-2.works.items (map (λ b. b.value) c.args.jobs.items) c.args.main.now (λ (w : Work _). w.job.value) (λ (w : Work _). w.pass) (λ (w : Work _). w.feed) (λ (w : Work _). w.answer) c.share_out.new.main c.gather.new.main (shared g ready c.in_ok-works-2.works.items) (worked g (goal.at.returns-clause-round g c).In_ok-works-2) (apart g ready) (enough g ready) (λ after. map (λ b. b.value) after.items) c.gather.result c.gather.ensures.jobs c.gather.ensures.all_ok c.gather.ensures.gathered
+    told_round g.S.Source.left g.S.Source.is_sound c.args.self.now.plans g.P.Seat.base c.args.self.now.batch c.requires.some c.args.server.now.id c.in_ok-works.works.items c.in_ok-works-2.works.items (map (λ b. b.value) c.args.jobs.items) c.args.main.now (λ (w : Work _). w.job.value) (λ (w : Work _). w.pass) (λ (w : Work _). w.feed) (λ (w : Work _). w.answer) c.share_out.new.main c.gather.new.main (shared g ready c.in_ok-works-2.works.items) (worked g (goal.at.returns-clause-round g c).In_ok-works-2) (apart g ready) (enough g ready) (λ after. map (λ b. b.value) after.items) c.gather.result c.gather.ensures.jobs c.gather.ensures.all_ok c.gather.ensures.gathered
 
 pub returns-clause-later : goal.returns-clause-later
 returns-clause-later g c =

@@ -6,7 +6,7 @@ use Rattle.dm_crew.proofs.rounds.Crew.work_one_by_one.Goals as goal
 
 pub worked-requires-clause-ready : goal.worked-requires-clause-ready
 worked-requires-clause-ready g c =
-    all_here (λ (w : Work _). IsReady c.args.self.now.server.now.id c.args.self.now.plans g.P.Seat.base w.feed w.pass w.job.value) c.loop-work.yielded c.loop-work.work-iterator.rest.items c.next.new.self.rest.items c.args.works.items c.in-Some.work c.in-Some.ensures.steps.0 c.loop-work.invariant.whole c.requires.ready
+    all_here (λ (w : Work _). IsReady c.args.server.now.id c.args.self.now.plans g.P.Seat.base w.feed w.pass w.job.value) c.loop-work.yielded c.loop-work.work-iterator.rest.items c.next.new.self.rest.items c.args.works.items c.in-Some.work c.in-Some.ensures.steps.0 c.loop-work.invariant.whole c.requires.ready
 
 pub loop-work-preserved : goal.loop-work-preserved
 loop-work-preserved g c =
