@@ -15,6 +15,7 @@ ghost use Rattle.dm_propagate.specs.Moved.{TakesInMoved};
 ghost use Rattle.dm_propagate.specs.Inside.Altering.{change_in};
 ghost use Rattle.dm_propagate.specs.Reading.{KeepsClock, ReadsFew};
 
+use crate::day::Day;
 use crate::moving::{Alteration, move_to, try_rows};
 use crate::starting::priced_for;
 use dm_base::{Cost, Steps};
@@ -202,15 +203,18 @@ impl Engine {
         ensures cycle { OnErr result (IsCycle net.now (after_change self.old.rows (change_in what.now)) (cycle_of self.new)) }
         ensures moved { TakesInMoved self.old.moved.flags self.new.moved.flags (times_of self.old) (times_of self.new) }
         ensures few_reads { IsDelayPassOrClock (change_in what.now) → KeepsClock self.old.rows (change_in what.now)
-            → ReadsFew net.now (after_change self.old.rows (change_in what.now)) (change_in what.now) (times_of self.old) (times_of self.new)
-            steps.old steps.new }
+            → ReadsFew net.now (after_change self.old.rows (change_in what.now)) (change_in what.now)
+            (times_of self.old) (times_of self.new) steps.old steps.new }
     {
         net.reveal();
         what.make(&mut self.twin);
+        let day = Day {
+            net,
+            rows: &self.rows,
+        };
         match move_to(
             &mut self.priced,
-            net,
-            &self.rows,
+            &day,
             &self.twin,
             what,
             self.schedule.as_slice(),
@@ -245,10 +249,13 @@ impl Engine {
         ensures cycle { OnErr result (IsCycle net.now (after_change self.old.rows (change_in what.now)) (cycle_of self.new)) }
     {
         what.make(&mut self.twin);
+        let day = Day {
+            net,
+            rows: &self.rows,
+        };
         let outcome = try_rows(
             &mut self.priced,
-            net,
-            &self.rows,
+            &day,
             &self.twin,
             what,
             self.schedule.as_slice(),

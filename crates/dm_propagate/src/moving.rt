@@ -26,7 +26,6 @@ use crate::setting::set_flips;
 use dm_base::{Secs, Steps};
 use dm_graph::search::Cyclic;
 use dm_marks::PlaceSet;
-use dm_network::Network;
 use dm_priced::PricedTimetable;
 use dm_rows::{Change, Flip, Rows};
 use dm_schedule::Scheduled;
@@ -53,51 +52,52 @@ impl Alteration<'_> {
     }
 }
 
-/// Brings a timetable that follows rows to follow the others, which are those after a change, and settles it. Where the
-/// others have a cycle, it follows the rows that it followed before, its times are the same, and such a cycle is its last.
+/// Brings a timetable that follows the rows of a day to follow the others, which are those after a change, and settles it. Where
+/// the others have a cycle, it follows the rows that it followed before, its times are the same, and such a cycle is its last.
 /// The events whose times move are noted.
 pub fn move_to<L: Ledger>(
     priced: &mut PricedTimetable,
-    net: &Network,
-    rows: &Rows,
+    day: &Day<'_>,
     other: &Rows,
     what: &Alteration<'_>,
     schedule: &[Scheduled],
     moved: &mut PlaceSet,
     steps: &mut Steps<L>,
 ) -> Result<(), Cyclic>
-    requires sized { IsSized net.now rows.now }
-    requires other_sized { IsSized net.now other.now }
-    requires reaches { Reaches rows.now (change_in what.now) }
-    requires other { other.now ≡ after_change rows.now (change_in what.now) }
-    requires priced { IsPriced net.now priced.old }
+    requires other_sized { IsSized day.now.net.now other.now }
+    requires reaches { Reaches day.now.rows.now (change_in what.now) }
+    requires other { other.now ≡ after_change day.now.rows.now (change_in what.now) }
+    requires priced { IsPriced day.now.net.now priced.old }
     requires at_rest { IsAtRest priced.old.live }
-    requires follows { FollowsRows net.now rows.now priced.old.live.given }
-    requires flags { AreFlagsOf net.now rows.now (flags_of priced.old) }
-    requires schedule { IsScheduleOf net.now schedule.now }
-    requires noted { length moved.old.flags ≡ length net.now.events }
-    ensures priced { IsPriced net.now priced.new }
+    requires follows { FollowsRows day.now.net.now day.now.rows.now priced.old.live.given }
+    requires flags { AreFlagsOf day.now.net.now day.now.rows.now (flags_of priced.old) }
+    requires schedule { IsScheduleOf day.now.net.now schedule.now }
+    requires noted { length moved.old.flags ≡ length day.now.net.now.events }
+    ensures priced { IsPriced day.now.net.now priced.new }
     ensures at_rest { IsAtRest priced.new.live }
-    ensures follows { OnOk result (FollowsRows net.now other.now priced.new.live.given) }
-    ensures followed { OnErr result (FollowsRows net.now rows.now priced.new.live.given) }
-    ensures flags { OnOk result (AreFlagsOf net.now other.now (flags_of priced.new)) }
-    ensures flags_back { OnErr result (AreFlagsOf net.now rows.now (flags_of priced.new)) }
+    ensures follows { OnOk result (FollowsRows day.now.net.now other.now priced.new.live.given) }
+    ensures followed { OnErr result (FollowsRows day.now.net.now day.now.rows.now priced.new.live.given) }
+    ensures flags { OnOk result (AreFlagsOf day.now.net.now other.now (flags_of priced.new)) }
+    ensures flags_back { OnErr result (AreFlagsOf day.now.net.now day.now.rows.now (flags_of priced.new)) }
     ensures times { OnErr result (priced.new.live.times ≡ priced.old.live.times) }
-    ensures cycle { OnErr result (IsCycle net.now other.now priced.new.live.order.cycle) }
-    ensures few_reads { IsDelayPassOrClock (change_in what.now) → KeepsClock rows.now (change_in what.now)
-        → ReadsFew net.now other.now (change_in what.now) priced.old.live.times priced.new.live.times steps.old steps.new }
+    ensures cycle { OnErr result (IsCycle day.now.net.now other.now priced.new.live.order.cycle) }
+    ensures few_reads { IsDelayPassOrClock (change_in what.now) → KeepsClock day.now.rows.now (change_in what.now)
+        → ReadsFew day.now.net.now other.now (change_in what.now) priced.old.live.times priced.new.live.times steps.old steps.new }
     ensures moved { TakesInMoved moved.old.flags moved.new.flags priced.old.live.times priced.new.live.times }
 {
-    net.reveal();
-    let (day, next) = (Day { net, rows }, Day { net, rows: other });
-    match turn_to(priced, &next, what, schedule, rows.clock(), steps) {
+    day.net.reveal();
+    let next = Day {
+        net: day.net,
+        rows: other,
+    };
+    match turn_to(priced, &next, what, schedule, day.rows.clock(), steps) {
         Ok(()) => {
             note_passed(moved, what);
-            settle_noted(priced, net, moved, steps);
+            settle_noted(priced, day.net, moved, steps);
             Ok(())
         }
         Err(Cyclic) => {
-            come_back(priced, &day, what, schedule, other.clock(), steps);
+            come_back(priced, day, what, schedule, other.clock(), steps);
             Err(Cyclic)
         }
     }
@@ -107,34 +107,35 @@ pub fn move_to<L: Ledger>(
 /// the others, and back. Where they have one, such a cycle is its last.
 pub fn try_rows<L: Ledger>(
     priced: &mut PricedTimetable,
-    net: &Network,
-    rows: &Rows,
+    day: &Day<'_>,
     other: &Rows,
     what: &Alteration<'_>,
     schedule: &[Scheduled],
     steps: &mut Steps<L>,
 ) -> Result<(), Cyclic>
-    requires sized { IsSized net.now rows.now }
-    requires other_sized { IsSized net.now other.now }
-    requires reaches { Reaches rows.now (change_in what.now) }
-    requires other { other.now ≡ after_change rows.now (change_in what.now) }
-    requires priced { IsPriced net.now priced.old }
+    requires other_sized { IsSized day.now.net.now other.now }
+    requires reaches { Reaches day.now.rows.now (change_in what.now) }
+    requires other { other.now ≡ after_change day.now.rows.now (change_in what.now) }
+    requires priced { IsPriced day.now.net.now priced.old }
     requires at_rest { IsAtRest priced.old.live }
-    requires follows { FollowsRows net.now rows.now priced.old.live.given }
-    requires flags { AreFlagsOf net.now rows.now (flags_of priced.old) }
-    requires schedule { IsScheduleOf net.now schedule.now }
-    ensures priced { IsPriced net.now priced.new }
+    requires follows { FollowsRows day.now.net.now day.now.rows.now priced.old.live.given }
+    requires flags { AreFlagsOf day.now.net.now day.now.rows.now (flags_of priced.old) }
+    requires schedule { IsScheduleOf day.now.net.now schedule.now }
+    ensures priced { IsPriced day.now.net.now priced.new }
     ensures at_rest { IsAtRest priced.new.live }
-    ensures followed { FollowsRows net.now rows.now priced.new.live.given }
-    ensures flags { AreFlagsOf net.now rows.now (flags_of priced.new) }
+    ensures followed { FollowsRows day.now.net.now day.now.rows.now priced.new.live.given }
+    ensures flags { AreFlagsOf day.now.net.now day.now.rows.now (flags_of priced.new) }
     ensures times { priced.new.live.times ≡ priced.old.live.times }
-    ensures no_cycle { OnOk result (HasNoCycle net.now other.now) }
-    ensures cycle { OnErr result (IsCycle net.now other.now priced.new.live.order.cycle) }
+    ensures no_cycle { OnOk result (HasNoCycle day.now.net.now other.now) }
+    ensures cycle { OnErr result (IsCycle day.now.net.now other.now priced.new.live.order.cycle) }
 {
-    net.reveal();
-    let (day, next) = (Day { net, rows }, Day { net, rows: other });
-    let outcome = turn_to(priced, &next, what, schedule, rows.clock(), steps);
-    come_back(priced, &day, what, schedule, other.clock(), steps);
+    day.net.reveal();
+    let next = Day {
+        net: day.net,
+        rows: other,
+    };
+    let outcome = turn_to(priced, &next, what, schedule, day.rows.clock(), steps);
+    come_back(priced, day, what, schedule, other.clock(), steps);
     outcome
 }
 

@@ -19,79 +19,79 @@ use Rattle.dm_propagate.proofs.moving.move_to.Goals as goal
 
 pub turn_to-requires-clause-reaches : goal.turn_to-requires-clause-reaches
 turn_to-requires-clause-reaches g c =
-    reaches_alike c.args.net.now c.args.rows.now c.args.other.now c.requires.sized c.requires.other_sized (change_in c.args.what.now) c.requires.reaches
+    reaches_alike c.args.day.now.net.now c.args.day.now.rows.now c.args.other.now c.args.day.now.sized c.requires.other_sized (change_in c.args.what.now) c.requires.reaches
 
 pub turn_to-requires-clause-follows : goal.turn_to-requires-clause-follows
 turn_to-requires-clause-follows g c =
-    subst (λ (rows : RowsValue). FollowsBut c.args.net.now rows (change_in c.args.what.now) c.args.priced.now.live.given) (sym c.requires.other)
-    (follows_but_after c.args.net.now c.reveal.ensures.network.formed.is_paired c.args.rows.now (change_in c.args.what.now) c.args.priced.now.live.given c.requires.follows)
+    subst (λ (rows : RowsValue). FollowsBut c.args.day.now.net.now rows (change_in c.args.what.now) c.args.priced.now.live.given) (sym c.requires.other)
+    (follows_but_after c.args.day.now.net.now c.reveal.ensures.network.formed.is_paired c.args.day.now.rows.now (change_in c.args.what.now) c.args.priced.now.live.given c.requires.follows)
 
 pub come_back-requires-clause-follows : goal.come_back-requires-clause-follows
 come_back-requires-clause-follows g c =
-    follows_but_before c.args.net.now c.reveal.ensures.network.formed.is_paired c.args.rows.now (change_in c.args.what.now) c.turn_to.new.priced.live.given
-    (subst (λ (rows : RowsValue). FollowsBut c.args.net.now rows (change_in c.args.what.now) c.turn_to.new.priced.live.given) c.requires.other c.in-Err.ensures.followed)
+    follows_but_before c.args.day.now.net.now c.reveal.ensures.network.formed.is_paired c.args.day.now.rows.now (change_in c.args.what.now) c.turn_to.new.priced.live.given
+    (subst (λ (rows : RowsValue). FollowsBut c.args.day.now.net.now rows (change_in c.args.what.now) c.turn_to.new.priced.live.given) c.requires.other c.in-Err.ensures.followed)
 
 pub come_back-requires-clause-no_cycle : goal.come_back-requires-clause-no_cycle
 come_back-requires-clause-no_cycle g c =
-    follows_no_cycle c.args.net.now c.args.rows.now c.args.priced.now.live c.requires.priced.live c.requires.follows
+    follows_no_cycle c.args.day.now.net.now c.args.day.now.rows.now c.args.priced.now.live c.requires.priced.live c.requires.follows
 
 pub returns-in-Err-clause-times : goal.returns-in-Err-clause-times
 returns-in-Err-clause-times g c =
-    one_least c.args.net.now c.args.rows.now c.come_back.new.priced.live.times c.args.priced.now.live.times c.come_back.ensures.least
-    (follows_least c.args.net.now c.args.rows.now c.args.priced.now.live c.reveal.ensures.network.formed.ends_are_known c.requires.priced.live c.requires.at_rest c.requires.follows)
+    one_least c.args.day.now.net.now c.args.day.now.rows.now c.come_back.new.priced.live.times c.args.priced.now.live.times c.come_back.ensures.least
+    (follows_least c.args.day.now.net.now c.args.day.now.rows.now c.args.priced.now.live c.reveal.ensures.network.formed.ends_are_known c.requires.priced.live c.requires.at_rest c.requires.follows)
 
 pub returns-in-Ok-clause-few_reads : goal.returns-in-Ok-clause-few_reads
 returns-in-Ok-clause-few_reads g c = λ kind on.
-    let net = c.args.net.now in
+    let net = c.args.day.now.net.now in
     let known = c.reveal.ensures.network.formed.ends_are_known in
     let settled : FollowsRows net c.args.other.now c.settle_noted.new.priced.live.given =
     subst (λ (given : ConstraintsValue). FollowsRows net c.args.other.now given) (sym (ap (λ (p : PricedValue). p.live.given) c.settle_noted.ensures.settled.unchanged)) c.in-Ok.ensures.follows in
-    few_read_for net c.args.rows.now c.args.priced.now.live c.turn_to.new.priced.live c.settle_noted.new.priced.live c.args.steps.now c.turn_to.new.steps c.settle_noted.new.steps
+    few_read_for net c.args.day.now.rows.now c.args.priced.now.live c.turn_to.new.priced.live c.settle_noted.new.priced.live c.args.steps.now c.turn_to.new.steps c.settle_noted.new.steps
     c.requires.at_rest c.requires.follows
-    (follows_least net c.args.rows.now c.args.priced.now.live known c.requires.priced.live c.requires.at_rest c.requires.follows)
-    (change_in c.args.what.now) c.args.other.now c.requires.other c.requires.sized.passed
-    (event_is_reached c.args.rows.now (change_in c.args.what.now) c.requires.reaches)
+    (follows_least net c.args.day.now.rows.now c.args.priced.now.live known c.requires.priced.live c.requires.at_rest c.requires.follows)
+    (change_in c.args.what.now) c.args.other.now c.requires.other c.args.day.now.sized.passed
+    (event_is_reached c.args.day.now.rows.now (change_in c.args.what.now) c.requires.reaches)
     c.requires.priced.live.marked.as_many_times c.in-Ok.ensures.follows c.settle_noted.ensures.settled.few_reads
     (follows_least net c.args.other.now c.settle_noted.new.priced.live known c.settle_noted.ensures.settled.priced.live c.settle_noted.ensures.settled.at_rest settled)
     c.in-Ok.ensures.marks kind on
 
 pub returns-in-Err-clause-few_reads : goal.returns-in-Err-clause-few_reads
 returns-in-Err-clause-few_reads g c = λ kind on.
-    let none : HasNoCycle c.args.net.now c.args.other.now =
-    subst (HasNoCycle c.args.net.now) (sym c.requires.other)
-    (harmless c.args.net.now c.args.rows.now (change_in c.args.what.now) kind (event_is_reached c.args.rows.now (change_in c.args.what.now) c.requires.reaches)
-    (follows_no_cycle c.args.net.now c.args.rows.now c.args.priced.now.live c.requires.priced.live c.requires.follows)) in
+    let none : HasNoCycle c.args.day.now.net.now c.args.other.now =
+    subst (HasNoCycle c.args.day.now.net.now) (sym c.requires.other)
+    (harmless c.args.day.now.net.now c.args.day.now.rows.now (change_in c.args.what.now) kind (event_is_reached c.args.day.now.rows.now (change_in c.args.what.now) c.requires.reaches)
+    (follows_no_cycle c.args.day.now.net.now c.args.day.now.rows.now c.args.priced.now.live c.requires.priced.live c.requires.follows)) in
     absurd (none c.turn_to.new.priced.live.order.cycle c.in-Err.ensures.cycle)
 
 pub turn_to-requires-clause-flags : goal.turn_to-requires-clause-flags
 turn_to-requires-clause-flags g c =
-    subst (λ (rows : RowsValue). AreFlagsBut c.args.net.now rows (change_in c.args.what.now) (flags_of c.args.priced.now)) (sym c.requires.other)
-    (flags_but_after c.args.net.now c.args.rows.now (change_in c.args.what.now) (flags_of c.args.priced.now) c.requires.flags)
+    subst (λ (rows : RowsValue). AreFlagsBut c.args.day.now.net.now rows (change_in c.args.what.now) (flags_of c.args.priced.now)) (sym c.requires.other)
+    (flags_but_after c.args.day.now.net.now c.args.day.now.rows.now (change_in c.args.what.now) (flags_of c.args.priced.now) c.requires.flags)
 
 pub come_back-requires-clause-flags : goal.come_back-requires-clause-flags
 come_back-requires-clause-flags g c =
-    flags_but_before c.args.net.now c.args.rows.now (change_in c.args.what.now) (flags_of c.turn_to.new.priced)
-    (subst (λ (rows : RowsValue). AreFlagsBut c.args.net.now rows (change_in c.args.what.now) (flags_of c.turn_to.new.priced)) c.requires.other
-    (but_where_right c.args.net.now c.args.other.now (change_in c.args.what.now) (flags_of c.turn_to.new.priced) c.turn_to.ensures.flags))
+    flags_but_before c.args.day.now.net.now c.args.day.now.rows.now (change_in c.args.what.now) (flags_of c.turn_to.new.priced)
+    (subst (λ (rows : RowsValue). AreFlagsBut c.args.day.now.net.now rows (change_in c.args.what.now) (flags_of c.turn_to.new.priced)) c.requires.other
+    (but_where_right c.args.day.now.net.now c.args.other.now (change_in c.args.what.now) (flags_of c.turn_to.new.priced) c.turn_to.ensures.flags))
 
 pub returns-in-Ok-clause-flags : goal.returns-in-Ok-clause-flags
 returns-in-Ok-clause-flags g c =
-    subst (AreFlagsOf c.args.net.now c.args.other.now) (sym (ap flags_of c.settle_noted.ensures.settled.unchanged)) c.turn_to.ensures.flags
+    subst (AreFlagsOf c.args.day.now.net.now c.args.other.now) (sym (ap flags_of c.settle_noted.ensures.settled.unchanged)) c.turn_to.ensures.flags
 
 pub turn_to-requires-clause-clock : goal.turn_to-requires-clause-clock
 turn_to-requires-clause-clock g c =
-    other_at_clock c.args.net.now c.args.rows.now c.args.other.now (change_in c.args.what.now) c.requires.other c.args.priced.now.live.given
+    other_at_clock c.args.day.now.net.now c.args.day.now.rows.now c.args.other.now (change_in c.args.what.now) c.requires.other c.args.priced.now.live.given
     c.clock.result c.clock.ensures.value c.requires.follows
 
 pub come_back-requires-clause-clock : goal.come_back-requires-clause-clock
 come_back-requires-clause-clock g c =
-    rows_at_clock c.args.net.now c.args.rows.now c.args.other.now (change_in c.args.what.now) c.requires.other c.turn_to.new.priced.live.given
+    rows_at_clock c.args.day.now.net.now c.args.day.now.rows.now c.args.other.now (change_in c.args.what.now) c.requires.other c.turn_to.new.priced.live.given
     c.clock-in-Err.result c.clock-in-Err.ensures.value c.turn_to.ensures.clock
 
 pub note_passed-requires : goal.note_passed-requires
 note_passed-requires g c = λ i moves.
-    let below = pass_is_reached c.args.rows.now (change_in c.args.what.now) c.requires.reaches i moves in
-    let size = c.requires.sized.passed in
+    let below = pass_is_reached c.args.day.now.rows.now (change_in c.args.what.now) c.requires.reaches i moves in
+    let size = c.args.day.now.sized.passed in
     let many = c.requires.noted in
     omega arith
 

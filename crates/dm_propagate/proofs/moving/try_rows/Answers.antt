@@ -13,51 +13,51 @@ use Rattle.dm_propagate.proofs.moving.try_rows.Goals as goal
 
 pub turn_to-outcome-requires-clause-reaches : goal.turn_to-outcome-requires-clause-reaches
 turn_to-outcome-requires-clause-reaches g c =
-    reaches_alike c.args.net.now c.args.rows.now c.args.other.now c.requires.sized c.requires.other_sized (change_in c.args.what.now) c.requires.reaches
+    reaches_alike c.args.day.now.net.now c.args.day.now.rows.now c.args.other.now c.args.day.now.sized c.requires.other_sized (change_in c.args.what.now) c.requires.reaches
 
 pub turn_to-outcome-requires-clause-follows : goal.turn_to-outcome-requires-clause-follows
 turn_to-outcome-requires-clause-follows g c =
-    subst (λ (rows : RowsValue). FollowsBut c.args.net.now rows (change_in c.args.what.now) c.args.priced.now.live.given) (sym c.requires.other)
-    (follows_but_after c.args.net.now c.reveal.ensures.network.formed.is_paired c.args.rows.now (change_in c.args.what.now) c.args.priced.now.live.given c.requires.follows)
+    subst (λ (rows : RowsValue). FollowsBut c.args.day.now.net.now rows (change_in c.args.what.now) c.args.priced.now.live.given) (sym c.requires.other)
+    (follows_but_after c.args.day.now.net.now c.reveal.ensures.network.formed.is_paired c.args.day.now.rows.now (change_in c.args.what.now) c.args.priced.now.live.given c.requires.follows)
 
 pub come_back-requires-clause-follows : goal.come_back-requires-clause-follows
 come_back-requires-clause-follows g c =
-    follows_but_before c.args.net.now c.reveal.ensures.network.formed.is_paired c.args.rows.now (change_in c.args.what.now) c.turn_to-outcome.new.priced.live.given
-    (subst (λ (rows : RowsValue). FollowsBut c.args.net.now rows (change_in c.args.what.now) c.turn_to-outcome.new.priced.live.given) c.requires.other
+    follows_but_before c.args.day.now.net.now c.reveal.ensures.network.formed.is_paired c.args.day.now.rows.now (change_in c.args.what.now) c.turn_to-outcome.new.priced.live.given
+    (subst (λ (rows : RowsValue). FollowsBut c.args.day.now.net.now rows (change_in c.args.what.now) c.turn_to-outcome.new.priced.live.given) c.requires.other
     c.turn_to-outcome.ensures.followed)
 
 pub come_back-requires-clause-no_cycle : goal.come_back-requires-clause-no_cycle
 come_back-requires-clause-no_cycle g c =
-    follows_no_cycle c.args.net.now c.args.rows.now c.args.priced.now.live c.requires.priced.live c.requires.follows
+    follows_no_cycle c.args.day.now.net.now c.args.day.now.rows.now c.args.priced.now.live c.requires.priced.live c.requires.follows
 
 pub returns-clause-times : goal.returns-clause-times
 returns-clause-times g c =
-    one_least c.args.net.now c.args.rows.now c.come_back.new.priced.live.times c.args.priced.now.live.times c.come_back.ensures.least
-    (follows_least c.args.net.now c.args.rows.now c.args.priced.now.live c.reveal.ensures.network.formed.ends_are_known c.requires.priced.live c.requires.at_rest c.requires.follows)
+    one_least c.args.day.now.net.now c.args.day.now.rows.now c.come_back.new.priced.live.times c.args.priced.now.live.times c.come_back.ensures.least
+    (follows_least c.args.day.now.net.now c.args.day.now.rows.now c.args.priced.now.live c.reveal.ensures.network.formed.ends_are_known c.requires.priced.live c.requires.at_rest c.requires.follows)
 
 pub returns-clause-no_cycle : goal.returns-clause-no_cycle
 returns-clause-no_cycle g c =
     on_ok_weaker c.turn_to-outcome.result
-    (λ follows. follows_no_cycle c.args.net.now c.args.other.now c.turn_to-outcome.new.priced.live c.turn_to-outcome.ensures.priced.live follows)
+    (λ follows. follows_no_cycle c.args.day.now.net.now c.args.other.now c.turn_to-outcome.new.priced.live c.turn_to-outcome.ensures.priced.live follows)
     c.turn_to-outcome.ensures.follows
 
 pub turn_to-outcome-requires-clause-flags : goal.turn_to-outcome-requires-clause-flags
 turn_to-outcome-requires-clause-flags g c =
-    subst (λ (rows : RowsValue). AreFlagsBut c.args.net.now rows (change_in c.args.what.now) (flags_of c.args.priced.now)) (sym c.requires.other)
-    (flags_but_after c.args.net.now c.args.rows.now (change_in c.args.what.now) (flags_of c.args.priced.now) c.requires.flags)
+    subst (λ (rows : RowsValue). AreFlagsBut c.args.day.now.net.now rows (change_in c.args.what.now) (flags_of c.args.priced.now)) (sym c.requires.other)
+    (flags_but_after c.args.day.now.net.now c.args.day.now.rows.now (change_in c.args.what.now) (flags_of c.args.priced.now) c.requires.flags)
 
 pub come_back-requires-clause-flags : goal.come_back-requires-clause-flags
 come_back-requires-clause-flags g c =
-    flags_but_before c.args.net.now c.args.rows.now (change_in c.args.what.now) (flags_of c.turn_to-outcome.new.priced)
-    (subst (λ (rows : RowsValue). AreFlagsBut c.args.net.now rows (change_in c.args.what.now) (flags_of c.turn_to-outcome.new.priced)) c.requires.other
-    (but_where_right c.args.net.now c.args.other.now (change_in c.args.what.now) (flags_of c.turn_to-outcome.new.priced) c.turn_to-outcome.ensures.flags))
+    flags_but_before c.args.day.now.net.now c.args.day.now.rows.now (change_in c.args.what.now) (flags_of c.turn_to-outcome.new.priced)
+    (subst (λ (rows : RowsValue). AreFlagsBut c.args.day.now.net.now rows (change_in c.args.what.now) (flags_of c.turn_to-outcome.new.priced)) c.requires.other
+    (but_where_right c.args.day.now.net.now c.args.other.now (change_in c.args.what.now) (flags_of c.turn_to-outcome.new.priced) c.turn_to-outcome.ensures.flags))
 
 pub turn_to-outcome-requires-clause-clock : goal.turn_to-outcome-requires-clause-clock
 turn_to-outcome-requires-clause-clock g c =
-    other_at_clock c.args.net.now c.args.rows.now c.args.other.now (change_in c.args.what.now) c.requires.other c.args.priced.now.live.given
+    other_at_clock c.args.day.now.net.now c.args.day.now.rows.now c.args.other.now (change_in c.args.what.now) c.requires.other c.args.priced.now.live.given
     c.clock.result c.clock.ensures.value c.requires.follows
 
 pub come_back-requires-clause-clock : goal.come_back-requires-clause-clock
 come_back-requires-clause-clock g c =
-    rows_at_clock c.args.net.now c.args.rows.now c.args.other.now (change_in c.args.what.now) c.requires.other c.turn_to-outcome.new.priced.live.given
+    rows_at_clock c.args.day.now.net.now c.args.day.now.rows.now c.args.other.now (change_in c.args.what.now) c.requires.other c.turn_to-outcome.new.priced.live.given
     c.clock-2.result c.clock-2.ensures.value c.turn_to-outcome.ensures.clock
