@@ -19,7 +19,7 @@ ghost use Rattle.dm_serve.specs.Lives.{KeepsBooks, LivesSafely, NothingIsRead};
 ghost use Rattle.dm_store_text.specs.Asked.{IsAsked, IsWithin, setting_for};
 ghost use Rattle.dm_serve.specs.Ends.{Ends, HasWriteFault, IsDue, IsDueOver};
 ghost use Rattle.dm_store_text.specs.Written.{Writes};
-ghost use Rattle.dm_serve.specs.Inside.Opening.{opened};
+ghost use Rattle.dm_serve.specs.Inside.Opening.{asked_in, opened};
 ghost use Rattle.dm_serve.specs.Inside.Stages.{HasGoneSince, IsReadBack};
 
 use crate::boards::{BoardList, Shown};
@@ -164,7 +164,20 @@ fn serve_files<
     };
     let Opened { net, rows } = opened;
     net.reveal();
-    serve_over(means, &words, &net, rows, feeds, journal, boards, pace, out)
+    let serving = Serving {
+        means,
+        words: &words,
+        net: &net,
+    };
+    serve_over(&serving, rows, feeds, journal, boards, pace, out)
+}
+
+/// A server whose files are read: what it may use, the words that ask for it, and its network.
+#[derive(Drop)]
+struct Serving<'s, 'm, 'w, R, G> {
+    means: &'s ServerMeans<'m, R, G>,
+    words: &'s ServeWords<'w>,
+    net: &'s Network,
 }
 
 /// Serves over a network and start rows.
@@ -176,9 +189,7 @@ fn serve_over<
     G: HoldPoint + Sync,
     K: Sink,
 >(
-    means: &ServerMeans<'_, R, G>,
-    words: &ServeWords<'_>,
-    net: &Network,
+    serving: &Serving<'_, '_, '_, R, G>,
     rows: Rows,
     feeds: Vec<Option<T>>,
     journal: &mut Journal<S>,
@@ -186,41 +197,48 @@ fn serve_over<
     pace: &mut W,
     out: &mut K,
 ) -> DayEnd<T>
-    requires sized { IsSized net.now rows }
-    requires no_cycle { HasNoCycle net.now rows }
-    requires within { IsWithin (server_of words.now) }
-    requires as_many { length feeds.items ≡ length (server_of words.now).run.feeds }
+    requires sized { IsSized serving.now.net.now rows }
+    requires no_cycle { HasNoCycle serving.now.net.now rows }
+    requires within { IsWithin (asked_in serving.now) }
+    requires as_many { length feeds.items ≡ length (asked_in serving.now).run.feeds }
     requires unread { NothingIsRead T.given feeds.items }
     requires few_boards { vec_len boards.old ≤ BOARDS }
     ensures ends { Ends K.taken K.faults S.faults T.faults
         (λ status text. IsDueOver S.tells S.seen S.shown S.may_leave S.faults T.given T.faults
-        (⟦<BoardList as Shown>⟧.up boards.old boards.new) (server_of words.now).run.feeds (server_of words.now).store feeds.items
-        result.tails.items journal.old journal.new status (setting_for (server_of words.now) (record { net = net.now; rows = rows }))
+        (⟦<BoardList as Shown>⟧.up boards.old boards.new) (asked_in serving.now).run.feeds (asked_in serving.now).store feeds.items
+        result.tails.items journal.old journal.new status (setting_for (asked_in serving.now) (record { net = serving.now.net.now; rows = rows }))
         text) out.old out.new journal.old journal.new result.status }
     ensures keeps { KeepsBooks S.tells S.seen S.shown S.may_leave S.moment S.left_since
-        (setting_for (server_of words.now) (record { net = net.now; rows = rows })) (length (server_of words.now).run.feeds)
+        (setting_for (asked_in serving.now) (record { net = serving.now.net.now; rows = rows })) (length (asked_in serving.now).run.feeds)
         journal.old.store journal.new.store }
     ensures told { result.status ≡ Status.Ok → W.told pace.new }
     ensures later { K.faults out.old ≤ K.faults out.new }
     ensures store_later { S.faults journal.old.store ≤ S.faults journal.new.store }
     ensures stays { map place boards.new.items ≡ map place boards.old.items }
 {
-    let watched = match watched_of(means.alloc, feeds) {
+    let watched = match watched_of(serving.means.alloc, feeds) {
         Ok(watched) => watched,
-        Err(stop) => return no_day(means.alloc, end_unopened(stop, words.run.feeds, out)),
+        Err(stop) => return no_day(
+            serving.means.alloc,
+            end_unopened(stop, serving.words.run.feeds, out),
+        ),
     };
     let head = Head {
-        penalty: words.run.files.penalty,
-        plans: words.run.files.plans,
+        penalty: serving.words.run.files.penalty,
+        plans: serving.words.run.files.plans,
         feeds: watched.len() as u32,
     };
-    match read_back(means.alloc, net, rows, head, &mut journal.store) {
-        Ok(restored) => serve_feeds(
-            means, words, net, restored, watched, journal, boards, pace, out,
-        ),
+    match read_back(
+        serving.means.alloc,
+        serving.net,
+        rows,
+        head,
+        &mut journal.store,
+    ) {
+        Ok(restored) => serve_feeds(serving, restored, watched, journal, boards, pace, out),
         Err(stop) => no_day(
-            means.alloc,
-            end_start(stop, words.store, words.run.feeds, out),
+            serving.means.alloc,
+            end_start(stop, serving.words.store, serving.words.run.feeds, out),
         ),
     }
 }
@@ -234,9 +252,7 @@ fn serve_feeds<
     G: HoldPoint + Sync,
     K: Sink,
 >(
-    means: &ServerMeans<'_, R, G>,
-    words: &ServeWords<'_>,
-    net: &Network,
+    serving: &Serving<'_, '_, '_, R, G>,
     restored: Restored<'_>,
     feeds: Vec<Watched<T>>,
     journal: &mut Journal<S>,
@@ -244,30 +260,30 @@ fn serve_feeds<
     pace: &mut W,
     out: &mut K,
 ) -> DayEnd<T>
-    requires network { restored.desk.table.network ≡ net.now }
-    requires within { IsWithin (server_of words.now) }
-    requires penalty { restored.desk.table.penalty ≡ (server_of words.now).run.files.penalty }
-    requires plans { restored.desk.plans ≡ (server_of words.now).run.files.plans }
-    requires as_many { length feeds.items ≡ length (server_of words.now).run.feeds }
-    requires logs { length restored.logs.items ≡ length (server_of words.now).run.feeds }
+    requires network { restored.desk.table.network ≡ serving.now.net.now }
+    requires within { IsWithin (asked_in serving.now) }
+    requires penalty { restored.desk.table.penalty ≡ (asked_in serving.now).run.files.penalty }
+    requires plans { restored.desk.plans ≡ (asked_in serving.now).run.files.plans }
+    requires as_many { length feeds.items ≡ length (asked_in serving.now).run.feeds }
+    requires logs { length restored.logs.items ≡ length (asked_in serving.now).run.feeds }
     requires fresh { All (IsFresh T.given) feeds.items }
     requires is_true { IsTrueBook (setting_of restored.desk.plans restored.desk.table) (book_back restored) }
     requires spelled { All IsSpelledLog restored.logs.items }
     requires few_boards { vec_len boards.old ≤ BOARDS }
     ensures ends { (start : Journal S) → S.faults start.store ≤ S.faults journal.old.store
         → IsReadBack S.tells S.seen S.shown S.may_leave S.moment S.left_since
-        (setting_of restored.entry.desk.plans restored.entry.desk.table) (length (server_of words.now).run.feeds)
+        (setting_of restored.entry.desk.plans restored.entry.desk.table) (length (asked_in serving.now).run.feeds)
         (book_back restored.entry) restored.entry.is_new start.store journal.old.store
         → Ends K.taken K.faults S.faults T.faults
         (λ status text. IsDueOver S.tells S.seen S.shown S.may_leave S.faults T.given T.faults
-        (⟦<BoardList as Shown>⟧.up boards.old boards.new) (server_of words.now).run.feeds (server_of words.now).store
+        (⟦<BoardList as Shown>⟧.up boards.old boards.new) (asked_in serving.now).run.feeds (asked_in serving.now).store
         (map opened feeds.items) result.tails.items start journal.new status
         (setting_of restored.entry.desk.plans restored.entry.desk.table) text) out.old out.new start journal.new result.status }
     ensures keeps { (start : S) → IsReadBack S.tells S.seen S.shown S.may_leave S.moment S.left_since
-        (setting_of restored.entry.desk.plans restored.entry.desk.table) (length (server_of words.now).run.feeds)
+        (setting_of restored.entry.desk.plans restored.entry.desk.table) (length (asked_in serving.now).run.feeds)
         (book_back restored.entry) restored.entry.is_new start journal.old.store
         → KeepsBooks S.tells S.seen S.shown S.may_leave S.moment S.left_since
-        (setting_of restored.entry.desk.plans restored.entry.desk.table) (length (server_of words.now).run.feeds)
+        (setting_of restored.entry.desk.plans restored.entry.desk.table) (length (asked_in serving.now).run.feeds)
         start journal.new.store }
     ensures told { result.status ≡ Status.Ok → W.told pace.new }
     ensures later { K.faults out.old ≤ K.faults out.new }
@@ -276,21 +292,21 @@ fn serve_feeds<
 {
     let Restored { desk, logs, is_new } = restored;
     let mut feeds = feeds;
-    let Ok(mut buffer) = zeros(means.alloc, PIECE) else {
-        return no_day(means.alloc, Status::NoMemory);
+    let Ok(mut buffer) = zeros(serving.means.alloc, PIECE) else {
+        return no_day(serving.means.alloc, Status::NoMemory);
     };
-    match catch_up_all(means.alloc, &mut feeds, logs, &mut buffer) {
+    match catch_up_all(serving.means.alloc, &mut feeds, logs, &mut buffer) {
         Ok(()) => {}
-        Err(stop) => return end_at_feeds(means.alloc, stop, words, feeds, out),
+        Err(stop) => return end_at_feeds(serving.means.alloc, stop, serving.words, feeds, out),
     }
     let watch = Watch {
-        alloc: means.alloc,
+        alloc: serving.means.alloc,
         desk,
         feeds,
-        batch: words.run.batch as u32,
+        batch: serving.words.run.batch as u32,
         buffer,
     };
-    serve_found(means, words, net, is_new, watch, journal, boards, pace, out)
+    serve_found(serving, is_new, watch, journal, boards, pace, out)
 }
 
 /// Takes up what was found in the store, and serves feeds that go on with that.
@@ -302,9 +318,7 @@ fn serve_found<
     G: HoldPoint + Sync,
     K: Sink,
 >(
-    means: &ServerMeans<'_, R, G>,
-    words: &ServeWords<'_>,
-    net: &Network,
+    serving: &Serving<'_, '_, '_, R, G>,
     is_new: bool,
     watch: Watch<'_, T>,
     journal: &mut Journal<S>,
@@ -312,28 +326,28 @@ fn serve_found<
     pace: &mut W,
     out: &mut K,
 ) -> DayEnd<T>
-    requires network { watch.desk.table.network ≡ net.now }
-    requires within { IsWithin (server_of words.now) }
-    requires penalty { watch.desk.table.penalty ≡ (server_of words.now).run.files.penalty }
-    requires plans { watch.desk.plans ≡ (server_of words.now).run.files.plans }
-    requires as_many { length watch.feeds.items ≡ length (server_of words.now).run.feeds }
+    requires network { watch.desk.table.network ≡ serving.now.net.now }
+    requires within { IsWithin (asked_in serving.now) }
+    requires penalty { watch.desk.table.penalty ≡ (asked_in serving.now).run.files.penalty }
+    requires plans { watch.desk.plans ≡ (asked_in serving.now).run.files.plans }
+    requires as_many { length watch.feeds.items ≡ length (asked_in serving.now).run.feeds }
     requires watching { IsWatching T.given (desk_in watch) watch.feeds.items }
     requires shown { All IsShown watch.feeds.items }
     requires few_boards { vec_len boards.old ≤ BOARDS }
     ensures ends { (start : Journal S) (feeds : List (Option T)) → S.faults start.store ≤ S.faults journal.old.store
         → IsReadBack S.tells S.seen S.shown S.may_leave S.moment S.left_since
-        (setting_of watch.entry.desk.plans watch.entry.desk.table) (length (server_of words.now).run.feeds)
+        (setting_of watch.entry.desk.plans watch.entry.desk.table) (length (asked_in serving.now).run.feeds)
         (book_in watch.entry) is_new start.store journal.old.store
         → Ends K.taken K.faults S.faults T.faults
         (λ status text. IsDueOver S.tells S.seen S.shown S.may_leave S.faults T.given T.faults
-        (⟦<BoardList as Shown>⟧.up boards.old boards.new) (server_of words.now).run.feeds (server_of words.now).store
+        (⟦<BoardList as Shown>⟧.up boards.old boards.new) (asked_in serving.now).run.feeds (asked_in serving.now).store
         feeds result.tails.items start journal.new status
         (setting_of watch.entry.desk.plans watch.entry.desk.table) text) out.old out.new start journal.new result.status }
     ensures keeps { (start : S) → IsReadBack S.tells S.seen S.shown S.may_leave S.moment S.left_since
-        (setting_of watch.entry.desk.plans watch.entry.desk.table) (length (server_of words.now).run.feeds)
+        (setting_of watch.entry.desk.plans watch.entry.desk.table) (length (asked_in serving.now).run.feeds)
         (book_in watch.entry) is_new start journal.old.store
         → KeepsBooks S.tells S.seen S.shown S.may_leave S.moment S.left_since
-        (setting_of watch.entry.desk.plans watch.entry.desk.table) (length (server_of words.now).run.feeds)
+        (setting_of watch.entry.desk.plans watch.entry.desk.table) (length (asked_in serving.now).run.feeds)
         start journal.new.store }
     ensures told { result.status ≡ Status.Ok → W.told pace.new }
     ensures later { K.faults out.old ≤ K.faults out.new }
@@ -341,15 +355,15 @@ fn serve_found<
     ensures stays { map place boards.new.items ≡ map place boards.old.items }
 {
     let head = Head {
-        penalty: words.run.files.penalty,
-        plans: words.run.files.plans,
+        penalty: serving.words.run.files.penalty,
+        plans: serving.words.run.files.plans,
         feeds: watch.feeds.len() as u32,
     };
-    match take_up(means.alloc, head, is_new, journal, &watch.feeds) {
-        Ok(()) => serve_watch(means, words, net, watch, journal, boards, pace, out),
+    match take_up(serving.means.alloc, head, is_new, journal, &watch.feeds) {
+        Ok(()) => serve_watch(serving, watch, journal, boards, pace, out),
         Err(stop) => no_day(
-            means.alloc,
-            end_start(stop, words.store, words.run.feeds, out),
+            serving.means.alloc,
+            end_start(stop, serving.words.store, serving.words.run.feeds, out),
         ),
     }
 }
@@ -368,49 +382,48 @@ fn serve_watch<
     G: HoldPoint + Sync,
     K: Sink,
 >(
-    means: &ServerMeans<'_, R, G>,
-    words: &ServeWords<'_>,
-    net: &Network,
+    serving: &Serving<'_, '_, '_, R, G>,
     watch: Watch<'_, T>,
     journal: &mut Journal<S>,
     boards: &mut Vec<Box<dyn Board>>,
     pace: &mut W,
     out: &mut K,
 ) -> DayEnd<T>
-    requires network { watch.desk.table.network ≡ net.now }
-    requires within { IsWithin (server_of words.now) }
-    requires penalty { watch.desk.table.penalty ≡ (server_of words.now).run.files.penalty }
-    requires as_many { length watch.feeds.items ≡ length (server_of words.now).run.feeds }
+    requires network { watch.desk.table.network ≡ serving.now.net.now }
+    requires within { IsWithin (asked_in serving.now) }
+    requires penalty { watch.desk.table.penalty ≡ (asked_in serving.now).run.files.penalty }
+    requires as_many { length watch.feeds.items ≡ length (asked_in serving.now).run.feeds }
     requires watching { IsWatching T.given (desk_in watch) watch.feeds.items }
     requires shown { All IsShown watch.feeds.items }
     requires few_boards { vec_len boards.old ≤ BOARDS }
     ensures ends { (start : Journal S) (feeds : List (Option T)) → S.faults start.store ≤ S.faults journal.old.store
         → HasGoneSince S.tells S.seen S.shown S.may_leave S.moment S.left_since
         (setting_of watch.entry.desk.plans watch.entry.desk.table)
-        (length (server_of words.now).run.feeds) watch.entry start.store journal.old
+        (length (asked_in serving.now).run.feeds) watch.entry start.store journal.old
         → Ends K.taken K.faults S.faults T.faults
         (λ status text. IsDueOver S.tells S.seen S.shown S.may_leave S.faults T.given T.faults
-        (⟦<BoardList as Shown>⟧.up boards.old boards.new) (server_of words.now).run.feeds (server_of words.now).store
+        (⟦<BoardList as Shown>⟧.up boards.old boards.new) (asked_in serving.now).run.feeds (asked_in serving.now).store
         feeds result.tails.items start journal.new status
         (setting_of watch.entry.desk.plans watch.entry.desk.table) text) out.old out.new start journal.new result.status }
     ensures keeps { (start : S)
         → HasGoneSince S.tells S.seen S.shown S.may_leave S.moment S.left_since
         (setting_of watch.entry.desk.plans watch.entry.desk.table)
-        (length (server_of words.now).run.feeds) watch.entry start journal.old
+        (length (asked_in serving.now).run.feeds) watch.entry start journal.old
         → KeepsBooks S.tells S.seen S.shown S.may_leave S.moment S.left_since
         (setting_of watch.entry.desk.plans watch.entry.desk.table)
-        (length (server_of words.now).run.feeds) start journal.new.store }
+        (length (asked_in serving.now).run.feeds) start journal.new.store }
     ensures told { result.status ≡ Status.Ok → W.told pace.new }
     ensures later { K.faults out.old ≤ K.faults out.new }
     ensures store_later { S.faults journal.old.store ≤ S.faults journal.new.store }
     ensures stays { map place boards.new.items ≡ map place boards.old.items }
 {
+    let net = serving.net;
     net.reveal();
-    let Ok(mut display) = Display::new(means.alloc, net, boards.len()) else {
-        return no_day(means.alloc, Status::NoMemory);
+    let Ok(mut display) = Display::new(serving.means.alloc, net, boards.len()) else {
+        return no_day(serving.means.alloc, Status::NoMemory);
     };
-    let penalty = words.run.files.penalty;
-    let workers = words.run.workers;
+    let penalty = serving.words.run.files.penalty;
+    let workers = serving.words.run.workers;
     let planner = |snapshot: &Snapshot, budget: u64| -> Result<Plan, AllocError>
         requires { IsSync R.row × IsSync G.row × (penalty ≤ PENALTY) × (1 ≤ workers) × (workers ≤ WORKERS) × (1 ≤ budget)
             × (budget ≤ BUDGET) × IsSized net.now snapshot.now.rows × HasNoCycle net.now snapshot.now.rows }
@@ -418,18 +431,18 @@ fn serve_watch<
             × IsTruePlan (whole_task net.entry.now snapshot.now.rows penalty budget) plan) }
     {
         search(
-            means.rt,
-            means.alloc,
+            serving.means.rt,
+            serving.means.alloc,
             net,
             penalty,
             snapshot,
             budget,
             workers,
-            means.gate,
+            serving.means.gate,
         )
     };
     match go_round(
-        means.rt,
+        serving.means.rt,
         watch,
         journal,
         &planner,
@@ -438,6 +451,6 @@ fn serve_watch<
         pace,
     ) {
         Ok(watch) => end_day(watch, display.publisher.notes(), out),
-        Err(stop) => no_day(means.alloc, end_round(stop, out)),
+        Err(stop) => no_day(serving.means.alloc, end_round(stop, out)),
     }
 }

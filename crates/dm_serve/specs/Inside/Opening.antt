@@ -1,9 +1,16 @@
 -- Feeds as they are opened.
 use Rattle.std.specs.Prelude.{◌≡◌, List, [], map, All, Option, Some, None, slice_get}
+use Rattle.dm_words.specs.Serving.{ServerAsked}
+use Rattle.dm_words.specs.ServerAsked.{server_of}
 use Rattle.dm_tail.specs.declared.watched.Watched.{Watched}
 use Rattle.dm_tail.specs.Watching.{KnowsLines}
 use Rattle.dm_serve.specs.declared.opening.Unopened.{Unopened}
 use Rattle.dm_serve.specs.declared.opening.Unopened.TheVariants.{OutOfMemory, Feed}
+use Rattle.dm_serve.specs.declared.serving.Serving.{Serving}
+
+-- what the words of a server ask for
+abbrev pub asked_in : {R G : Type 0} → Serving R G → ServerAsked
+asked_in serving = server_of serving.words.now
 
 -- nothing was read of the feed, and nothing answered
 pub record IsUnread {T : Type 0} (watched : Watched T) : Type 0 where

@@ -25,36 +25,36 @@ serve_found-requires-clause-shown g c = λ lifetimes bounds.
 pub returns-in_default-clause-ends : goal.returns-in_default-clause-ends
 returns-in_default-clause-ends g c = λ start later back.
     wanting_ends g.K.Sink.taken g.K.Sink.faults g.S.Store.tells g.S.Store.seen g.S.Store.shown g.S.Store.may_leave g.S.Store.moment g.S.Store.left_since g.S.Store.faults g.T.Growing.given g.T.Growing.faults _
-    (setting_of c.args.restored.desk.plans c.args.restored.desk.table) (server_of c.args.words.now).run.feeds (server_of c.args.words.now).store (map opened c.args.feeds.items) c.no_day.result.tails.items c.args.out.now c.args.out.now start c.args.journal.now
+    (setting_of c.args.restored.desk.plans c.args.restored.desk.table) (server_of c.args.serving.now.words.now).run.feeds (server_of c.args.serving.now.words.now).store (map opened c.args.feeds.items) c.no_day.result.tails.items c.args.out.now c.args.out.now start c.args.journal.now
     c.no_day.result.status refl c.no_day.ensures
 
 pub returns-in_default-clause-keeps : goal.returns-in_default-clause-keeps
 returns-in_default-clause-keeps g c = λ start back.
-    looked_keeps g.S.Store.tells g.S.Store.seen g.S.Store.shown g.S.Store.may_leave g.S.Store.moment g.S.Store.left_since (setting_of c.args.restored.desk.plans c.args.restored.desk.table) (length (server_of c.args.words.now).run.feeds) start c.args.journal.now.store back.looks
+    looked_keeps g.S.Store.tells g.S.Store.seen g.S.Store.shown g.S.Store.may_leave g.S.Store.moment g.S.Store.left_since (setting_of c.args.restored.desk.plans c.args.restored.desk.table) (length (server_of c.args.serving.now.words.now).run.feeds) start c.args.journal.now.store back.looks
 
 pub returns-in-Err-clause-ends : goal.returns-in-Err-clause-ends
 returns-in-Err-clause-ends g c = λ start later back.
     at_feeds_ends g.K.Sink.taken g.K.Sink.faults g.S.Store.tells g.S.Store.seen g.S.Store.shown g.S.Store.may_leave g.S.Store.moment g.S.Store.left_since g.S.Store.faults g.T.Growing.given g.T.Growing.faults _
-    (setting_of c.args.restored.desk.plans c.args.restored.desk.table) (server_of c.args.words.now) c.args.out.now c.end_at_feeds.new.out start c.args.journal.now (book_back c.args.restored) c.args.restored.is_new c.args.feeds.items c.catch_up_all.new.feeds.items
+    (setting_of c.args.restored.desk.plans c.args.restored.desk.table) (server_of c.args.serving.now.words.now) c.args.out.now c.end_at_feeds.new.out start c.args.journal.now (book_back c.args.restored) c.args.restored.is_new c.args.feeds.items c.catch_up_all.new.feeds.items
     c.end_at_feeds.result c.in-Err.stop c.requires.as_many (length-map c.args.restored.logs.items (λ (log : FeedLog). log.items) ∙ c.requires.logs) back c.in-Err.ensures.stops c.end_at_feeds.ensures.ends
 
 pub returns-in-Err-clause-keeps : goal.returns-in-Err-clause-keeps
 returns-in-Err-clause-keeps g c = λ start back.
-    looked_keeps g.S.Store.tells g.S.Store.seen g.S.Store.shown g.S.Store.may_leave g.S.Store.moment g.S.Store.left_since (setting_of c.args.restored.desk.plans c.args.restored.desk.table) (length (server_of c.args.words.now).run.feeds) start c.args.journal.now.store back.looks
+    looked_keeps g.S.Store.tells g.S.Store.seen g.S.Store.shown g.S.Store.may_leave g.S.Store.moment g.S.Store.left_since (setting_of c.args.restored.desk.plans c.args.restored.desk.table) (length (server_of c.args.serving.now.words.now).run.feeds) start c.args.journal.now.store back.looks
 
 pub returns-in-Err-clause-told : goal.returns-in-Err-clause-told
-returns-in-Err-clause-told g c = λ e. absurd (at_feeds_never g.K.Sink.taken g.K.Sink.faults (server_of c.args.words.now) c.catch_up_all.new.feeds.items c.in-Err.stop c.args.out.now c.end_at_feeds.new.out c.end_at_feeds.result c.end_at_feeds.ensures.ends e)
+returns-in-Err-clause-told g c = λ e. absurd (at_feeds_never g.K.Sink.taken g.K.Sink.faults (server_of c.args.serving.now.words.now) c.catch_up_all.new.feeds.items c.in-Err.stop c.args.out.now c.end_at_feeds.new.out c.end_at_feeds.result c.end_at_feeds.ensures.ends e)
 
 pub returns-clause-ends : goal.returns-clause-ends
 returns-clause-ends g c = λ start later back.
     let logs = map (λ (log : FeedLog). log.items) c.args.restored.logs.items in
     c.serve_found.ensures.ends start (map opened c.args.feeds.items) later
-    (read_back_as g.S.Store.tells g.S.Store.seen g.S.Store.shown g.S.Store.may_leave g.S.Store.moment g.S.Store.left_since (setting_of c.args.restored.desk.plans c.args.restored.desk.table) (length (server_of c.args.words.now).run.feeds)
+    (read_back_as g.S.Store.tells g.S.Store.seen g.S.Store.shown g.S.Store.may_leave g.S.Store.moment g.S.Store.left_since (setting_of c.args.restored.desk.plans c.args.restored.desk.table) (length (server_of c.args.serving.now.words.now).run.feeds)
     (book_back c.args.restored) _ c.args.restored.is_new start.store c.args.journal.now.store (book_beside g.T.Growing.given c.args.restored.desk.table.history logs c.catch_up_all.new.feeds.items c.in-Ok-catch_up_all.ensures.all) back)
 
 pub returns-clause-keeps : goal.returns-clause-keeps
 returns-clause-keeps g c = λ start back.
     let logs = map (λ (log : FeedLog). log.items) c.args.restored.logs.items in
     c.serve_found.ensures.keeps start
-    (read_back_as g.S.Store.tells g.S.Store.seen g.S.Store.shown g.S.Store.may_leave g.S.Store.moment g.S.Store.left_since (setting_of c.args.restored.desk.plans c.args.restored.desk.table) (length (server_of c.args.words.now).run.feeds)
+    (read_back_as g.S.Store.tells g.S.Store.seen g.S.Store.shown g.S.Store.may_leave g.S.Store.moment g.S.Store.left_since (setting_of c.args.restored.desk.plans c.args.restored.desk.table) (length (server_of c.args.serving.now.words.now).run.feeds)
     (book_back c.args.restored) _ c.args.restored.is_new start c.args.journal.now.store (book_beside g.T.Growing.given c.args.restored.desk.table.history logs c.catch_up_all.new.feeds.items c.in-Ok-catch_up_all.ensures.all) back)

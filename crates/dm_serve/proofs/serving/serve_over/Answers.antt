@@ -20,7 +20,7 @@ pub returns-in-Err-clause-ends : goal.returns-in-Err-clause-ends
 returns-in-Err-clause-ends g c =
     rw c.no_day.ensures
     (unopened_ends g.K.Sink.taken g.K.Sink.faults g.S.Store.tells g.S.Store.seen g.S.Store.shown g.S.Store.may_leave g.S.Store.moment g.S.Store.left_since g.S.Store.faults g.T.Growing.given g.T.Growing.faults _
-    (setting_for (server_of c.args.words.now) (record { net = c.args.net.now; rows = c.args.rows })) (server_of c.args.words.now).run.feeds (server_of c.args.words.now).store c.args.feeds.items c.no_day.result.tails.items c.args.out.now c.end_unopened.new.out
+    (setting_for (server_of c.args.serving.now.words.now) (record { net = c.args.serving.now.net.now; rows = c.args.rows })) (server_of c.args.serving.now.words.now).run.feeds (server_of c.args.serving.now.words.now).store c.args.feeds.items c.no_day.result.tails.items c.args.out.now c.end_unopened.new.out
     c.args.journal.now c.args.journal.now c.in-Err.stop c.end_unopened.result c.requires.as_many c.in-Err.ensures.unopened c.end_unopened.ensures.ends)
 
 pub returns-in-Err-clause-keeps : goal.returns-in-Err-clause-keeps
@@ -77,8 +77,8 @@ end_start-requires g c =
 
 pub returns-in-Ok-read_back-clause-ends : goal.returns-in-Ok-read_back-clause-ends
 returns-in-Ok-read_back-clause-ends g c =
-    let asked = server_of c.args.words.now in
-    let s = setting_for asked (record { net = c.args.net.now; rows = c.args.rows }) in
+    let asked = server_of c.args.serving.now.words.now in
+    let s = setting_for asked (record { net = c.args.serving.now.net.now; rows = c.args.rows }) in
     let r = c.in-Ok-read_back.restored in
     let s_now = setting_of r.desk.plans r.desk.table in
     let same : s_now ≡ s = c.in-Ok-read_back.ensures.setting in
@@ -92,8 +92,8 @@ returns-in-Ok-read_back-clause-ends g c =
 
 pub returns-in-Ok-read_back-clause-keeps : goal.returns-in-Ok-read_back-clause-keeps
 returns-in-Ok-read_back-clause-keeps g c =
-    let asked = server_of c.args.words.now in
-    let s = setting_for asked (record { net = c.args.net.now; rows = c.args.rows }) in
+    let asked = server_of c.args.serving.now.words.now in
+    let s = setting_for asked (record { net = c.args.serving.now.net.now; rows = c.args.rows }) in
     let r = c.in-Ok-read_back.restored in
     let s_now = setting_of r.desk.plans r.desk.table in
     let same : s_now ≡ s = c.in-Ok-read_back.ensures.setting in
@@ -105,8 +105,8 @@ returns-in-Ok-read_back-clause-keeps g c =
 
 pub returns-in-Err-read_back-clause-ends : goal.returns-in-Err-read_back-clause-ends
 returns-in-Err-read_back-clause-ends g c =
-    let asked = server_of c.args.words.now in
-    let s = setting_for asked (record { net = c.args.net.now; rows = c.args.rows }) in
+    let asked = server_of c.args.serving.now.words.now in
+    let s = setting_for asked (record { net = c.args.serving.now.net.now; rows = c.args.rows }) in
     let opened_all = as_many_opened c.args.feeds.items c.in-Ok.watched.items c.in-Ok.ensures.unread.are in
     let many : c.len.result ≡ length asked.run.feeds = omega (arith, c.len.ensures, c.in-Ok.watched.ok.0, opened_all, c.requires.as_many) in
     let new : Journal _ = record { store = c.read_back.new.store; end = c.args.journal.now.end } in

@@ -14,7 +14,7 @@ use Rattle.dm_serve.proofs.serving.serve_watch.Goals as goal
 
 pub go_round-requires-clause-plans : goal.go_round-requires-clause-plans
 go_round-requires-clause-plans g c =
-    plans_under _ _ c.args.net.now c.args.words.now.run.files.penalty (setting_of c.args.watch.desk.plans c.args.watch.desk.table) c.requires.network c.requires.penalty refl
+    plans_under _ _ c.args.serving.now.net.now c.args.serving.now.words.now.run.files.penalty (setting_of c.args.watch.desk.plans c.args.watch.desk.table) c.requires.network c.requires.penalty refl
     (λ snapshot budget sized no_cycle some few. search rules) (λ snapshot budget given h. h)
 
 pub go_round-requires-clause-few : goal.go_round-requires-clause-few
@@ -32,7 +32,7 @@ end_day-requires g c =
 pub returns-in_default-clause-ends : goal.returns-in_default-clause-ends
 returns-in_default-clause-ends g c = λ start feeds low since.
     ends_wanting_so g.K.Sink.taken g.K.Sink.faults g.S.Store.tells g.S.Store.seen g.S.Store.shown g.S.Store.may_leave g.S.Store.moment g.S.Store.left_since g.S.Store.faults g.T.Growing.given g.T.Growing.faults
-    _ (server_of c.args.words.now).run.feeds (server_of c.args.words.now).store (setting_of c.args.watch.desk.plans c.args.watch.desk.table) feeds c.args.out.now c.args.out.now start c.args.journal.now
+    _ (server_of c.args.serving.now.words.now).run.feeds (server_of c.args.serving.now.words.now).store (setting_of c.args.watch.desk.plans c.args.watch.desk.table) feeds c.args.out.now c.args.out.now start c.args.journal.now
     c.no_day.result.tails.items c.no_day.result.status refl c.no_day.ensures
 
 pub returns-in_default-clause-keeps : goal.returns-in_default-clause-keeps
@@ -40,7 +40,7 @@ returns-in_default-clause-keeps g c = λ start since contents first t. (since co
 
 pub returns-in-Ok-go_round-clause-ends : goal.returns-in-Ok-go_round-clause-ends
 returns-in-Ok-go_round-clause-ends g c = λ start feeds low since.
-    let n : ℕ = length (server_of c.args.words.now).run.feeds in
+    let n : ℕ = length (server_of c.args.serving.now.words.now).run.feeds in
     let s : Setting = setting_of c.args.watch.desk.plans c.args.watch.desk.table in
     let going : IsGoing g.T.Growing.given s n c.in-Ok-go_round.watch = subst (λ (m : ℕ). IsGoing g.T.Growing.given s m c.in-Ok-go_round.watch) c.requires.as_many c.in-Ok-go_round.ensures.going in
     let noted = subst (AreTrueNotes (length c.in-Ok-go_round.watch.desk.table.history)) (sym c.notes.ensures) c.in-Ok-go_round.ensures.up.kept.noted in
@@ -50,7 +50,7 @@ returns-in-Ok-go_round-clause-ends g c = λ start feeds low since.
     let boards : up c.in-Ok-go_round.watch.desk.table.network c.in-Ok-go_round.watch.desk.table.times c.notes.result.now =
     subst (up c.in-Ok-go_round.watch.desk.table.network c.in-Ok-go_round.watch.desk.table.times) (sym c.notes.ensures) c.in-Ok-go_round.ensures.up.shown in
     ends_day g.K.Sink.taken g.K.Sink.faults g.S.Store.tells g.S.Store.seen g.S.Store.shown g.S.Store.may_leave g.S.Store.moment g.S.Store.left_since g.S.Store.faults g.T.Growing.given g.T.Growing.faults
-    up (server_of c.args.words.now).run.feeds (server_of c.args.words.now).store s feeds c.args.out.now c.end_day.new.out start c.go_round.new.journal
+    up (server_of c.args.serving.now.words.now).run.feeds (server_of c.args.serving.now.words.now).store s feeds c.args.out.now c.end_day.new.out start c.go_round.new.journal
     c.in-Ok-go_round.watch.desk.table c.in-Ok-go_round.watch.feeds.items c.notes.result.now c.end_day.result
     (λ are fits.
     is_day g.T.Growing.given s n c.in-Ok-go_round.watch going c.notes.result.now g.S.Store.tells g.S.Store.seen g.S.Store.shown g.S.Store.may_leave g.S.Store.moment g.S.Store.left_since
@@ -65,7 +65,7 @@ returns-in-Ok-go_round-clause-keeps g c = λ start since contents first t.
 pub returns-clause-ends : goal.returns-clause-ends
 returns-clause-ends g c = λ start feeds low since.
     ends_round_so g.K.Sink.taken g.K.Sink.faults g.S.Store.tells g.S.Store.seen g.S.Store.shown g.S.Store.may_leave g.S.Store.moment g.S.Store.left_since g.S.Store.faults g.T.Growing.given g.T.Growing.faults
-    _ (server_of c.args.words.now).run.feeds (server_of c.args.words.now).store (setting_of c.args.watch.desk.plans c.args.watch.desk.table) feeds c.args.out.now c.end_round.new.out start c.go_round.new.journal
+    _ (server_of c.args.serving.now.words.now).run.feeds (server_of c.args.serving.now.words.now).store (setting_of c.args.watch.desk.plans c.args.watch.desk.table) feeds c.args.out.now c.end_round.new.out start c.go_round.new.journal
     c.args.watch c.args.journal.now refl low since c.no_day-in-Err.result.tails.items c.end_round.result c.in-Err.stop c.in-Err.ensures.stops c.end_round.ensures.ends c.no_day-in-Err.result.status c.no_day-in-Err.ensures
 
 pub returns-clause-keeps : goal.returns-clause-keeps
