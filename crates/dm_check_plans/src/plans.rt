@@ -15,7 +15,7 @@ use dm_base::Cost;
 use dm_check_times::{HeldCycle, KeptTimetable, cost_of};
 use dm_marks::PlaceSet;
 use dm_network::Network;
-use dm_rows::{Decision, Rows, free_choices};
+use dm_rows::{Rows, free_choices};
 use dm_tree::{Mark, Node, Plan};
 use std::alloc::{AllocError, Global};
 
@@ -35,7 +35,6 @@ pub fn is_true_plan(
     ensures { IfOk result (Tells (IsTruePlan (whole_task net.now rows.now penalty budget) plan.now)) }
 {
     let nodes = plan.tree.as_slice();
-    let choices = plan.choices.as_slice();
     if !is_told_of(nodes, plan.bound, plan.mark, budget) {
         return Ok(false);
     }
@@ -47,16 +46,7 @@ pub fn is_true_plan(
         Ok(moved) => moved,
         Err(full) => return Err(full),
     };
-    match are_true_choices(
-        alloc,
-        net,
-        penalty,
-        &mut timetable,
-        &mut moved,
-        rows,
-        choices,
-        plan.cost,
-    ) {
+    match are_true_choices(alloc, net, penalty, &mut timetable, &mut moved, rows, plan) {
         Ok(true) => {}
         Ok(false) => return Ok(false),
         Err(full) => return Err(full),
@@ -102,7 +92,7 @@ fn is_marked(nodes: &[Node], mark: Mark, budget: u64) -> bool
     }
 }
 
-/// Whether the choices are free ones in order that differ from the rows, and make them cost this.
+/// Whether the choices of a plan are free ones in order that differ from the rows, and make them cost what it says.
 fn are_true_choices(
     alloc: Global,
     net: &Network,
@@ -110,18 +100,18 @@ fn are_true_choices(
     timetable: &mut KeptTimetable,
     moved: &mut PlaceSet,
     rows: &Rows,
-    choices: &[Decision],
-    cost: Cost,
+    plan: &Plan,
 ) -> Result<bool, AllocError>
     requires sized { IsSized net.now rows.now }
     requires penalty { penalty ≤ PENALTY }
     requires room { IsRoomOf net.now timetable.old }
     requires as_many_moved { length moved.old.flags ≡ length net.now.events }
     ensures tells { IfOk result (λ b. (budget : ℕ)
-        → Tells (AreTrueChoices (whole_task net.now rows.now penalty budget) choices.now cost) b) }
+        → Tells (AreTrueChoices (whole_task net.now rows.now penalty budget) plan.now.choices plan.now.cost) b) }
     ensures room { IsRoomOf net.now timetable.new }
     ensures as_many_moved { length moved.new.flags ≡ length moved.old.flags }
 {
+    let choices = plan.choices.as_slice();
     let free = match free_choices(alloc, net, rows) {
         Ok(free) => free,
         Err(full) => return Err(full),
@@ -132,7 +122,7 @@ fn are_true_choices(
     if !are_all_different(net, rows, choices) {
         return Ok(false);
     }
-    match cost_with(net, penalty, timetable, moved, rows, choices, cost) {
+    match cost_with(net, penalty, timetable, moved, rows, choices, plan.cost) {
         Ok(costs) => Ok(costs),
         Err(full) => Err(full),
     }

@@ -1,5 +1,4 @@
 use Rattle.std.proofs.Common.{Bool, List, [], ◌∷◌, sym, subst}
-use Rattle.dm_rows.specs.declared.messages.Decision.{Decision}
 use Rattle.dm_tree.specs.declared.forms.Node.{Node}
 use Rattle.dm_tree.specs.Plans.{whole_task}
 use Rattle.dm_tree.specs.Trees.{IsTree}
@@ -25,18 +24,16 @@ pub returns-in-Ok-false : goal.returns-in-Ok-false
 returns-in-Ok-false c = λ p.
     let plan = c.args.plan.now in
     let task = whole_task c.args.net.now c.args.rows.now c.args.penalty c.args.budget in
-    let told : Tells (AreTrueChoices task c.as_slice-choices.result.now plan.cost) c.in-Ok-false.field-0 = c.in-Ok-false.ensures.tells c.args.budget in
-    (subst (λ (b : Bool). Tells (AreTrueChoices task c.as_slice-choices.result.now plan.cost) b) c.in-Ok-false.field-0-test told)
-    (subst (λ (ds : List Decision). AreTrueChoices task ds plan.cost) (sym c.as_slice-choices.ensures) (its_choices task plan p))
+    let told : Tells (AreTrueChoices task plan.choices plan.cost) c.in-Ok-false.field-0 = c.in-Ok-false.ensures.tells c.args.budget in
+    (subst (λ (b : Bool). Tells (AreTrueChoices task plan.choices plan.cost) b) c.in-Ok-false.field-0-test told) (its_choices task plan p)
 
 pub returns-in-Ok-are_all_true : goal.returns-in-Ok-are_all_true
 returns-in-Ok-are_all_true c =
     let plan = c.args.plan.now in
     let task = whole_task c.args.net.now c.args.rows.now c.args.penalty c.args.budget in
-    let told : Tells (AreTrueChoices task c.as_slice-choices.result.now plan.cost) c.in-Ok-true.field-0 = c.in-Ok-true.ensures.tells c.args.budget in
+    let told : Tells (AreTrueChoices task plan.choices plan.cost) c.in-Ok-true.field-0 = c.in-Ok-true.ensures.tells c.args.budget in
     plan_told task plan c.as_slice-nodes.ensures.whole
-    (subst (λ (ds : List Decision). AreTrueChoices task ds plan.cost) c.as_slice-choices.ensures
-    (subst (λ (b : Bool). Tells (AreTrueChoices task c.as_slice-choices.result.now plan.cost) b) c.in-Ok-true.field-0-test told))
+    (subst (λ (b : Bool). Tells (AreTrueChoices task plan.choices plan.cost) b) c.in-Ok-true.field-0-test told)
     (subst (λ (ns : List Node). IsToldOf ns plan.bound plan.mark c.args.budget) c.as_slice-nodes.ensures.nodes c.if-not-is_told_of.ensures)
     c.in-Ok-are_all_true.all
     (subst (λ (ns : List Node). Tells (AreTrueNodes task plan.cost ([] ∷ []) ns) c.in-Ok-are_all_true.all) c.as_slice-nodes.ensures.nodes
