@@ -15,13 +15,13 @@ use Rattle.dm_feed.specs.declared.grammar.Heard.{Heard}
 use Rattle.dm_feed.specs.declared.grammar.Heard.TheVariants as heard
 use Rattle.dm_feed.specs.declared.feed.FeedStop.{FeedStop}
 use Rattle.dm_feed.specs.declared.feed.FeedStop.TheVariants.{End, Fault, Long}
-use Rattle.dm_feed.specs.declared.reader.Passed.{Passed}
-use Rattle.dm_feed.specs.declared.reader.Passed.TheVariants.{Line as Ended, Last, Nothing}
+use Rattle.dm_feed.specs.declared.reader.NextLine.{NextLine}
+use Rattle.dm_feed.specs.declared.reader.NextLine.TheVariants.{Line as Ended, Last, Nothing}
 use Rattle.dm_feed.specs.declared.feed.Next.{Next}
 use Rattle.dm_feed.specs.declared.feed.Next.TheVariants.{Due, Stop}
 use Rattle.dm_feed.specs.Lines.{Hears, IsQuiet}
 use Rattle.dm_feed.specs.Feeds.{IsUnended, without_return, ended, ReaderValue, Takes, GivesDue, ReachesEnd, Answers}
-use Rattle.dm_feed.specs.Inside.Passing.{EndsAt, Fills, Overflows, FailsToFill, PassesEnded, PassesLast, PassesLine, Grows, Looked, Drops, PassesQuiet, Holds}
+use Rattle.dm_feed.specs.Inside.Consuming.{EndsAt, Fills, Overflows, FailsToFill, ConsumesEnded, ConsumesLast, ConsumesLine, Grows, Looked, Drops, ConsumesQuiet, Holds}
 use Rattle.dm_feed.proofs.Hearing.{quiet_or_line}
 
 -- ---- a carriage return at the end
@@ -175,15 +175,15 @@ module _ {S : Type 0} {left : S → Option (List ℕ)} where
     unended = subst IsUnended (sym (ap (take (length mid.pending)) f.behind ∙ take-append_seam mid.pending f.given)) unended;
   })
 
-  pub passes_found : (mid now : ReaderValue S) (at : ℕ) (h : Heard) → now ≡ record mid { pending = drop (at + 1) mid.pending; lines = mid.lines + 1 } → EndsAt mid.pending at → mid.stop ≡ None → (mid.stop ≡ None → mid.taken ≤ 262144) → Hears (without_return (take at mid.pending)) h
-      → PassesEnded left mid now h
-  passes_found mid now at h e ends is_open within hears =
-      subst (λ (v : ReaderValue S). PassesEnded left mid v h) (sym e) (record {
+  pub consumes_found : (mid now : ReaderValue S) (at : ℕ) (h : Heard) → now ≡ record mid { pending = drop (at + 1) mid.pending; lines = mid.lines + 1 } → EndsAt mid.pending at → mid.stop ≡ None → (mid.stop ≡ None → mid.taken ≤ 262144) → Hears (without_return (take at mid.pending)) h
+      → ConsumesEnded left mid now h
+  consumes_found mid now at h e ends is_open within hears =
+      subst (λ (v : ReaderValue S). ConsumesEnded left mid v h) (sym e) (record {
         given = [];
         takes = takes_none mid (record mid { pending = drop (at + 1) mid.pending; lines = mid.lines + 1 }) refl refl;
         bytes = take at mid.pending;
         unended = ends.unended;
-        passed = append-nil mid.pending ∙ ends.is;
+        consumed = append-nil mid.pending ∙ ends.is;
         hears = hears;
         lines = refl;
         open_still = is_open;
@@ -206,16 +206,16 @@ module _ {S : Type 0} {left : S → Option (List ℕ)} where
 
   -- its line feed was found
   pub drops_found : (before mid now next : ReaderValue S) (count at : ℕ) → next ≡ record now { pending = drop (at + 1) now.pending; lines = now.lines + 1 } → 1025 < length before.pending → Drops left before mid → Fills left mid now count → EndsAt now.pending at
-      → PassesEnded left before next heard.Malformed
+      → ConsumesEnded left before next heard.Malformed
   drops_found before mid now next count at e long d f ends =
       let body : List ℕ = (before.pending ++ d.given) ++ take at now.pending in
-      subst (λ (v : ReaderValue S). PassesEnded left before v heard.Malformed) (sym e)
+      subst (λ (v : ReaderValue S). ConsumesEnded left before v heard.Malformed) (sym e)
       (record {
         given = d.given ++ f.given;
         takes = takes_then before mid (record now { pending = drop (at + 1) now.pending; lines = now.lines + 1 }) d.given f.given d.takes (record { consumed = f.takes.consumed; counted = f.takes.counted });
         bytes = body;
         unended = All-append (λ b. b ≢ 10) (before.pending ++ d.given) (take at now.pending) d.unended ends.unended;
-        passed =
+        consumed =
             sym (append_assoc before.pending d.given f.given)
             ∙ (ap (λ (l : List ℕ). (before.pending ++ d.given) ++ l) (sym (only_new mid now count d.none_left f) ∙ ends.is)
             ∙ sym (append_assoc (before.pending ++ d.given) (take at now.pending) (10 ∷ drop (at + 1) now.pending)));
@@ -225,23 +225,23 @@ module _ {S : Type 0} {left : S → Option (List ℕ)} where
         within = f.within;
       })
 
-  pub quiet_none : (before : ReaderValue S) → before.stop ≡ None → PassesQuiet left before before
+  pub quiet_none : (before : ReaderValue S) → before.stop ≡ None → ConsumesQuiet left before before
   quiet_none before is_open = record {
     given = [];
     takes = takes_none before before refl refl;
     quiet = [];
     are_quiet = All-nil (λ bytes. IsUnended bytes × IsQuiet (without_return bytes));
-    passed = append-nil before.pending;
+    consumed = append-nil before.pending;
     lines = omega arith;
     open_still = is_open;
   }
 
-  after_quiet : (before mid : ReaderValue S) (q : PassesQuiet left before mid) (more rest : List ℕ) → mid.pending ++ more ≡ rest → before.pending ++ (q.given ++ more) ≡ flat_map ended q.quiet ++ rest
+  after_quiet : (before mid : ReaderValue S) (q : ConsumesQuiet left before mid) (more rest : List ℕ) → mid.pending ++ more ≡ rest → before.pending ++ (q.given ++ more) ≡ flat_map ended q.quiet ++ rest
   after_quiet before mid q more rest e =
       sym (append_assoc before.pending q.given more)
-      ∙ (ap (λ (l : List ℕ). l ++ more) q.passed ∙ (append_assoc (flat_map ended q.quiet) mid.pending more ∙ ap (λ (l : List ℕ). flat_map ended q.quiet ++ l) e))
+      ∙ (ap (λ (l : List ℕ). l ++ more) q.consumed ∙ (append_assoc (flat_map ended q.quiet) mid.pending more ∙ ap (λ (l : List ℕ). flat_map ended q.quiet ++ l) e))
 
-  pub quiet_more : (before mid now : ReaderValue S) (h : Heard) → h ≡ heard.Blank → PassesQuiet left before mid → PassesEnded left mid now h → PassesQuiet left before now
+  pub quiet_more : (before mid now : ReaderValue S) (h : Heard) → h ≡ heard.Blank → ConsumesQuiet left before mid → ConsumesEnded left mid now h → ConsumesQuiet left before now
   quiet_more before mid now h blank q p =
       let is_quiet : IsQuiet (without_return p.bytes) = subst (Hears (without_return p.bytes)) blank p.hears in
       record {
@@ -249,19 +249,19 @@ module _ {S : Type 0} {left : S → Option (List ℕ)} where
         takes = takes_then before mid now q.given p.given q.takes p.takes;
         quiet = q.quiet ++ p.bytes ∷ [];
         are_quiet = All-push (λ bytes. IsUnended bytes × IsQuiet (without_return bytes)) q.quiet p.bytes q.are_quiet (p.unended, is_quiet);
-        passed = after_quiet before mid q p.given (p.bytes ++ 10 ∷ now.pending) p.passed ∙ one_more q.quiet p.bytes now.pending;
+        consumed = after_quiet before mid q p.given (p.bytes ++ 10 ∷ now.pending) p.consumed ∙ one_more q.quiet p.bytes now.pending;
         lines = omega (arith, p.lines, q.lines, length-append q.quiet (p.bytes ∷ []));
         open_still = p.open_still;
       }
 
-  pub due_ended : (before mid now : ReaderValue S) (h : Heard) → h ≢ heard.Blank → PassesQuiet left before mid → PassesEnded left mid now h → GivesDue left before now now.lines h
+  pub due_ended : (before mid now : ReaderValue S) (h : Heard) → h ≢ heard.Blank → ConsumesQuiet left before mid → ConsumesEnded left mid now h → GivesDue left before now now.lines h
   due_ended before mid now h due q p = record {
     given = q.given ++ p.given;
     takes = takes_then before mid now q.given p.given q.takes p.takes;
     quiet = q.quiet;
     are_quiet = q.are_quiet;
     front = ended p.bytes;
-    passed = after_quiet before mid q p.given (ended p.bytes ++ now.pending) (p.passed ∙ sym (append_assoc p.bytes (10 ∷ []) now.pending));
+    consumed = after_quiet before mid q p.given (ended p.bytes ++ now.pending) (p.consumed ∙ sym (append_assoc p.bytes (10 ∷ []) now.pending));
     text = without_return p.bytes;
     is_line = record { bytes = p.bytes; unended = p.unended; cut = inl (refl, refl) };
     hears = p.hears;
@@ -273,14 +273,14 @@ module _ {S : Type 0} {left : S → Option (List ℕ)} where
     last = λ none. absurd (none p.bytes refl);
   }
 
-  pub due_last : (before mid now : ReaderValue S) (h : Heard) → h ≢ heard.Blank → PassesQuiet left before mid → PassesLast left mid now h → GivesDue left before now now.lines h
+  pub due_last : (before mid now : ReaderValue S) (h : Heard) → h ≢ heard.Blank → ConsumesQuiet left before mid → ConsumesLast left mid now h → GivesDue left before now now.lines h
   due_last before mid now h due q p = record {
     given = q.given ++ p.given;
     takes = takes_then before mid now q.given p.given q.takes p.takes;
     quiet = q.quiet;
     are_quiet = q.are_quiet;
     front = mid.pending ++ p.given;
-    passed =
+    consumed =
         after_quiet before mid q p.given ((mid.pending ++ p.given) ++ now.pending)
         (sym (ap (λ (l : List ℕ). (mid.pending ++ p.given) ++ l) p.none_left ∙ append-nil (mid.pending ++ p.given)));
     text = mid.pending ++ p.given;
@@ -294,7 +294,7 @@ module _ {S : Type 0} {left : S → Option (List ℕ)} where
     last = λ none. p.stopped;
   }
 
-  pub end_last : (before mid now : ReaderValue S) (h : Heard) → h ≡ heard.Blank → PassesQuiet left before mid → PassesLast left mid now h → ReachesEnd left before now
+  pub end_last : (before mid now : ReaderValue S) (h : Heard) → h ≡ heard.Blank → ConsumesQuiet left before mid → ConsumesLast left mid now h → ReachesEnd left before now
   end_last before mid now h blank q p = record {
     given = q.given ++ p.given;
     takes = takes_then before mid now q.given p.given q.takes p.takes;
@@ -303,27 +303,27 @@ module _ {S : Type 0} {left : S → Option (List ℕ)} where
     last = mid.pending ++ p.given;
     unended = p.unended;
     is_quiet = subst (Hears (mid.pending ++ p.given)) blank p.hears;
-    passed = after_quiet before mid q p.given (mid.pending ++ p.given) refl;
+    consumed = after_quiet before mid q p.given (mid.pending ++ p.given) refl;
     at_end = p.at_end;
     within = p.within;
   }
 
 module _ {S : Type 0} where
-  -- what was passed from the middle on was passed from the start on
-  pub passes_after : (left : S → Option (List ℕ)) (faults : S → ℕ) (is_sound : S → Type 0) (before mid now : ReaderValue S) (passed : Passed) → Grows left before mid → faults before.source ≤ faults mid.source → (is_sound before.source → is_sound mid.source)
-      → PassesLine left faults is_sound mid now passed → PassesLine left faults is_sound before now passed
-  passes_after left faults is_sound before mid now (Ended h) g later sound p = record {
+  -- what was consumed from the middle on was consumed from the start on
+  pub consumes_after : (left : S → Option (List ℕ)) (faults : S → ℕ) (is_sound : S → Type 0) (before mid now : ReaderValue S) (line : NextLine) → Grows left before mid → faults before.source ≤ faults mid.source → (is_sound before.source → is_sound mid.source)
+      → ConsumesLine left faults is_sound mid now line → ConsumesLine left faults is_sound before now line
+  consumes_after left faults is_sound before mid now (Ended h) g later sound p = record {
     given = g.given ++ p.given;
     takes = takes_then before mid now g.given p.given g.takes p.takes;
     bytes = p.bytes;
     unended = p.unended;
-    passed = joined before mid g p.given ∙ p.passed;
+    consumed = joined before mid g p.given ∙ p.consumed;
     hears = p.hears;
     lines = omega (arith, p.lines, g.lines);
     open_still = p.open_still;
     within = p.within;
   }
-  passes_after left faults is_sound before mid now (Last h) g later sound p =
+  consumes_after left faults is_sound before mid now (Last h) g later sound p =
       let e = joined before mid g p.given in
       record {
         given = g.given ++ p.given;
@@ -337,7 +337,7 @@ module _ {S : Type 0} where
         stopped = p.stopped;
         within = p.within;
       }
-  passes_after left faults is_sound before mid now (Nothing End) g later sound p = record {
+  consumes_after left faults is_sound before mid now (Nothing End) g later sound p = record {
     given = g.given ++ p.given;
     takes = takes_then before mid now g.given p.given g.takes p.takes;
     nothing = joined before mid g p.given ∙ p.nothing;
@@ -345,17 +345,17 @@ module _ {S : Type 0} where
     within = p.within;
     stopped = p.stopped;
   }
-  passes_after left faults is_sound before mid now (Nothing Long) g later sound p = record {
+  consumes_after left faults is_sound before mid now (Nothing Long) g later sound p = record {
     given = g.given ++ p.given;
     takes = takes_then before mid now g.given p.given g.takes p.takes;
     front = p.front;
     unended = p.unended;
     next = p.next;
-    passed = joined before mid g p.given ∙ p.passed;
+    consumed = joined before mid g p.given ∙ p.consumed;
     over = p.over;
     stopped = p.stopped;
   }
-  passes_after left faults is_sound before mid now (Nothing Fault) g later sound p = record {
+  consumes_after left faults is_sound before mid now (Nothing Fault) g later sound p = record {
     within = p.within;
     given = g.given ++ p.given;
     takes = takes_then before mid now g.given p.given g.takes p.takes;
@@ -365,19 +365,19 @@ module _ {S : Type 0} where
     stopped = p.stopped;
   }
 
-  pub passes_fails : (left : S → Option (List ℕ)) (faults : S → ℕ) (is_sound : S → Type 0) (mid now : ReaderValue S) (stop : FeedStop) → IsUnended mid.pending → now.stop ≡ Some stop → FailsToFill left faults is_sound mid now stop → PassesLine left faults is_sound mid now (Nothing stop)
-  passes_fails left faults is_sound mid now End unended stopped f = absurd f
-  passes_fails left faults is_sound mid now Long unended stopped f = record {
+  pub consumes_fails : (left : S → Option (List ℕ)) (faults : S → ℕ) (is_sound : S → Type 0) (mid now : ReaderValue S) (stop : FeedStop) → IsUnended mid.pending → now.stop ≡ Some stop → FailsToFill left faults is_sound mid now stop → ConsumesLine left faults is_sound mid now (Nothing stop)
+  consumes_fails left faults is_sound mid now End unended stopped f = absurd f
+  consumes_fails left faults is_sound mid now Long unended stopped f = record {
     given = f.next ∷ [];
     takes = f.takes;
     front = mid.pending;
     unended = unended;
     next = f.next;
-    passed = refl;
+    consumed = refl;
     over = f.over;
     stopped = stopped;
   }
-  passes_fails left faults is_sound mid now Fault unended stopped f = record {
+  consumes_fails left faults is_sound mid now Fault unended stopped f = record {
     within = f.within;
     given = [];
     takes = f.takes;
@@ -387,9 +387,9 @@ module _ {S : Type 0} where
     stopped = stopped;
   }
 
-  -- a read failed, or the limit was passed
+  -- a read failed, or the limit was exceeded
   pub drops_fails : (left : S → Option (List ℕ)) (faults : S → ℕ) (is_sound : S → Type 0) (before mid now : ReaderValue S) (stop : FeedStop) → faults before.source ≤ faults mid.source → (is_sound before.source → is_sound mid.source) → Drops left before mid → now.stop ≡ Some stop
-      → FailsToFill left faults is_sound mid now stop → PassesLine left faults is_sound before now (Nothing stop)
+      → FailsToFill left faults is_sound mid now stop → ConsumesLine left faults is_sound before now (Nothing stop)
   drops_fails left faults is_sound before mid now End later sound d stopped f = absurd f
   drops_fails left faults is_sound before mid now Long later sound d stopped f = record {
     given = d.given ++ f.next ∷ [];
@@ -397,7 +397,7 @@ module _ {S : Type 0} where
     front = before.pending ++ d.given;
     unended = d.unended;
     next = f.next;
-    passed = sym (append_assoc before.pending d.given (f.next ∷ []));
+    consumed = sym (append_assoc before.pending d.given (f.next ∷ []));
     over = f.over;
     stopped = stopped;
   }
@@ -411,8 +411,8 @@ module _ {S : Type 0} where
     stopped = stopped;
   }
 
-  pub stops : (left : S → Option (List ℕ)) (faults : S → ℕ) (is_sound : S → Type 0) (before mid now : ReaderValue S) (stop : FeedStop) → faults before.source ≤ faults mid.source → (is_sound before.source → is_sound mid.source) → PassesQuiet left before mid
-      → PassesLine left faults is_sound mid now (Nothing stop) → Answers left faults is_sound before now (Stop stop)
+  pub stops : (left : S → Option (List ℕ)) (faults : S → ℕ) (is_sound : S → Type 0) (before mid now : ReaderValue S) (stop : FeedStop) → faults before.source ≤ faults mid.source → (is_sound before.source → is_sound mid.source) → ConsumesQuiet left before mid
+      → ConsumesLine left faults is_sound mid now (Nothing stop) → Answers left faults is_sound before now (Stop stop)
   stops left faults is_sound before mid now End later sound q p = record {
     given = q.given ++ p.given;
     takes = takes_then before mid now q.given p.given q.takes p.takes;
@@ -421,7 +421,7 @@ module _ {S : Type 0} where
     last = [];
     unended = All-nil (λ b. b ≢ 10);
     is_quiet = no_bytes_quiet;
-    passed = after_quiet before mid q p.given [] p.nothing;
+    consumed = after_quiet before mid q p.given [] p.nothing;
     at_end = p.at_end;
     within = p.within;
   }
@@ -433,7 +433,7 @@ module _ {S : Type 0} where
     front = p.front;
     unended = p.unended;
     next = p.next;
-    passed = after_quiet before mid q p.given (p.front ++ p.next ∷ []) p.passed;
+    consumed = after_quiet before mid q p.given (p.front ++ p.next ∷ []) p.consumed;
     over = p.over;
   }
   stops left faults is_sound before mid now Fault later sound q p = record {
@@ -444,7 +444,7 @@ module _ {S : Type 0} where
     are_quiet = q.are_quiet;
     front = mid.pending ++ p.given;
     unended = p.unended;
-    passed = after_quiet before mid q p.given (mid.pending ++ p.given) refl;
+    consumed = after_quiet before mid q p.given (mid.pending ++ p.given) refl;
     risen = risen_since (faults before.source) (faults mid.source) (faults now.source) later p.risen;
     not_sound = λ s. p.not_sound (sound s);
   }
@@ -458,10 +458,10 @@ module _ {S : Type 0} where
   pub holds_none : (faults : S → ℕ) (is_sound : S → Type 0) (before : ReaderValue S) → Holds faults is_sound before before
   holds_none faults is_sound before = record { later = omega arith; sound = λ s. s }
 
-  -- each line that is passed is one byte at least
-  pub passes_some : (left : S → Option (List ℕ)) (mid now : ReaderValue S) (h : Heard) → PassesEnded left mid now h → 262144 + length now.pending - now.taken < 262144 + length mid.pending - mid.taken
-  passes_some left mid now h p =
-      omega (arith, ap length p.passed, length-append mid.pending p.given, length-append p.bytes (10 ∷ now.pending), p.takes.counted, p.within)
+  -- each line that is consumed is one byte at least
+  pub consumes_some : (left : S → Option (List ℕ)) (mid now : ReaderValue S) (h : Heard) → ConsumesEnded left mid now h → 262144 + length now.pending - now.taken < 262144 + length mid.pending - mid.taken
+  consumes_some left mid now h p =
+      omega (arith, ap length p.consumed, length-append mid.pending p.given, length-append p.bytes (10 ∷ now.pending), p.takes.counted, p.within)
 
   pub at_most_one_over : (left : S → Option (List ℕ)) (faults : S → ℕ) (is_sound : S → Type 0) (before now : ReaderValue S) (next : Next) → Answers left faults is_sound before now next → now.taken ≤ 262145
   at_most_one_over left faults is_sound before now (Due line h) a = omega (arith, a.within)

@@ -8,7 +8,7 @@ use Rattle.dm_feed.specs.Feeds.{IsUnended, without_return, ended}
 use Rattle.dm_feed.specs.DueItems.{pieces_of, lines_among, lines_of, DueItem, item, AreDueItems}
 use Rattle.dm_feed.specs.Joined.{AreWhole, HearsFirst, AreItemsOfParts}
 use Rattle.dm_feed.specs.Laws.{AreJoined}
-use Rattle.dm_feed.specs.Inside.Passing.{EndsAt}
+use Rattle.dm_feed.specs.Inside.Consuming.{EndsAt}
 use Rattle.dm_feed.proofs.Ahead.{some_piece, line_among, line_more, quiet_first, same_items, due_items}
 use Rattle.dm_feed.proofs.Feeding.{rest_of}
 

@@ -3,7 +3,7 @@ ghost use Rattle.std.specs.Prelude.{◌≡◌, ◌≢◌, ◌+◌, ◌<◌, ◌�
 ghost use Rattle.dm_feed.specs.Feeds.{Answers, StopsAt, IsUnended, without_return};
 ghost use Rattle.dm_feed.specs.Lines.{Hears};
 ghost use Rattle.dm_feed.specs.DueItems.{AnswersInOrder, IsDetermined};
-ghost use Rattle.dm_feed.specs.Inside.Passing.{EndsAt, Fills, FailsToFill, PassesRest, PassesLine};
+ghost use Rattle.dm_feed.specs.Inside.Consuming.{EndsAt, Fills, FailsToFill, ConsumesRest, ConsumesLine};
 
 use crate::buffer::Buffer;
 use crate::feed::{FeedStop, Next};
@@ -43,8 +43,8 @@ impl<S> Model for LineReader<S> {
         × (reader.stop ≡ None → reader.taken ≤ 262144) };
 }
 
-/// What stands at the front of what is left of a feed.
-enum Passed {
+/// What stood at the front of what was left of a feed.
+enum NextLine {
     /// A line with its end.
     Line(Heard),
 
@@ -114,7 +114,7 @@ impl<S> LineReader<S> {
         line_feed(self.buffer.as_slice(), from)
     }
 
-    // The line that was passed last.
+    // The line that was consumed last, with what was heard in it.
     fn due(&self, heard: Heard) -> Next
         ensures { result ≡ Next.Due self.now.lines heard }
     {
@@ -131,32 +131,32 @@ impl<S> LineReader<S> {
         self.buffer.as_slice().len()
     }
 
-    // Passes a line whose line feed is at this place.
-    fn pass_over(&mut self, at: usize)
+    // Consumes a line whose line feed is at this place.
+    fn consume_to(&mut self, at: usize)
         requires { at < length self.old.pending }
-        ensures passed { self.new ≡ record self.old { pending = drop (at + 1) self.old.pending; lines = self.old.lines + 1 } }
+        ensures consumed { self.new ≡ record self.old { pending = drop (at + 1) self.old.pending; lines = self.old.lines + 1 } }
         ensures within { self.old.stop ≡ None → self.old.taken ≤ 262144 }
     {
         self.buffer.drop_front(at + 1);
         self.lines += 1;
     }
 
-    // Passes the line that ends with the line feed at this place.
-    fn pass_ended(&mut self, at: usize) -> Heard
+    // Consumes the line that ends with the line feed at this place.
+    fn consume_ended(&mut self, at: usize) -> Heard
         requires { at < length self.old.pending }
-        ensures passed { self.new ≡ record self.old { pending = drop (at + 1) self.old.pending; lines = self.old.lines + 1 } }
+        ensures consumed { self.new ≡ record self.old { pending = drop (at + 1) self.old.pending; lines = self.old.lines + 1 } }
         ensures within { self.old.stop ≡ None → self.old.taken ≤ 262144 }
         ensures hears { Hears (without_return (take at self.old.pending)) result }
     {
         let heard = hear_ended(&self.buffer.as_slice()[..at]);
-        self.pass_over(at);
+        self.consume_to(at);
         heard
     }
 
-    // Passes all that is pending as the last line.
-    fn pass_last(&mut self) -> Heard
+    // Consumes all that is pending as the last line.
+    fn consume_last(&mut self) -> Heard
         requires { 0 < length self.old.pending }
-        ensures passed { self.new ≡ record self.old { pending = []; lines = self.old.lines + 1; stop = Some FeedStop.End } }
+        ensures consumed { self.new ≡ record self.old { pending = []; lines = self.old.lines + 1; stop = Some FeedStop.End } }
         ensures hears { Hears self.old.pending result }
     {
         let heard = read_line(self.buffer.as_slice());
@@ -166,8 +166,8 @@ impl<S> LineReader<S> {
         heard
     }
 
-    // Passes the last line, of which the front was let go.
-    fn pass_dropped(&mut self)
+    // Consumes the last line, of which the front was let go.
+    fn consume_dropped(&mut self)
         requires some { self.old.lines < self.old.taken }
         requires none { self.old.pending ≡ [] }
         ensures { self.new ≡ record self.old { lines = self.old.lines + 1; stop = Some FeedStop.End } }
@@ -184,15 +184,15 @@ impl<S> LineReader<S> {
         self.buffer.clear();
     }
 
-    // Passes all that is pending, behind which the source has ended.
-    fn pass_rest(&mut self) -> Passed
-        ensures { PassesRest self.old self.new result }
+    // Consumes all that is pending, behind which the source has ended.
+    fn consume_rest(&mut self) -> NextLine
+        ensures { ConsumesRest self.old self.new result }
     {
         if self.waiting() > 0 {
-            return Passed::Last(self.pass_last());
+            return NextLine::Last(self.consume_last());
         }
         self.stop = Some(FeedStop::End);
-        Passed::Nothing(FeedStop::End)
+        NextLine::Nothing(FeedStop::End)
     }
 }
 
@@ -224,52 +224,52 @@ impl<S: Source> LineReader<S> {
         Ok(count)
     }
 
-    // Passes a line of which so much is pending that it is malformed.
-    fn skip_line(&mut self) -> Passed
+    // Consumes a line of which so much is pending that it is malformed.
+    fn skip_line(&mut self) -> NextLine
         requires open { self.old.stop ≡ None }
         requires long { 1025 < length self.old.pending }
         requires unended { IsUnended self.old.pending }
-        ensures passes { PassesLine S.left S.faults S.is_sound self.old self.new result }
+        ensures consumes { ConsumesLine S.left S.faults S.is_sound self.old self.new result }
         ensures later { S.faults self.old.source ≤ S.faults self.new.source }
         ensures stays_sound { S.is_sound self.old.source → S.is_sound self.new.source }
     {
         self.drop_pending();
         loop {
             match self.fill() {
-                Err(stop) => return Passed::Nothing(stop),
+                Err(stop) => return NextLine::Nothing(stop),
                 Ok(0) => {
-                    self.pass_dropped();
-                    return Passed::Last(Heard::Malformed);
+                    self.consume_dropped();
+                    return NextLine::Last(Heard::Malformed);
                 }
                 Ok(_) => {}
             }
             if let Some(at) = self.pending_line_feed(0) {
-                self.pass_over(at);
-                return Passed::Line(Heard::Malformed);
+                self.consume_to(at);
+                return NextLine::Line(Heard::Malformed);
             }
             self.drop_pending();
         }
     }
 
-    // Passes the next line.
-    fn pass_line(&mut self) -> Passed
+    // Consumes the next line.
+    fn next_line(&mut self) -> NextLine
         requires open { self.old.stop ≡ None }
-        ensures passes { PassesLine S.left S.faults S.is_sound self.old self.new result }
+        ensures consumes { ConsumesLine S.left S.faults S.is_sound self.old self.new result }
         ensures later { S.faults self.old.source ≤ S.faults self.new.source }
         ensures stays_sound { S.is_sound self.old.source → S.is_sound self.new.source }
     {
         let mut looked = 0;
         loop {
             if let Some(at) = self.pending_line_feed(looked) {
-                return Passed::Line(self.pass_ended(at));
+                return NextLine::Line(self.consume_ended(at));
             }
             looked = self.waiting();
             if looked > LINE + 1 {
                 return self.skip_line();
             }
             match self.fill() {
-                Err(stop) => return Passed::Nothing(stop),
-                Ok(0) => return self.pass_rest(),
+                Err(stop) => return NextLine::Nothing(stop),
+                Ok(0) => return self.consume_rest(),
                 Ok(_) => {}
             }
         }
@@ -284,19 +284,19 @@ impl<S: Source> LineReader<S> {
         ensures stays_sound { S.is_sound self.old.source → S.is_sound self.new.source }
     {
         loop {
-            match self.pass_line() {
-                Passed::Line(heard) => {
+            match self.next_line() {
+                NextLine::Line(heard) => {
                     if is_due(&heard) {
                         return self.due(heard);
                     }
                 }
-                Passed::Last(heard) => {
+                NextLine::Last(heard) => {
                     if is_due(&heard) {
                         return self.due(heard);
                     }
                     return Next::Stop(FeedStop::End);
                 }
-                Passed::Nothing(stop) => return Next::Stop(stop),
+                NextLine::Nothing(stop) => return Next::Stop(stop),
             }
         }
     }

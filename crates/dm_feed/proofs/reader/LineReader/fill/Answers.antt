@@ -1,7 +1,7 @@
 use Rattle.std.proofs.Common.{◌≡◌, ◌≤◌, ◌+◌, ◌∙◌, ap, subst, arith, None, Some}
 use Rattle.dm_feed.specs.declared.feed.FeedStop.TheVariants.{Long}
 use Rattle.dm_feed.specs.Feeds.{ReaderValue}
-use Rattle.dm_feed.specs.Inside.Passing.{Overflows}
+use Rattle.dm_feed.specs.Inside.Consuming.{Overflows}
 use Rattle.dm_feed.proofs.Feeding.{overflows}
 use Rattle.dm_feed.proofs.reader.LineReader.fill.Goals as goal
 use Rattle.dm_feed.proofs.reader.LineReader.fill.Goals.{then-self-lt-FEED, else-self-lt-FEED}

@@ -1,14 +1,14 @@
 use Rattle.dm_feed.proofs.Feeding.{drops_fails, drops_found, drops_more, holds_more, holds_same}
 use Rattle.dm_feed.proofs.reader.LineReader.skip_line.Goals as goal
 
-pub returns-in-Err-clause-passes : goal.returns-in-Err-clause-passes
-returns-in-Err-clause-passes g c =
+pub returns-in-Err-clause-consumes : goal.returns-in-Err-clause-consumes
+returns-in-Err-clause-consumes g c =
     drops_fails g.S.Source.left g.S.Source.faults g.S.Source.is_sound c.args.self.now c.loop-stop.self c.fill.new.self c.in-Err.stop
     c.loop-stop.invariant.holds.later c.loop-stop.invariant.holds.sound c.loop-stop.invariant.drops c.in-Err.ensures.stopped c.in-Err.ensures.err
 
-pub returns-in-Some-clause-passes : goal.returns-in-Some-clause-passes
-returns-in-Some-clause-passes g c =
-    drops_found c.args.self.now c.loop-stop.self c.fill.new.self c.pass_over.new.self c.in-Ok.field-0 c.in-Some.at c.pass_over.ensures.passed
+pub returns-in-Some-clause-consumes : goal.returns-in-Some-clause-consumes
+returns-in-Some-clause-consumes g c =
+    drops_found c.args.self.now c.loop-stop.self c.fill.new.self c.consume_to.new.self c.in-Ok.field-0 c.in-Some.at c.consume_to.ensures.consumed
     c.requires.long c.loop-stop.invariant.drops c.in-Ok.ensures.ok c.in-Some.ensures
 
 pub loop-stop-preserved : goal.loop-stop-preserved

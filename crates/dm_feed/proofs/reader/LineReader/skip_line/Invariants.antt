@@ -1,5 +1,5 @@
 use Rattle.std.proofs.Common.{◌-◌}
-use Rattle.dm_feed.specs.Inside.Passing.{Drops, Holds}
+use Rattle.dm_feed.specs.Inside.Consuming.{Drops, Holds}
 use Rattle.dm_feed.proofs.reader.LineReader.skip_line.Given as goal
 
 abbrev pub invariant-loop-stop : goal.invariant-loop-stop

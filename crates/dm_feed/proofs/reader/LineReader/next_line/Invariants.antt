@@ -1,6 +1,6 @@
 use Rattle.std.proofs.Common.{◌-◌}
-use Rattle.dm_feed.specs.Inside.Passing.{Grows, Looked, Holds}
-use Rattle.dm_feed.proofs.reader.LineReader.pass_line.Given as goal
+use Rattle.dm_feed.specs.Inside.Consuming.{Grows, Looked, Holds}
+use Rattle.dm_feed.proofs.reader.LineReader.next_line.Given as goal
 
 abbrev pub invariant-loop-at : goal.invariant-loop-at
 invariant-loop-at g l = record {

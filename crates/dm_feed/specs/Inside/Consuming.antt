@@ -7,8 +7,8 @@ use Rattle.dm_outside.specs.Faults.{HasRisen}
 use Rattle.dm_feed.specs.declared.grammar.Heard.{Heard}
 use Rattle.dm_feed.specs.declared.feed.FeedStop.{FeedStop}
 use Rattle.dm_feed.specs.declared.feed.FeedStop.TheVariants.{End, Fault, Long}
-use Rattle.dm_feed.specs.declared.reader.Passed.{Passed}
-use Rattle.dm_feed.specs.declared.reader.Passed.TheVariants.{Line, Last, Nothing}
+use Rattle.dm_feed.specs.declared.reader.NextLine.{NextLine}
+use Rattle.dm_feed.specs.declared.reader.NextLine.TheVariants.{Line, Last, Nothing}
 use Rattle.dm_feed.specs.Lines.{Hears}
 use Rattle.dm_feed.specs.Feeds.{IsUnended, without_return, ended, AreQuiet, ReaderValue, Takes}
 
@@ -47,20 +47,20 @@ FailsToFill left faults is_sound before now End = ⊥
 FailsToFill left faults is_sound before now Long = Overflows left before now
 FailsToFill left faults is_sound before now Fault = Breaks left faults is_sound before now
 
--- a line was passed with its line feed
-pub record PassesEnded {S : Type 0} (left : S → Option (List ℕ)) (before now : ReaderValue S) (heard : Heard) : Type 0 where
+-- a line was consumed with its line feed
+pub record ConsumesEnded {S : Type 0} (left : S → Option (List ℕ)) (before now : ReaderValue S) (heard : Heard) : Type 0 where
   pub given : List ℕ
   pub takes : Takes left before now given
   pub bytes : List ℕ
   pub unended : IsUnended bytes
-  pub passed : before.pending ++ given ≡ bytes ++ 10 ∷ now.pending
+  pub consumed : before.pending ++ given ≡ bytes ++ 10 ∷ now.pending
   pub hears : Hears (without_return bytes) heard
   pub lines : now.lines ≡ before.lines + 1
   pub open_still : now.stop ≡ None
   pub within : now.taken ≤ FEED
 
--- what stands behind the last line feed was passed
-pub record PassesLast {S : Type 0} (left : S → Option (List ℕ)) (before now : ReaderValue S) (heard : Heard) : Type 0 where
+-- what stands behind the last line feed was consumed
+pub record ConsumesLast {S : Type 0} (left : S → Option (List ℕ)) (before now : ReaderValue S) (heard : Heard) : Type 0 where
   pub given : List ℕ
   pub takes : Takes left before now given
   pub unended : IsUnended (before.pending ++ given)
@@ -88,7 +88,7 @@ pub record FindsLimit {S : Type 0} (left : S → Option (List ℕ)) (before now 
   pub front : List ℕ
   pub unended : IsUnended front
   pub next : ℕ
-  pub passed : before.pending ++ given ≡ front ++ next ∷ []
+  pub consumed : before.pending ++ given ≡ front ++ next ∷ []
   pub over : now.taken ≡ FEED + 1
   pub stopped : now.stop ≡ Some Long
 
@@ -102,21 +102,21 @@ pub record FindsFault {S : Type 0} (left : S → Option (List ℕ)) (faults : S 
   pub not_sound : is_sound before.source → ⊥
   pub stopped : now.stop ≡ Some Fault
 
--- all that is pending was passed, behind which the source has ended
-abbrev pub PassesRest : {S : Type 0} → ReaderValue S → ReaderValue S → Passed → Type 0
-PassesRest before now (Line heard) = ⊥
-PassesRest before now (Last heard) =
+-- all that is pending was consumed, behind which the source has ended
+abbrev pub ConsumesRest : {S : Type 0} → ReaderValue S → ReaderValue S → NextLine → Type 0
+ConsumesRest before now (Line heard) = ⊥
+ConsumesRest before now (Last heard) =
     (0 < length before.pending) × (now ≡ record before { pending = []; lines = before.lines + 1; stop = Some End }) × Hears before.pending heard
-PassesRest before now (Nothing End) = (before.pending ≡ []) × (now ≡ record before { stop = Some End })
-PassesRest before now (Nothing Long) = ⊥
-PassesRest before now (Nothing Fault) = ⊥
+ConsumesRest before now (Nothing End) = (before.pending ≡ []) × (now ≡ record before { stop = Some End })
+ConsumesRest before now (Nothing Long) = ⊥
+ConsumesRest before now (Nothing Fault) = ⊥
 
-abbrev pub PassesLine : {S : Type 0} → (S → Option (List ℕ)) → (S → ℕ) → (S → Type 0) → ReaderValue S → ReaderValue S → Passed → Type 0
-PassesLine left faults is_sound before now (Line heard) = PassesEnded left before now heard
-PassesLine left faults is_sound before now (Last heard) = PassesLast left before now heard
-PassesLine left faults is_sound before now (Nothing End) = FindsEnd left before now
-PassesLine left faults is_sound before now (Nothing Long) = FindsLimit left before now
-PassesLine left faults is_sound before now (Nothing Fault) = FindsFault left faults is_sound before now
+abbrev pub ConsumesLine : {S : Type 0} → (S → Option (List ℕ)) → (S → ℕ) → (S → Type 0) → ReaderValue S → ReaderValue S → NextLine → Type 0
+ConsumesLine left faults is_sound before now (Line heard) = ConsumesEnded left before now heard
+ConsumesLine left faults is_sound before now (Last heard) = ConsumesLast left before now heard
+ConsumesLine left faults is_sound before now (Nothing End) = FindsEnd left before now
+ConsumesLine left faults is_sound before now (Nothing Long) = FindsLimit left before now
+ConsumesLine left faults is_sound before now (Nothing Fault) = FindsFault left faults is_sound before now
 
 -- ---- between the steps
 
@@ -125,7 +125,7 @@ pub record Holds {S : Type 0} (faults : S → ℕ) (is_sound : S → Type 0) (be
   pub later : faults before.source ≤ faults now.source
   pub sound : is_sound before.source → is_sound now.source
 
--- bytes came in behind the pending ones, and no line was passed
+-- bytes came in behind the pending ones, and no line was consumed
 pub record Grows {S : Type 0} (left : S → Option (List ℕ)) (before now : ReaderValue S) : Type 0 where
   pub given : List ℕ
   pub takes : Takes left before now given
@@ -148,12 +148,12 @@ pub record Drops {S : Type 0} (left : S → Option (List ℕ)) (before now : Rea
   pub some : now.lines < now.taken
   pub open_still : now.stop ≡ None
 
--- blank lines and comments were passed
-pub record PassesQuiet {S : Type 0} (left : S → Option (List ℕ)) (before now : ReaderValue S) : Type 0 where
+-- blank lines and comments were consumed
+pub record ConsumesQuiet {S : Type 0} (left : S → Option (List ℕ)) (before now : ReaderValue S) : Type 0 where
   pub given : List ℕ
   pub takes : Takes left before now given
   pub quiet : List (List ℕ)
   pub are_quiet : AreQuiet quiet
-  pub passed : before.pending ++ given ≡ flat_map ended quiet ++ now.pending
+  pub consumed : before.pending ++ given ≡ flat_map ended quiet ++ now.pending
   pub lines : now.lines ≡ before.lines + length quiet
   pub open_still : now.stop ≡ None
