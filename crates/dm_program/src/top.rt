@@ -117,8 +117,8 @@ pub fn dispatch<R: Threads + Wait + Sync, H: Shelf, K: Sink, G: Gate>(
     ensures run_texts_are_good { (asked : CheckAsked) (opening : Opening) (bytes : List ℕ)
         → Asks (map string_bytes words.now) (CheckOf asked) → IsSome (H.files shelf.old)
         → OpeningAnswer (H.files shelf.old) asked.files (Ok opening) → IsHeld (H.files shelf.old) asked.text bytes → length bytes ≤ TEXT
-        → IsRunText opening.net opening.rows asked.files.penalty asked.files.plans bytes → IsSoundFor (H.is_sound shelf.old) asked.files asked.text
-        → (HasRisen (K.faults out.old) (K.faults out.new) → ⊥)
+        → IsRunText opening.net opening.rows asked.files.penalty asked.files.plans bytes
+        → IsSoundFor (H.is_sound shelf.old) asked.files asked.text → (HasRisen (K.faults out.old) (K.faults out.new) → ⊥)
         → (result ≡ Status.Ok) ⊎ (result ≡ Status.NoMemory) }
 
     // What is asked of the journal of a text that is not too long is answered, or wants memory, where the same hold.
