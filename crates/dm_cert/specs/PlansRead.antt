@@ -141,7 +141,8 @@ TellsPlan version entry =
 
 -- What a reader of lines answers: what is told at the place, which then lies behind what was read. Want of memory may be
 -- answered at any time.
-abbrev pub Answers : {V X : Type 0} → (Place → Result (V × Place) CertFault → Type 0) → (X → V) → Place → Place → Result X CertFault → Type 0
+abbrev pub Answers : {V X : Type 0} → (Place → Result (V × Place) CertFault → Type 0) → (X → V) → Place → Place →
+    Result X CertFault → Type 0
 Answers tells seen old new (Ok value) = tells old (Ok (seen value, new))
 Answers tells seen old new (Err fault) = (fault ≡ want_of_memory) ⊎ tells old (Err fault)
 

@@ -81,7 +81,8 @@ plan_opened opening choices nodes =
     }
 
 -- the plan behind an item's first line is this one's, of which the tree shows as was read, and the item is the next one
-pub record IsNextPlan (s : Setting) (history : List Entry) (feed : ℕ) (before : List LogItem) (opening : PlanOpening) (choices : List Decision)
+pub record IsNextPlan (s : Setting) (history : List Entry) (feed : ℕ) (before : List LogItem) (opening : PlanOpening)
+    (choices : List Decision)
     (Shows : List Node → Type 0) (answered : LogItem) : Type 0 where
   pub nodes : List Node
   pub shown : Shows nodes

@@ -47,7 +47,8 @@ pub record ToldThat {V : Type 0} (tells : Place → Result (V × Place) Fault �
   pub holds_of : holds value
 
 -- The same as `Judged` where the code does not make the value that is told, but knows something of it.
-abbrev pub JudgedThat : {V X : Type 0} → (Place → Result (V × Place) Fault → Type 0) → (X → V → Type 0) → Place → Place → Result X Stop → Type 0
+abbrev pub JudgedThat : {V X : Type 0} → (Place → Result (V × Place) Fault → Type 0) → (X → V → Type 0) → Place → Place →
+    Result X Stop → Type 0
 JudgedThat tells holds old new (Ok x) = ToldThat tells (holds x) old new
 JudgedThat tells holds old new (Err (Found fault)) = tells old (Err fault)
 JudgedThat tells holds old new (Err OutOfMemory) = Unit {0}
@@ -67,7 +68,8 @@ pub record IsInTurn (feeds entries : ℕ) (said : Numbered) : Type 0 where
   pub line : 1 ≤ said.entry.line
 
 -- the next entry is told, and the rows are those after it
-pub record EntersNext (s : Setting) (feeds : ℕ) (before : List Entry) (n : ℕ) (old new : Place) (rows : RowsValue) (entry : Entry) : Type 0 where
+pub record EntersNext (s : Setting) (feeds : ℕ) (before : List Entry) (n : ℕ) (old new : Place) (rows : RowsValue)
+    (entry : Entry) : Type 0 where
   pub told : TellsEntry s feeds before old (Ok (entry, new))
   pub rows_are : rows ≡ rows_after s (before ++ entry ∷ []) (n + 1)
   pub sized : IsSized s.net rows
@@ -147,7 +149,8 @@ pub record KeepsItems (plans : ℕ) (flags named : List Bool) (answered : List L
   pub flagged : (items : List LogItem) → AreFlagged items flags → AreFlagged (items ++ answered) named
 
 -- what stands behind the first line of an item
-abbrev pub BehindOn : Setting → List Entry → ℕ → List LogItem → ℕ → ItemLine → Place → Place → Past → List Bool → List Bool → Result (Unit {0}) Stop → Type 0
+abbrev pub BehindOn : Setting → List Entry → ℕ → List LogItem → ℕ → ItemLine → Place → Place → Past → List Bool → List Bool →
+    Result (Unit {0}) Stop → Type 0
 BehindOn s history feed before first said old new past flags named =
     JudgedThat (TellsBehind s history feed before first said) (λ done answered. KeepsItem before past flags named answered) old new
 
@@ -197,7 +200,8 @@ pub record HasLogs (history : List Entry) (logs : List FeedLog) (run : Run) : Ty
   pub logs_are : run.logs ≡ logs
 
 abbrev pub EndingOn : Setting → List Entry → List FeedLog → List Note → RowsValue → Place → Place → Result (Unit {0}) Stop → Type 0
-EndingOn s history logs notes rows old new = JudgedThat (TellsEnding s history logs notes rows) (λ done run. HasLogs history logs run) old new
+EndingOn s history logs notes rows old new =
+    JudgedThat (TellsEnding s history logs notes rows) (λ done run. HasLogs history logs run) old new
 
 abbrev pub RestOn : Setting → List Entry → List FeedLog → Place → Place → Result (Unit {0}) Stop → Type 0
 RestOn s history logs old new = JudgedThat (TellsRest s history logs) (λ done run. HasLogs history logs run) old new
@@ -215,7 +219,8 @@ pub record HasPlans (history : List Entry) (plans : ℕ) (run : Run) : Type 0 wh
 
 abbrev pub LogsAndRestOn : Setting → List Entry → ℕ → Place → Place → Result ℕ Stop → Type 0
 LogsAndRestOn s history feeds old new =
-    JudgedThat (Then (Times feeds (TellsLog s history) []) (λ logs. TellsRest s history logs)) (λ plans run. HasPlans history plans run) old new
+    JudgedThat (Then (Times feeds (TellsLog s history) []) (λ logs. TellsRest s history logs))
+    (λ plans run. HasPlans history plans run) old new
 
 -- the run has so many entries and plans
 pub record IsCounted (counts : Counts) (run : Run) : Type 0 where
@@ -224,7 +229,8 @@ pub record IsCounted (counts : Counts) (run : Run) : Type 0 where
 
 abbrev pub HistoryOn : Setting → ℕ → ℕ → Place → Place → Result Counts Stop → Type 0
 HistoryOn s feeds entries old new =
-    JudgedThat (Then (Times entries (TellsEntry s feeds) []) (λ history. Then (Times feeds (TellsLog s history) []) (λ logs. TellsRest s history logs)))
+    JudgedThat (Then (Times entries (TellsEntry s feeds) [])
+    (λ history. Then (Times feeds (TellsLog s history) []) (λ logs. TellsRest s history logs)))
     (λ counts run. IsCounted counts run) old new
 
 abbrev pub BodyOn : Setting → Place → Place → Result Counts Stop → Type 0

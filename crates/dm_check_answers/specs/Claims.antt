@@ -26,7 +26,8 @@ IsSpelledAnswer a = IsSpelledLine a.said
 -- of each claim, where a verdict was found, it is the right one
 abbrev pub AreRightly : Setting → List Entry → List Answered → List (Option Bool) → Type 0
 AreRightly s history claims verdicts =
-    (k : ℕ) (a : Answered) → slice_get claims k ≡ Some a → IfSome (slice_index_or verdicts k None) (Tells (IsTrueClaim s history a.said (reply_of a.answer)))
+    (k : ℕ) (a : Answered) → slice_get claims k ≡ Some a →
+    IfSome (slice_index_or verdicts k None) (Tells (IsTrueClaim s history a.said (reply_of a.answer)))
 
 -- the lines of the claims are spelled, and the verdicts are right
 pub record IsKnown (s : Setting) (history : List Entry) (known : Known) : Type 0 where

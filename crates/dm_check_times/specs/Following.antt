@@ -15,7 +15,8 @@ pub record Follows (net : Net) (held : List Bool) (spans floors times : List ℕ
   pub spans_before : List ℕ
   pub floor_before : ℕ → ℕ
   pub least : IsLeast (graph_with net held_before spans_before floor_before) (slice_index times)
-  pub floors_kept : (e : ℕ) → e < length net.events → is_marked stale e ≡ false → (floor_before e ≤ slice_index floors e) ⊎ (floor_before e < slice_index times e)
+  pub floors_kept : (e : ℕ) → e < length net.events → is_marked stale e ≡ false → (floor_before e ≤ slice_index floors e)
+      ⊎ (floor_before e < slice_index times e)
   pub above : (e : ℕ) → e < length net.events → is_marked stale e ≡ false → slice_index floors e ≤ slice_index times e
   pub held_kept : (a : ℕ) → Binds (arcs_of net (is_held held_before)) a → is_marked stale (activity_at net a).head ≡ false →
       slice_index times (activity_at net a).head ≤ slice_index times (activity_at net a).tail + slice_index spans_before a →

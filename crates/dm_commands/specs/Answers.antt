@@ -37,7 +37,8 @@ WantsAll (Journey asked) = Unit {0}
 abbrev pub IsBadFor : Query → Net → RowsValue → ℕ → List ℕ → ℕ → BadKind → Type 0
 IsBadFor query net start penalty bytes line Form = IsFrontFault net start penalty bytes rule.Form line
 IsBadFor query net start penalty bytes line Entry = IsFrontFault net start penalty bytes rule.Entry line
-IsBadFor query net start penalty bytes line Truncated = WantsAll query × TellsJournal net start penalty (at_start bytes) (Err (unended line))
+IsBadFor query net start penalty bytes line Truncated = WantsAll query
+    × TellsJournal net start penalty (at_start bytes) (Err (unended line))
 IsBadFor query net start penalty bytes line _ = ⊥
 
 -- the text tells this line bad
@@ -74,7 +75,8 @@ IsAnswerAt query net start penalty bytes _ text = ⊥
 
 -- The text is due to what the words ask of a journal, over the network and the rows at the start of the files and at the penalty of
 -- the words.
-pub record IsAnswerFor (told : Told) (end_boards : Option Run → Type 0) (words : List (List ℕ)) (status : Status) (text : List ℕ) : Type 0 where
+pub record IsAnswerFor (told : Told) (end_boards : Option Run → Type 0) (words : List (List ℕ)) (status : Status)
+    (text : List ℕ) : Type 0 where
   pub asked : QueryAsked
   pub is_asked : Asks words (QueryOf asked)
   pub opening : Opening

@@ -13,6 +13,7 @@ abbrev pub ShowRun : {B : Type 0} → (B → ℕ) → (B → Option (ℕ → Opt
 ShowRun place times faults is_sound old new run = AreUpSince place times faults is_sound run.net run.times run.notes old new
 
 -- of a call that ends without a run, but for want of memory, they are as before
-abbrev pub EndBoards : {B : Type 0} → (B → ℕ) → (B → Option (ℕ → Option ℕ)) → (B → ℕ) → (B → ℕ → Type 0) → List B → List B → Option Run → Type 0
+abbrev pub EndBoards : {B : Type 0} → (B → ℕ) → (B → Option (ℕ → Option ℕ)) → (B → ℕ) → (B → ℕ → Type 0) → List B → List B →
+    Option Run → Type 0
 EndBoards place times faults is_sound old new None = new ≡ old
 EndBoards place times faults is_sound old new (Some run) = ShowRun place times faults is_sound old new run

@@ -14,10 +14,11 @@ use Rattle.dm_commands.specs.declared.status.Status.TheVariants.{Ok as Well}
 use Rattle.dm_commands.specs.Commands.{AsksAbout}
 use Rattle.dm_commands.specs.Verdicts.{verdict_line, verdict_status, long_text_line, unread_text_line}
 
--- The line is the verdict on the text, over the network and the start rows of the files, at the penalty of the words and for as many
--- plans of a feed as they say: that it is good, with so many entries and plans, or the first record that breaks its rule. The status is the verdict's. The good texts are
--- exactly the spellings, in one of the versions, of true runs.
-pub record IsVerdictFor (told : Told) (end_boards : Option Run → Type 0) (words : List (List ℕ)) (status : Status) (line : List ℕ) : Type 0 where
+-- The line is the verdict on the text, over the network and the start rows of the files, at the penalty of the words and for as
+-- many plans of a feed as they say: that it is good, with so many entries and plans, or the first record that breaks its rule.
+-- The status is the verdict's. The good texts are exactly the spellings, in one of the versions, of true runs.
+pub record IsVerdictFor (told : Told) (end_boards : Option Run → Type 0) (words : List (List ℕ)) (status : Status)
+    (line : List ℕ) : Type 0 where
   pub asked : CheckAsked
   pub is_asked : Asks words (CheckOf asked)
   pub opening : Opening
@@ -44,7 +45,8 @@ pub record IsLongText (told : Told) (end_boards : Option Run → Type 0) (words 
   pub boards : end_boards None
 
 -- the text could not be opened or read: the shelf does not tell it sound
-pub record IsUnreadText (told : Told) (is_sound : List ℕ → Type 0) (end_boards : Option Run → Type 0) (words : List (List ℕ)) (line : List ℕ) : Type 0 where
+pub record IsUnreadText (told : Told) (is_sound : List ℕ → Type 0) (end_boards : Option Run → Type 0) (words : List (List ℕ))
+    (line : List ℕ) : Type 0 where
   pub files : FilesAsked
   pub text : List ℕ
   pub about : AsksAbout words files text

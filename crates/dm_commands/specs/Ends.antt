@@ -35,7 +35,8 @@ pub record IsRefusal (told : Told) (end_boards : Option Run → Type 0) (words :
   pub boards : end_boards None
 
 -- a file that the shelf does not tell sound, where nothing is refused before it
-pub record IsReadFault (told : Told) (is_sound : List ℕ → Type 0) (end_boards : Option Run → Type 0) (words : List (List ℕ)) (text : List ℕ) : Type 0 where
+pub record IsReadFault (told : Told) (is_sound : List ℕ → Type 0) (end_boards : Option Run → Type 0) (words : List (List ℕ))
+    (text : List ℕ) : Type 0 where
   pub files : FilesAsked
   pub over : AsksOver words files
   pub file : File
@@ -53,7 +54,8 @@ IsDue told is_sound end_boards words Bad text = IsVerdictFor told end_boards wor
 IsDue told is_sound end_boards words Usage text = IsUsage end_boards words text
 IsDue told is_sound end_boards words Refused text =
     IsRefusal told end_boards words text
-    ⊎ (IsLongText told end_boards words text ⊎ (IsRunOf told is_sound end_boards words Refused text ⊎ IsAnswerFor told end_boards words Refused text))
+    ⊎ (IsLongText told end_boards words text ⊎ (IsRunOf told is_sound end_boards words Refused text
+    ⊎ IsAnswerFor told end_boards words Refused text))
 IsDue told is_sound end_boards words ReadFault text =
     IsReadFault told is_sound end_boards words text
     ⊎ (IsUnreadText told is_sound end_boards words text ⊎ IsRunOf told is_sound end_boards words ReadFault text)
@@ -67,7 +69,8 @@ pub record Writes (before now : Option (List ℕ)) (P : List ℕ → Type 0) : T
   pub appended : Appends before now text
 
 -- the sink failed, and took a proper front of a text that was due
-pub record FailsToWrite {K : Type 0} (taken : K → Option (List ℕ)) (faults : K → ℕ) (before now : K) (due : Status → List ℕ → Type 0) : Type 0 where
+pub record FailsToWrite {K : Type 0} (taken : K → Option (List ℕ)) (faults : K → ℕ) (before now : K)
+    (due : Status → List ℕ → Type 0) : Type 0 where
   pub status : Status
   pub text : List ℕ
   pub is_due : due status text
@@ -80,10 +83,13 @@ pub record WantsMemory (before now : Option (List ℕ)) (words : List (List ℕ)
   pub kept : Keeps before now
 
 -- how a call ends, by its status
-abbrev pub Ends : {K : Type 0} → (K → Option (List ℕ)) → (K → ℕ) → Told → (List ℕ → Type 0) → (Option Run → Type 0) → List (List ℕ) → K → K → Status → Type 0
-Ends taken faults told is_sound end_boards words before now WriteFault = FailsToWrite taken faults before now (IsDue told is_sound end_boards words)
+abbrev pub Ends : {K : Type 0} → (K → Option (List ℕ)) → (K → ℕ) → Told → (List ℕ → Type 0) → (Option Run → Type 0) →
+    List (List ℕ) → K → K → Status → Type 0
+Ends taken faults told is_sound end_boards words before now WriteFault =
+    FailsToWrite taken faults before now (IsDue told is_sound end_boards words)
 Ends taken faults told is_sound end_boards words before now NoMemory = WantsMemory (taken before) (taken now) words
-Ends taken faults told is_sound end_boards words before now status = Writes (taken before) (taken now) (IsDue told is_sound end_boards words status)
+Ends taken faults told is_sound end_boards words before now status =
+    Writes (taken before) (taken now) (IsDue told is_sound end_boards words status)
 
 -- the text was written whole, and the status is the one of that, or the sink failed
 abbrev pub EndsAs : {K : Type 0} → (K → Option (List ℕ)) → (K → ℕ) → K → K → List ℕ → Status → Status → Type 0
@@ -131,4 +137,5 @@ pub record AreSound (is_sound : List ℕ → Type 0) (asked : RunAsked) : Type 0
 -- the shelf has each feed, with at most as many bytes as a feed may have
 abbrev pub AreShort : Told → RunAsked → Type 0
 AreShort told asked =
-    (place : ℕ) (name : List ℕ) → slice_get asked.feeds place ≡ Some name → (bytes : List ℕ) × IsHeld told name bytes × (length bytes ≤ FEED)
+    (place : ℕ) (name : List ℕ) → slice_get asked.feeds place ≡ Some name → (bytes : List ℕ) × IsHeld told name bytes
+    × (length bytes ≤ FEED)

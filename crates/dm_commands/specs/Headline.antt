@@ -9,9 +9,10 @@ use Rattle.dm_commands.specs.declared.status.Status.{Status}
 use Rattle.dm_commands.specs.Feeds.{AreLogsOf, status_of}
 
 -- The text is that of a true run, in version 2: of the network and the start rows that the words and the bytes under their
--- names determine, at the penalty of the words, with a log for each feed, which may have as many plans as the words say. The logs keep to rounds of the words' batch, the
--- status is theirs, and the boards end as those of the run.
-pub record IsRunOf (told : Told) (is_sound : List ℕ → Type 0) (end_boards : Option Run → Type 0) (words : List (List ℕ)) (status : Status) (text : List ℕ) : Type 0 where
+-- names determine, at the penalty of the words, with a log for each feed, which may have as many plans as the words say. The
+-- logs keep to rounds of the words' batch, the status is theirs, and the boards end as those of the run.
+pub record IsRunOf (told : Told) (is_sound : List ℕ → Type 0) (end_boards : Option Run → Type 0) (words : List (List ℕ))
+    (status : Status) (text : List ℕ) : Type 0 where
   pub asked : RunAsked
   pub is_asked : Asks words (RunOf asked)
   pub opening : Opening

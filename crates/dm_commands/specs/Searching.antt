@@ -26,8 +26,10 @@ pub record MaySearch (net : Net) (penalty : ℕ) (snapshot : Snapshot) (budget w
   pub few : workers ≤ WORKERS
 
 -- It may be asked for a plan of any network's rows within the limits, and gives a true one.
-pub record Searches (pre : Bor Net → ℕ → Bor Snapshot → ℕ → ℕ → Type 0) (post : Bor Net → ℕ → Bor Snapshot → ℕ → ℕ → Result Plan AllocError → Type 0) : Type 0 where
-  pub may_ask : (net : Bor Net) (penalty : ℕ) (snapshot : Bor Snapshot) (budget workers : ℕ) → MaySearch net.now penalty snapshot.now budget workers
+pub record Searches (pre : Bor Net → ℕ → Bor Snapshot → ℕ → ℕ → Type 0)
+    (post : Bor Net → ℕ → Bor Snapshot → ℕ → ℕ → Result Plan AllocError → Type 0) : Type 0 where
+  pub may_ask : (net : Bor Net) (penalty : ℕ) (snapshot : Bor Snapshot) (budget workers : ℕ) →
+      MaySearch net.now penalty snapshot.now budget workers
       → pre net penalty snapshot budget workers
   pub gives : (net : Bor Net) (penalty : ℕ) (snapshot : Bor Snapshot) (budget workers : ℕ) (given : Result Plan AllocError)
       → post net penalty snapshot budget workers given → IfOk given (FindsPlan net.now penalty snapshot.now budget)

@@ -31,7 +31,8 @@ day_desk net rows penalty plans =
     }
 
 -- The feeds, of which each may have so many plans, were answered over a server of these rows, whose table this is in the end.
-pub record AnswersDay {S : Type 0} (left : S → Option (List ℕ)) (is_sound : S → Type 0) (net : Net) (rows : RowsValue) (price plans : ℕ) (feeds : List (Option S)) (batch : ℕ) (table : TableValue) (logs : List FeedLog) : Type 0 where
+pub record AnswersDay {S : Type 0} (left : S → Option (List ℕ)) (is_sound : S → Type 0) (net : Net) (rows : RowsValue)
+    (price plans : ℕ) (feeds : List (Option S)) (batch : ℕ) (table : TableValue) (logs : List FeedLog) : Type 0 where
   pub network : table.network ≡ net
   pub start : table.start ≡ rows
   pub penalty : table.penalty ≡ price

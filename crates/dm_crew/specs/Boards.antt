@@ -9,6 +9,7 @@ use Rattle.dm_cert.specs.Runs.{AreTrueNotes}
 use Rattle.dm_publish.specs.Since.{AreUpSince}
 
 -- Boards that were these at first have been kept up, and show these times. The notes are true at so many entries.
-pub record AreShown {B : Type 0} (place : B → ℕ) (times : B → Option (ℕ → Option ℕ)) (faults : B → ℕ) (is_sound : B → ℕ → Type 0) (net : Net) (x : List ℕ) (entries : ℕ) (notes : List Note) (first now : List B) : Type 0 where
+pub record AreShown {B : Type 0} (place : B → ℕ) (times : B → Option (ℕ → Option ℕ)) (faults : B → ℕ)
+    (is_sound : B → ℕ → Type 0) (net : Net) (x : List ℕ) (entries : ℕ) (notes : List Note) (first now : List B) : Type 0 where
   pub up : AreUpSince place times faults is_sound net x notes first now
   pub noted : AreTrueNotes entries notes

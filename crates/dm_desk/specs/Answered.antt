@@ -31,7 +31,8 @@ AreTrueOf desk feed items = AreTrueAnswers desk.setting desk.seen feed [] items
 
 -- The log answers the due lines that a reader has given since its start, in order; what it holds is true of the history that
 -- the desk has seen, and has a spelling.
-pub record IsAnswered {S : Type 0} (left : S → Option (List ℕ)) (start reader : ReaderValue S) (desk : DeskValue) (feed : ℕ) (items : List LogItem) : Type 0 where
+pub record IsAnswered {S : Type 0} (left : S → Option (List ℕ)) (start reader : ReaderValue S) (desk : DeskValue) (feed : ℕ)
+    (items : List LogItem) : Type 0 where
   pub due : List DueItem
   pub given : GivesLines left start due reader
   pub answered : map due_of items ≡ due
@@ -41,13 +42,15 @@ pub record IsAnswered {S : Type 0} (left : S → Option (List ℕ)) (start reade
   pub spelled : All IsSpelledItem items
 
 -- The feed was answered so up to its stop.
-pub record IsEnded {S : Type 0} (left : S → Option (List ℕ)) (start : ReaderValue S) (desk : DeskValue) (feed : ℕ) (items : List LogItem) (stop : FeedStop) : Type 0 where
+pub record IsEnded {S : Type 0} (left : S → Option (List ℕ)) (start : ReaderValue S) (desk : DeskValue) (feed : ℕ)
+    (items : List LogItem) (stop : FeedStop) : Type 0 where
   pub reader : ReaderValue S
   pub last : ReaderValue S
   pub answered : IsAnswered left start reader desk feed items
   pub stops : StopsSo left reader last stop
 
-abbrev pub IsAnsweredUpTo : {S : Type 0} → (S → Option (List ℕ)) → ReaderValue S → ReaderValue S → DeskValue → ℕ → List LogItem → Option FeedStop → Type 0
+abbrev pub IsAnsweredUpTo : {S : Type 0} → (S → Option (List ℕ)) → ReaderValue S → ReaderValue S → DeskValue → ℕ →
+    List LogItem → Option FeedStop → Type 0
 IsAnsweredUpTo left start reader desk feed items None = IsAnswered left start reader desk feed items
 IsAnsweredUpTo left start reader desk feed items (Some stop) = IsEnded left start desk feed items stop
 
@@ -69,13 +72,15 @@ HasCause is_sound before None = Unit {0}
 HasCause is_sound before (Some stop) = stop ≡ Fault → is_sound before.source → ⊥
 
 -- The next items of a feed were answered, so many of them or all that there were up to the stop.
-pub record AnswersBatch {S : Type 0} (left : S → Option (List ℕ)) (is_sound : S → Type 0) (reader_before reader : ReaderValue S) (before now : DeskValue) (feed batch : ℕ) (items_before items : List LogItem) (stop : Option FeedStop) : Type 0 where
+pub record AnswersBatch {S : Type 0} (left : S → Option (List ℕ)) (is_sound : S → Type 0) (reader_before reader : ReaderValue S)
+    (before now : DeskValue) (feed batch : ℕ) (items_before items : List LogItem) (stop : Option FeedStop) : Type 0 where
   pub more : List LogItem
   pub behind : items ≡ items_before ++ more
   pub size : HasSize batch (length more) stop
   pub answers : AnswersMore before now more
   pub are_true : AreTrueOf now feed items
-  pub still : (start : ReaderValue S) → IsAnswered left start reader_before before feed items_before → IsAnsweredUpTo left start reader now feed items stop
+  pub still : (start : ReaderValue S) → IsAnswered left start reader_before before feed items_before →
+      IsAnsweredUpTo left start reader now feed items stop
   pub is_open : stop ≡ None → IsOpen reader
   pub cause : HasCause is_sound reader_before stop
 

@@ -22,7 +22,8 @@ pub record IsFed (bytes : List ℕ) (lines : ℕ) (desk : DeskValue) (feed : ℕ
 -- The bytes are whole lines, behind so many lines of the feed, and then so many lines were passed. Their due lines were
 -- answered between two moments of a desk, each once, in order, and none else, with entry numbers that never fall. So whatever
 -- bytes came before, what was answered of them goes on.
-pub record AnswersLines (bytes : List ℕ) (passed lines : ℕ) (before now : DeskValue) (feed : ℕ) (items_before items : List LogItem) : Type 0 where
+pub record AnswersLines (bytes : List ℕ) (passed lines : ℕ) (before now : DeskValue) (feed : ℕ)
+    (items_before items : List LogItem) : Type 0 where
   pub whole : AreWhole bytes
   pub counted : lines ≡ passed + length (lines_of bytes)
   pub more : List LogItem
@@ -35,7 +36,8 @@ pub record AnswersLines (bytes : List ℕ) (passed lines : ℕ) (before now : De
   pub still : (front : List ℕ) → IsFed front passed before feed items_before → IsFed (front ++ bytes) lines now feed items
 
 -- The first bytes of a part were answered so, up to so many due lines; fewer only where no line that ends is left.
-pub record AnswersPart (part : List ℕ) (batch passed taken lines : ℕ) (before now : DeskValue) (feed : ℕ) (items_before items : List LogItem) : Type 0 where
+pub record AnswersPart (part : List ℕ) (batch passed taken lines : ℕ) (before now : DeskValue) (feed : ℕ)
+    (items_before items : List LogItem) : Type 0 where
   pub front : List ℕ
   pub rest : List ℕ
   pub cut : part ≡ front ++ rest

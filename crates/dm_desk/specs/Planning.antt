@@ -17,7 +17,8 @@ pub record PlansFor (setting : Setting) (snapshot : Snapshot) (budget : ℕ) (pl
 
 -- A planner may be asked for a plan of rows without a cycle and of so many nodes, and gives one for what answers go by, in texts of
 -- version 2.
-pub record PlansUnder (pre : Bor Snapshot → ℕ → Type 0) (post : Bor Snapshot → ℕ → Result Plan AllocError → Type 0) (setting : Setting) : Type 0 where
+pub record PlansUnder (pre : Bor Snapshot → ℕ → Type 0) (post : Bor Snapshot → ℕ → Result Plan AllocError → Type 0)
+    (setting : Setting) : Type 0 where
   pub may_ask : (snapshot : Bor Snapshot) (budget : ℕ) → IsSized setting.net snapshot.now.rows → HasNoCycle setting.net snapshot.now.rows
       → 1 ≤ budget → budget ≤ BUDGET → pre snapshot budget
   pub gives : (snapshot : Bor Snapshot) (budget : ℕ) (given : Result Plan AllocError) → post snapshot budget given

@@ -35,20 +35,24 @@ pub record HasTimes (table : TableValue) (display : Display) : Type 0 where
   pub earlier : HasEarlierTimes table display
 
 -- the boards were kept up since these first ones, at at most so many entries, and show what was published last
-pub record AreKept {B : Type 0} (place : B → ℕ) (times : B → Option (ℕ → Option ℕ)) (faults : B → ℕ) (is_sound : B → ℕ → Type 0) (net : Net) (entries : ℕ) (display : Display) (first now : List B) : Type 0 where
+pub record AreKept {B : Type 0} (place : B → ℕ) (times : B → Option (ℕ → Option ℕ)) (faults : B → ℕ) (is_sound : B → ℕ → Type 0)
+    (net : Net) (entries : ℕ) (display : Display) (first now : List B) : Type 0 where
   pub kept : AreKeptSince place times faults is_sound net first now display.publisher.notes
   pub noted : AreTrueNotes entries display.publisher.notes
   pub last : AllShowLast place times net display.publisher.last display.publisher.notes first now
 
 -- and each that no note names shows the times of the table; the display has them only where there are boards
-pub record AreUp {B : Type 0} (place : B → ℕ) (times : B → Option (ℕ → Option ℕ)) (faults : B → ℕ) (is_sound : B → ℕ → Type 0) (table : TableValue) (display : Display) (first now : List B) : Type 0 where
+pub record AreUp {B : Type 0} (place : B → ℕ) (times : B → Option (ℕ → Option ℕ)) (faults : B → ℕ) (is_sound : B → ℕ → Type 0)
+    (table : TableValue) (display : Display) (first now : List B) : Type 0 where
   pub is_for : IsFor table.network (length now) display
   pub has : 0 < length now → HasTimes table display
   pub kept : AreKept place times faults is_sound table.network (length table.history) display first now
   pub shown : AreUpSince place times faults is_sound table.network table.times display.publisher.notes first now
 
 -- Boards that were kept up to an earlier entry since some first list are shown the times of the table, and keep their stops.
-pub record Shows {B : Type 0} (place : B → ℕ) (times : B → Option (ℕ → Option ℕ)) (faults : B → ℕ) (is_sound : B → ℕ → Type 0) (table : TableValue) (display display_now : Display) (old new : List B) : Type 0 where
-  pub up : (first : List B) (entries : ℕ) → entries ≤ length table.history → AreKept place times faults is_sound table.network entries display first old
+pub record Shows {B : Type 0} (place : B → ℕ) (times : B → Option (ℕ → Option ℕ)) (faults : B → ℕ) (is_sound : B → ℕ → Type 0)
+    (table : TableValue) (display display_now : Display) (old new : List B) : Type 0 where
+  pub up : (first : List B) (entries : ℕ) → entries ≤ length table.history →
+      AreKept place times faults is_sound table.network entries display first old
       → AreUp place times faults is_sound table display_now first new
   pub stops : map place new ≡ map place old

@@ -10,8 +10,8 @@ use Rattle.dm_rows.specs.Rows.{RowsValue}
 use Rattle.dm_rows.specs.Timetable.{floor_of}
 use Rattle.dm_priced.specs.Priced.{PricedValue, IsPriced, FollowsPrice}
 
--- The activities that bind in the relaxed problem are held, no event is fixed, floors, spans and passed events are those of the rows with the
--- path's decisions set, and the dropped changes that the path decides, or that are not free, are charged for.
+-- The activities that bind in the relaxed problem are held, no event is fixed, floors, spans and passed events are those of the
+-- rows with the path's decisions set, and the dropped changes that the path decides, or that are not free, are charged for.
 pub record Evaluates (net : Net) (rows : RowsValue) (path : List Decision) (priced : PricedValue) : Type 0 where
   pub is_priced : IsPriced net priced
   pub none_fixed : NoneFixed priced.live.fixed

@@ -81,7 +81,8 @@ answer_of (item line heard ∷ items) size = Due line heard
 
 -- The first due item that is ahead was given, and the others are ahead then. Where the reader has stopped besides, it
 -- gave the last line of a feed that is not too long.
-pub record GivesFirst {S : Type 0} (left : S → Option (List ℕ)) (before now : ReaderValue S) (rest : List ℕ) (line : ℕ) (heard : Heard) : Type 0 where
+pub record GivesFirst {S : Type 0} (left : S → Option (List ℕ)) (before now : ReaderValue S) (rest : List ℕ) (line : ℕ)
+    (heard : Heard) : Type 0 where
   pub others : List DueItem
   pub ahead : AreDueItems before.lines (lines_ahead before rest) (item line heard ∷ others)
   pub behind : List ℕ
@@ -112,7 +113,8 @@ IsDetermined before rest next =
 abbrev pub GivesInTurn : {S : Type 0} → (S → Option (List ℕ)) → ReaderValue S → List DueItem → ReaderValue S → Type 0
 GivesInTurn left before [] now = before ≡ now
 GivesInTurn left before (item line heard ∷ items) now =
-    (mid : ReaderValue _) × IfSome (left before.source) (λ rest. GivesFirst left before mid rest line heard) × GivesInTurn left mid items now
+    (mid : ReaderValue _) × IfSome (left before.source) (λ rest. GivesFirst left before mid rest line heard)
+    × GivesInTurn left mid items now
 
 -- The items that were given are the first of the feed's due items, and the others are ahead.
 pub record AreFirstOf {S : Type 0} (left : S → Option (List ℕ)) (now : ReaderValue S) (bytes : List ℕ) (items : List DueItem) : Type 0 where
@@ -156,7 +158,8 @@ pub record StopsSo {S : Type 0} (left : S → Option (List ℕ)) (before now : R
   pub again : IfSome before.stop (λ first. Stop stop ≡ Stop first)
 
 -- There are bytes of which these are the due items, up to the stop: those that the source told, where it told any.
-pub record HasFeed {S : Type 0} (left : S → Option (List ℕ)) (before : ReaderValue S) (items : List DueItem) (stop : FeedStop) : Type 0 where
+pub record HasFeed {S : Type 0} (left : S → Option (List ℕ)) (before : ReaderValue S) (items : List DueItem)
+    (stop : FeedStop) : Type 0 where
   pub bytes : List ℕ
   pub told : IfSome (left before.source) (λ rest. rest ≡ bytes)
   pub ends : EndsWith bytes items stop

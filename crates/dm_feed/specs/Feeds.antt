@@ -52,7 +52,8 @@ pub record Takes {S : Type 0} (left : S → Option (List ℕ)) (before now : Rea
 pub record IsFrontLine (text front rest : List ℕ) (left : Option (List ℕ)) : Type 0 where
   pub bytes : List ℕ
   pub unended : IsUnended bytes
-  pub cut : ((front ≡ ended bytes) × (text ≡ without_return bytes)) ⊎ ((front ≡ bytes) × (text ≡ bytes) × (0 < length bytes) × (rest ≡ []) × IsAtEnd left)
+  pub cut : ((front ≡ ended bytes) × (text ≡ without_return bytes))
+      ⊎ ((front ≡ bytes) × (text ≡ bytes) × (0 < length bytes) × (rest ≡ []) × IsAtEnd left)
 
 -- The reader goes on, or it has stopped at the end, where nothing is left.
 abbrev pub GoesOn : {S : Type 0} → (S → Option (List ℕ)) → ReaderValue S → Type 0
@@ -104,7 +105,8 @@ pub record IsTooLong {S : Type 0} (left : S → Option (List ℕ)) (before now :
   pub over : now.taken ≡ FEED + 1
 
 -- A read failed. What was taken since the last due line is blank lines, comments and the front of one line.
-pub record IsCutOff {S : Type 0} (left : S → Option (List ℕ)) (faults : S → ℕ) (is_sound : S → Type 0) (before now : ReaderValue S) : Type 0 where
+pub record IsCutOff {S : Type 0} (left : S → Option (List ℕ)) (faults : S → ℕ) (is_sound : S → Type 0)
+    (before now : ReaderValue S) : Type 0 where
   pub within : now.taken ≤ FEED
   pub given : List ℕ
   pub takes : Takes left before now given

@@ -41,25 +41,29 @@ HaveAllAhead S = (now : ReaderValue S) (bytes : List ℕ) → now.pending ≡ []
 -- what a new reader gives call after call are the first due items of its feed
 abbrev pub GiveItemsOfFeed : Type 0 → Type 0
 GiveItemsOfFeed S =
-    (left : S → Option (List ℕ)) (before now : ReaderValue S) (bytes : List ℕ) (items : List DueItem) → before.pending ≡ [] → before.taken ≡ 0 → before.lines ≡ 0 → before.stop ≡ None
+    (left : S → Option (List ℕ)) (before now : ReaderValue S) (bytes : List ℕ) (items : List DueItem) → before.pending ≡ [] →
+    before.taken ≡ 0 → before.lines ≡ 0 → before.stop ≡ None
     → left before.source ≡ Some bytes → GivesInTurn left before items now → AreFirstOf left now bytes items
 
 -- the stop behind them tells whether they are all, and the size of the feed
 abbrev pub EndAsStopped : Type 0 → Type 0
 EndAsStopped S =
-    (left : S → Option (List ℕ)) (now later : ReaderValue S) (bytes : List ℕ) (items : List DueItem) (stop : FeedStop) → AreFirstOf left now bytes items → StopsNext left now later stop → EndsWith bytes items stop
+    (left : S → Option (List ℕ)) (now later : ReaderValue S) (bytes : List ℕ) (items : List DueItem) (stop : FeedStop) →
+    AreFirstOf left now bytes items → StopsNext left now later stop → EndsWith bytes items stop
 
 -- what is given after other lines is given behind them
 abbrev pub GoOnGiving : Type 0 → Type 0
 GoOnGiving S =
-    (left : S → Option (List ℕ)) (before mid now : ReaderValue S) (items : List DueItem) (line : ℕ) (heard : Heard) → GivesLines left before items mid → mid.stop ≡ None → GivesDue left mid now line heard
+    (left : S → Option (List ℕ)) (before mid now : ReaderValue S) (items : List DueItem) (line : ℕ) (heard : Heard) →
+    GivesLines left before items mid → mid.stop ≡ None → GivesDue left mid now line heard
     → GivesLines left before (items ++ item line heard ∷ []) now
 
 -- Whatever its source tells, what a new reader gives up to its stop are the due items of some bytes, which are those that the
 -- source told.
 abbrev pub HaveFeeds : Type 0 → Type 0
 HaveFeeds S =
-    (left : S → Option (List ℕ)) (before now later : ReaderValue S) (items : List DueItem) (stop : FeedStop) → before.pending ≡ [] → before.taken ≡ 0 → before.lines ≡ 0
+    (left : S → Option (List ℕ)) (before now later : ReaderValue S) (items : List DueItem) (stop : FeedStop) →
+    before.pending ≡ [] → before.taken ≡ 0 → before.lines ≡ 0
     → before.stop ≡ None → GivesLines left before items now → StopsSo left now later stop → HasFeed left before items stop
 
 -- the due items of parts, each cut behind a line feed, are those of all bytes in one

@@ -63,7 +63,8 @@ pub record TakesPiece (old new : FollowerValue) (piece : List ℕ) (result : Res
   pub whole : OnOk result (rest ≡ [])
   pub day : SameDay old.table new.table
   pub follows : (bytes : List ℕ) → Follows old bytes → Follows new (bytes ++ front)
-  pub answers : (bytes : List ℕ) → Follows old bytes → AnswersTaken new.table.network new.table.start new.table.penalty (bytes ++ front) result
+  pub answers : (bytes : List ℕ) → Follows old bytes →
+      AnswersTaken new.table.network new.table.start new.table.penalty (bytes ++ front) result
 
 -- a line broke its rule
 abbrev pub IsFailedTail : Tail → Type 0

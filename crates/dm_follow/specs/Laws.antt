@@ -35,4 +35,5 @@ pub record IsFrontOf (start : RowsValue) (run : Run) (bytes : List ℕ) (history
 abbrev pub FrontsAreFollowed : Type 0
 FrontsAreFollowed =
     (version plans : ℕ) (start : RowsValue) (run : Run) (text front rest : List ℕ) (history : List Entry) →
-    IsTextOf version plans start run text → text ≡ front ++ rest → IsFollowed run.net start run.penalty front history → IsFrontOf start run front history
+    IsTextOf version plans start run text → text ≡ front ++ rest → IsFollowed run.net start run.penalty front history →
+    IsFrontOf start run front history

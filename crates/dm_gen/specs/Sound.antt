@@ -32,4 +32,5 @@ pub record DelaysEventOf (net : Net) (line : Line) : Type 0 where
 -- each line of the feed does, of the network that the records make
 abbrev pub FeedDelaysEvents : Type 0
 FeedDelaysEvents =
-    (number trains : ℕ) (net : Net) → 1 ≤ trains → IsMadeOf (events_of trains) (activities_of trains) net → All (DelaysEventOf net) (feed_of number trains)
+    (number trains : ℕ) (net : Net) → 1 ≤ trains → IsMadeOf (events_of trains) (activities_of trains) net →
+    All (DelaysEventOf net) (feed_of number trains)

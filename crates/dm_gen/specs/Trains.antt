@@ -21,12 +21,24 @@ stop_before train leg = 11 * (train % 8) + leg + 1
 
 abbrev pub departure : ℕ → ℕ → EventRow
 departure train leg =
-    record { id = departure_id train leg; kind = Departure; time = departure_time train leg; weight = 0; stop = record { 0 = stop_before train leg } }
+    record {
+      id = departure_id train leg;
+      kind = Departure;
+      time = departure_time train leg;
+      weight = 0;
+      stop = record { 0 = stop_before train leg };
+    }
 
 -- the train is under way for 330 seconds; ten passengers alight
 abbrev pub arrival : ℕ → ℕ → EventRow
 arrival train leg =
-    record { id = arrival_id train leg; kind = Arrival; time = departure_time train leg + 330; weight = 10000; stop = record { 0 = stop_before train leg + 1 } }
+    record {
+      id = arrival_id train leg;
+      kind = Arrival;
+      time = departure_time train leg + 330;
+      weight = 10000;
+      stop = record { 0 = stop_before train leg + 1 };
+    }
 
 abbrev pub events_of_leg : ℕ → ℕ → List EventRow
 events_of_leg train leg = departure train leg ∷ arrival train leg ∷ []

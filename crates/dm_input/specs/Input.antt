@@ -48,13 +48,15 @@ AnswersRows Reads bytes (Err TooLong) = FILE < length bytes
 AnswersRows Reads bytes (Err (Record fault)) = (length bytes ≤ FILE) × Reads bytes (Err fault)
 
 -- the file of a name
-pub record NamedAnswers {R : Type 0} (told : Told) (name : List ℕ) (Reads : List ℕ → Result (List R) FileFault → Type 0) (answer : Result (List R) FileFlaw) : Type 0 where
+pub record NamedAnswers {R : Type 0} (told : Told) (name : List ℕ) (Reads : List ℕ → Result (List R) FileFault → Type 0)
+    (answer : Result (List R) FileFlaw) : Type 0 where
   pub bytes : List ℕ
   pub held : IsHeld told name bytes
   pub answers : AnswersRows Reads bytes answer
 
 -- a file that the words may name; one with no name has no rows
-abbrev pub FileAnswers : {R : Type 0} → Told → Option (List ℕ) → (List ℕ → Result (List R) FileFault → Type 0) → Result (List R) FileFlaw → Type 0
+abbrev pub FileAnswers : {R : Type 0} → Told → Option (List ℕ) → (List ℕ → Result (List R) FileFault → Type 0) →
+    Result (List R) FileFlaw → Type 0
 FileAnswers told None Reads answer = answer ≡ Ok []
 FileAnswers told (Some name) Reads answer = NamedAnswers told name Reads answer
 
@@ -90,14 +92,16 @@ abbrev pub IsAnswer : {X : Type 0} → X → Result X InputFlaw → Type 0
 IsAnswer x answer = answer ≡ Ok x
 
 -- a file among the stages
-abbrev pub FileStage : {R : Type 0} → Told → Option (List ℕ) → File → (List ℕ → Result (List R) FileFault → Type 0) → Result (List R) InputFlaw → Type 0
+abbrev pub FileStage : {R : Type 0} → Told → Option (List ℕ) → File → (List ℕ → Result (List R) FileFault → Type 0) →
+    Result (List R) InputFlaw → Type 0
 FileStage told name file Reads answer = Raised (InFile file) (FileAnswers told name Reads) answer
 
 abbrev pub EventsAnswer : Told → FilesAsked → Result (List EventRow) InputFlaw → Type 0
 EventsAnswer told asked answer = FileStage told (file_name asked Events) Events (ReadsEvents asked.columns.events) answer
 
 abbrev pub ActivitiesAnswer : Told → FilesAsked → Result (List ActRow) InputFlaw → Type 0
-ActivitiesAnswer told asked answer = FileStage told (file_name asked Activities) Activities (ReadsActivities asked.columns.activities) answer
+ActivitiesAnswer told asked answer = FileStage told (file_name asked Activities) Activities
+    (ReadsActivities asked.columns.activities) answer
 
 abbrev pub EventDelaysAnswer : Told → FilesAsked → Result (List DelayRow) InputFlaw → Type 0
 EventDelaysAnswer told asked answer = FileStage told (file_name asked EventDelays) EventDelays ReadsDelays answer
@@ -139,9 +143,11 @@ abbrev pub PassesBefore : Told → FilesAsked → File → Type 0
 PassesBefore told asked Events = ⊤
 PassesBefore told asked Activities = (events : List EventRow) × EventsAnswer told asked (Ok events)
 PassesBefore told asked EventDelays =
-    (events : List EventRow) × EventsAnswer told asked (Ok events) × (activities : List ActRow) × ActivitiesAnswer told asked (Ok activities)
+    (events : List EventRow) × EventsAnswer told asked (Ok events) × (activities : List ActRow)
+    × ActivitiesAnswer told asked (Ok activities)
 PassesBefore told asked ActivityDelays =
-    (events : List EventRow) × EventsAnswer told asked (Ok events) × (activities : List ActRow) × ActivitiesAnswer told asked (Ok activities)
+    (events : List EventRow) × EventsAnswer told asked (Ok events) × (activities : List ActRow)
+    × ActivitiesAnswer told asked (Ok activities)
     × (delays : List DelayRow) × EventDelaysAnswer told asked (Ok delays)
 
 -- a file that the words name could not be read, where nothing is refused before it

@@ -183,14 +183,16 @@ pub record IsDelayRow (columns : List (Option Column)) (fields : List (List ℕ)
   pub delay : row.delay ≡ whole_under columns fields col.Delay
 
 -- the records and these rows, one for one
-abbrev pub AreRows : {R : Type 0} → (List (Option Column) → List (List ℕ) → R → Type 0) → List (Option Column) → List (List (List ℕ)) → List R → Type 0
+abbrev pub AreRows : {R : Type 0} → (List (Option Column) → List (List ℕ) → R → Type 0) → List (Option Column) →
+    List (List (List ℕ)) → List R → Type 0
 AreRows IsRow columns [] [] = Unit {0}
 AreRows IsRow columns [] (x ∷ xs) = ⊥
 AreRows IsRow columns (r ∷ rs) [] = ⊥
 AreRows IsRow columns (r ∷ rs) (x ∷ xs) = IsRow columns r x × AreRows IsRow columns rs xs
 
 -- the first of the records that breaks a rule; its number counts from 1
-pub record IsFirstFault (IsKnown : List ℕ → Type 0) (columns : List (Option Column)) (records : List (List (List ℕ))) (fault : FileFault) : Type 0 where
+pub record IsFirstFault (IsKnown : List ℕ → Type 0) (columns : List (Option Column)) (records : List (List (List ℕ)))
+    (fault : FileFault) : Type 0 where
   pub before : List (List (List ℕ))
   pub broken : List (List ℕ)
   pub after : List (List (List ℕ))
@@ -208,7 +210,8 @@ abbrev pub no_memory : FileFault
 no_memory = record { number = 0; kind = kind.OutOfMemory }
 
 -- what a file reads as. A byte order mark is tested before any other rule
-abbrev pub ReadsFile : {R : Type 0} → (List ℕ → Type 0) → (List (Option Column) → List (List ℕ) → R → Type 0) → List (Option Column) → List ℕ → Result (List R) FileFault → Type 0
+abbrev pub ReadsFile : {R : Type 0} → (List ℕ → Type 0) → (List (Option Column) → List (List ℕ) → R → Type 0) →
+    List (Option Column) → List ℕ → Result (List R) FileFault → Type 0
 ReadsFile IsKnown IsRow columns bytes (Ok rows) = (has_byte_order_mark bytes ≡ false) × AreRows IsRow columns (counted_records bytes) rows
 ReadsFile IsKnown IsRow columns bytes (Err fault) =
     ((has_byte_order_mark bytes ≡ true) × (fault ≡ byte_order_mark))

@@ -21,7 +21,8 @@ use Rattle.dm_lives.specs.Laws.{Holds}
 -- Each log answers the due lines of a front of what its feed had given, which ends with a line feed: each once and in order.
 pub record AllAnswer (had : List (List ℕ)) (logs : List (List LogItem)) : Type 0 where
   pub as_many : length had ≡ length logs
-  pub each : (place : ℕ) (bytes : List ℕ) (items : List LogItem) → slice_get had place ≡ Some bytes → slice_get logs place ≡ Some items → AnswersFront (Some bytes) items
+  pub each : (place : ℕ) (bytes : List ℕ) (items : List LogItem) → slice_get had place ≡ Some bytes →
+      slice_get logs place ≡ Some items → AnswersFront (Some bytes) items
 
 -- the feed has no further line that ends behind those that the first items answer
 pub record RunsOut (now : List ℕ) (items : List LogItem) (line : ℕ) : Type 0 where
@@ -38,7 +39,8 @@ pub record HasNotGrown (had now : List ℕ) (items : List LogItem) (line : ℕ) 
   pub out : IsPrefix now had → RunsOut now items line
 
 -- The text names a feed that does not give again what it had given.
-pub record IsOfLessFeed {T : Type 0} (given : T → Option (List ℕ)) (had : List (List ℕ)) (logs : List (List LogItem)) (tails : List (Tail T)) (text : List ℕ) : Type 0 where
+pub record IsOfLessFeed {T : Type 0} (given : T → Option (List ℕ)) (had : List (List ℕ)) (logs : List (List LogItem))
+    (tails : List (Tail T)) (text : List ℕ) : Type 0 where
   pub place : ℕ
   pub at_line : ℕ
   pub bytes : List ℕ
@@ -53,15 +55,19 @@ pub record IsOfLessFeed {T : Type 0} (given : T → Option (List ℕ)) (had : Li
 -- Let a crash have left a life whose last book answers what its feeds had given, and let a store hold what it left. Over that store a
 -- text that is due at the status Refused says that there is no room, or names a feed that does not give again what it had given. It is
 -- asked of no board.
-abbrev pub IsComplete : {S T : Type 0} → (S → Type 0) → (S → List ℕ) → (S → List (List ℕ)) → (S → Image → Type 0) → (S → ℕ) → (T → Option (List ℕ)) → (T → ℕ) → Type 0
+abbrev pub IsComplete : {S T : Type 0} → (S → Type 0) → (S → List ℕ) → (S → List (List ℕ)) → (S → Image → Type 0) → (S → ℕ) →
+    (T → Option (List ℕ)) → (T → ℕ) → Type 0
 IsComplete {S} {T} tells seen shown may_leave store_faults given faults =
-    (s : Setting) (first last : Book) (image : Image) (had names : List (List ℕ)) (store : List ℕ) (feeds : List (Option T)) (tails : List (Tail T)) (old new : Journal S) (text : List ℕ)
+    (s : Setting) (first last : Book) (image : Image) (had names : List (List ℕ)) (store : List ℕ) (feeds : List (Option T))
+    (tails : List (Tail T)) (old new : Journal S) (text : List ℕ)
     → s.penalty ≤ PENALTY → s.plans ≤ PLANS → length names ≤ FEEDS → length names ≡ length first.logs
     → (safe : IsSafe s first last image) → AllAnswer had last.logs → Holds tells seen shown may_leave image old.store
-    → IsDueOver tells seen shown may_leave store_faults given faults (λ net times notes. Unit {0}) names store feeds tails old new Refused s text
+    → IsDueOver tells seen shown may_leave store_faults given faults
+    (λ net times notes. Unit {0}) names store feeds tails old new Refused s text
     → (text ≡ store_line (codes "full")) ⊎ IsOfLessFeed given had safe.book.logs tails text
 
 -- Between two rounds of a watch its book answers what the feeds have given.
 abbrev pub RoundsAnswer : {T : Type 0} → (T → Option (List ℕ)) → Type 0
 RoundsAnswer {T} given =
-    (desk : DeskValue) (feeds : List (Watched T)) (had : List (List ℕ)) → IsWatching given desk feeds → map (λ watched. given watched.tail.feed) feeds ≡ map Some had → AllAnswer had (book_of desk feeds).logs
+    (desk : DeskValue) (feeds : List (Watched T)) (had : List (List ℕ)) → IsWatching given desk feeds →
+    map (λ watched. given watched.tail.feed) feeds ≡ map Some had → AllAnswer had (book_of desk feeds).logs

@@ -13,14 +13,16 @@ use Rattle.dm_serve.specs.Ends.{IsDueOver, IsFeedRefusal}
 use Rattle.dm_serve.specs.Lives.{IsSafeFrom, IsTakenUp}
 
 -- The store holds what a crash left, all of it on the disk.
-pub record Holds {S : Type 0} (tells : S → Type 0) (seen : S → List ℕ) (shown : S → List (List ℕ)) (may_leave : S → Image → Type 0) (image : Image) (store : S) : Type 0 where
+pub record Holds {S : Type 0} (tells : S → Type 0) (seen : S → List ℕ) (shown : S → List (List ℕ))
+    (may_leave : S → Image → Type 0) (image : Image) (store : S) : Type 0 where
   pub told : tells store
   pub journal : seen store ≡ image.journal
   pub replies : shown store ≡ image.shown
   pub durable : LeavesJournal (seen store) (may_leave store)
 
 -- It was taken up, with a book to which the first has grown.
-pub record GoesOnAgain {S : Type 0} (tells : S → Type 0) (seen : S → List ℕ) (shown : S → List (List ℕ)) (may_leave : S → Image → Type 0) (s : Setting) (first : Book) (store : S) : Type 0 where
+pub record GoesOnAgain {S : Type 0} (tells : S → Type 0) (seen : S → List ℕ) (shown : S → List (List ℕ))
+    (may_leave : S → Image → Type 0) (s : Setting) (first : Book) (store : S) : Type 0 where
   pub contents : List (List ℕ)
   pub book : Book
   pub taken : IsTakenUp tells seen shown may_leave s (length first.logs) store contents book
@@ -34,9 +36,13 @@ IsTakenUpAgain {S} tells seen shown may_leave =
 
 -- Where a store is taken up, a text that is due at the status Refused says that there is no room, or names a feed that has another line
 -- than was answered. It is asked of no board.
-abbrev pub IsRefusedSo : {S T : Type 0} → (S → Type 0) → (S → List ℕ) → (S → List (List ℕ)) → (S → Image → Type 0) → (S → ℕ) → (T → Option (List ℕ)) → (T → ℕ) → Type 0
+abbrev pub IsRefusedSo : {S T : Type 0} → (S → Type 0) → (S → List ℕ) → (S → List (List ℕ)) → (S → Image → Type 0) → (S → ℕ) →
+    (T → Option (List ℕ)) → (T → ℕ) → Type 0
 IsRefusedSo {S} {T} tells seen shown may_leave store_faults given faults =
-    (s : Setting) (names : List (List ℕ)) (store : List ℕ) (feeds : List (Option T)) (tails : List (Tail T)) (old new : Journal S) (contents : List (List ℕ)) (book : Book) (text : List ℕ)
-    → s.penalty ≤ PENALTY → s.plans ≤ PLANS → length names ≤ FEEDS → IsTakenUp tells seen shown may_leave s (length names) old.store contents book
-    → IsDueOver tells seen shown may_leave store_faults given faults (λ net times notes. Unit {0}) names store feeds tails old new Refused s text
+    (s : Setting) (names : List (List ℕ)) (store : List ℕ) (feeds : List (Option T)) (tails : List (Tail T))
+    (old new : Journal S) (contents : List (List ℕ)) (book : Book) (text : List ℕ)
+    → s.penalty ≤ PENALTY → s.plans ≤ PLANS → length names ≤ FEEDS →
+    IsTakenUp tells seen shown may_leave s (length names) old.store contents book
+    → IsDueOver tells seen shown may_leave store_faults given faults
+    (λ net times notes. Unit {0}) names store feeds tails old new Refused s text
     → (text ≡ store_line (codes "full")) ⊎ IsFeedRefusal tells seen shown may_leave given s (length names) tails old new text

@@ -24,5 +24,6 @@ pub record HoldsBook (s : Setting) (feeds : ℕ) (bytes : List ℕ) : Type 0 whe
 abbrev pub IsTextRefusedSo : {H : Type 0} → (H → Told) → (H → List ℕ → Type 0) → Type 0
 IsTextRefusedSo {H} files is_sound =
     (shelf : H) (asked : ServerAsked) (opening : Opening) (text : List ℕ) → IsWithin asked
-    → ((bytes : List ℕ) → IsHeld (files shelf) (journal_name asked) bytes → HoldsBook (setting_for asked opening) (length asked.run.feeds) bytes)
+    → ((bytes : List ℕ) → IsHeld (files shelf) (journal_name asked) bytes →
+    HoldsBook (setting_for asked opening) (length asked.run.feeds) bytes)
     → IsOfStore (files shelf) (is_sound shelf) asked Refused (setting_for asked opening) text → text ≡ store_line (codes "full")

@@ -45,7 +45,8 @@ Puts taken faults before now result text =
     MatchResult result (λ _. TakesAll taken faults before now text) (λ _. TakesFront taken faults before now text)
 
 -- behind what was held comes the text: the sink took the given front of that, and the page holds the rest
-pub record Gathers {K : Type 0} (taken : K → Option (List ℕ)) (faults : K → ℕ) (before now : K) (held_before held_now text : List ℕ) : Type 0 where
+pub record Gathers {K : Type 0} (taken : K → Option (List ℕ)) (faults : K → ℕ) (before now : K)
+    (held_before held_now text : List ℕ) : Type 0 where
   pub given : List ℕ
   pub is_text : held_before ++ text ≡ given ++ held_now
   pub takes : TakesAll taken faults before now given

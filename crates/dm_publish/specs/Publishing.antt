@@ -24,7 +24,8 @@ pub record IsKeptUp {B : Type 0} (place : B → ℕ) (times : B → Option (ℕ 
   -- with an earlier note it is as before
   pub left : has_note noted at ≡ true → now ≡ before
   -- without a note it shows the times of its stop and keeps all else, where it tells what it shows and showed the last times
-  pub shows : has_note noted_now at ≡ false → IsSome (times before) → ShowsLast net last (place before) (times before) → ShowsTimes net x (place now) (times now)
+  pub shows : has_note noted_now at ≡ false → IsSome (times before) → ShowsLast net last (place before) (times before) →
+      ShowsTimes net x (place now) (times now)
   pub others : has_note noted_now at ≡ false → KeepsOthers net (place now) (times before) (times now)
   -- where it told that it showed them already, it is as before
   pub quiet : IfSome (times before) (λ shown. AllStand net x (place before) shown → now ≡ before)

@@ -26,10 +26,12 @@ IsLogFor left is_sound None log = IsUnopened log
 
 -- Every feed was answered to its end over the desk, in rounds of so many lines: each log is true of what the desk has seen
 -- and has a spelling, each entry that was made is named by one item, and rounds are kept.
-pub record AnswersFeeds {S : Type 0} (left : S → Option (List ℕ)) (is_sound : S → Type 0) (feeds : List (Option S)) (batch : ℕ) (before now : DeskValue) (logs : List FeedLog) : Type 0 where
+pub record AnswersFeeds {S : Type 0} (left : S → Option (List ℕ)) (is_sound : S → Type 0) (feeds : List (Option S)) (batch : ℕ)
+    (before now : DeskValue) (logs : List FeedLog) : Type 0 where
   pub goes_on : GoesOn before now
   pub as_many : length logs ≡ length feeds
-  pub logs_for : (place : ℕ) (feed : Option S) (log : FeedLog) → slice_get feeds place ≡ Some feed → slice_get logs place ≡ Some log → IsLogFor left is_sound feed log
+  pub logs_for : (place : ℕ) (feed : Option S) (log : FeedLog) → slice_get feeds place ≡ Some feed →
+      slice_get logs place ≡ Some log → IsLogFor left is_sound feed log
   pub are_true : (place : ℕ) (log : FeedLog) → slice_get logs place ≡ Some log → IsTrueLog now.setting now.seen place log.items
   pub spelled : (place : ℕ) (log : FeedLog) → slice_get logs place ≡ Some log → IsSpelledLog log
   pub named : (n : ℕ) → count_by (names n) (all_items logs) + times n before.mine ≡ times n now.mine

@@ -36,32 +36,40 @@ use Rattle.dm_serve.specs.Served.{IsDayOf}
 -- ---- what is refused
 
 -- What the journal holds is refused: its blocks, where the store tells them, are refused for this. The store was only looked at.
-pub record IsStoreRefusal {S : Type 0} (tells : S → Type 0) (seen : S → List ℕ) (shown : S → List (List ℕ)) (may_leave : S → Image → Type 0) (s : Setting) (feeds : ℕ) (old new : Journal S) (text : List ℕ) : Type 0 where
+pub record IsStoreRefusal {S : Type 0} (tells : S → Type 0) (seen : S → List ℕ) (shown : S → List (List ℕ))
+    (may_leave : S → Image → Type 0) (s : Setting) (feeds : ℕ) (old new : Journal S) (text : List ℕ) : Type 0 where
   pub why : RestoreStop
   pub some : why ≢ NoRoom
-  pub cause : (contents : List (List ℕ)) (found : IsFound tells seen may_leave contents old.store) → RefusesBook s feeds (seen old.store) contents found.stands.end why
+  pub cause : (contents : List (List ℕ)) (found : IsFound tells seen may_leave contents old.store) →
+      RefusesBook s feeds (seen old.store) contents found.stands.end why
   pub left : (contents : List (List ℕ)) → IsFound tells seen may_leave contents old.store → IsLeft seen shown may_leave old.store new.store
   pub line : text ≡ refusal_line why
 
 -- The reply file of this number, from 1, is no front of its log in the book that the blocks hold: it holds more. The store was only
 -- looked at.
-pub record IsReplyRefusal {S : Type 0} (tells : S → Type 0) (seen : S → List ℕ) (shown : S → List (List ℕ)) (may_leave : S → Image → Type 0) (s : Setting) (feeds : ℕ) (old new : Journal S) (text : List ℕ) : Type 0 where
+pub record IsReplyRefusal {S : Type 0} (tells : S → Type 0) (seen : S → List ℕ) (shown : S → List (List ℕ))
+    (may_leave : S → Image → Type 0) (s : Setting) (feeds : ℕ) (old new : Journal S) (text : List ℕ) : Type 0 where
   pub place : ℕ
   pub within : place < feeds
-  pub cause : (contents : List (List ℕ)) (book : Book) (items : List LogItem) → IsFound tells seen may_leave contents old.store → IsRestored s feeds contents book
-      → slice_get book.logs place ≡ Some items → place < length (shown old.store) → IsPrefix (slice_index_or (shown old.store) place []) (reply_text items) → ⊥
+  pub cause : (contents : List (List ℕ)) (book : Book) (items : List LogItem) →
+      IsFound tells seen may_leave contents old.store → IsRestored s feeds contents book
+      → slice_get book.logs place ≡ Some items → place < length (shown old.store) →
+      IsPrefix (slice_index_or (shown old.store) place []) (reply_text items) → ⊥
   pub left : tells old.store → IsLeft seen shown may_leave old.store new.store
   pub line : text ≡ reply_line (place + 1)
 
 -- A feed has another line than was answered: what it has given does not go on with the log in the book that was found. The store was
 -- only looked at.
-pub record IsFeedRefusal {S T : Type 0} (tells : S → Type 0) (seen : S → List ℕ) (shown : S → List (List ℕ)) (may_leave : S → Image → Type 0) (given : T → Option (List ℕ)) (s : Setting) (feeds : ℕ) (tails : List (Tail T)) (old new : Journal S) (text : List ℕ) : Type 0 where
+pub record IsFeedRefusal {S T : Type 0} (tells : S → Type 0) (seen : S → List ℕ) (shown : S → List (List ℕ))
+    (may_leave : S → Image → Type 0) (given : T → Option (List ℕ)) (s : Setting) (feeds : ℕ) (tails : List (Tail T))
+    (old new : Journal S) (text : List ℕ) : Type 0 where
   pub place : ℕ
   pub within : place < feeds
   pub at_line : ℕ
   pub tail : Tail T
   pub stands : slice_get tails place ≡ Some tail
-  pub changed : (contents : List (List ℕ)) (first : Book) (items : List LogItem) → IsTakenUp tells seen shown may_leave s feeds old.store contents first
+  pub changed : (contents : List (List ℕ)) (first : Book) (items : List LogItem) →
+      IsTakenUp tells seen shown may_leave s feeds old.store contents first
       → slice_get first.logs place ≡ Some items → IfSome (given tail.feed) (λ bytes. DiffersAt bytes items at_line)
   pub left : tells old.store → IsLeft seen shown may_leave old.store new.store
   pub line : text ≡ feed_line (place + 1) at_line
@@ -82,8 +90,11 @@ pub record IsFullOf {T : Type 0} (given : T → Option (List ℕ)) (s : Setting)
   pub too_long : IsTooLong (length (flat_map block contents)) answered
 
 -- the journal is full
-pub record IsFull {S T : Type 0} (tells : S → Type 0) (seen : S → List ℕ) (shown : S → List (List ℕ)) (may_leave : S → Image → Type 0) (given : T → Option (List ℕ)) (s : Setting) (feeds : ℕ) (old : Journal S) (text : List ℕ) : Type 0 where
-  pub cause : (contents : List (List ℕ)) (first : Book) → IsTakenUp tells seen shown may_leave s feeds old.store contents first → IsFullOf given s first
+pub record IsFull {S T : Type 0} (tells : S → Type 0) (seen : S → List ℕ) (shown : S → List (List ℕ))
+    (may_leave : S → Image → Type 0) (given : T → Option (List ℕ)) (s : Setting) (feeds : ℕ) (old : Journal S)
+    (text : List ℕ) : Type 0 where
+  pub cause : (contents : List (List ℕ)) (first : Book) →
+      IsTakenUp tells seen shown may_leave s feeds old.store contents first → IsFullOf given s first
   pub line : text ≡ store_line (codes "full")
 
 -- ---- what cannot be opened or read
@@ -97,7 +108,8 @@ pub record HasFailed {T : Type 0} (faults : T → ℕ) (feeds : List (Option T))
   pub risen : HasRisen (faults feed) (faults tail.feed)
 
 -- a feed of this name
-pub record IsFeedFault {T : Type 0} (faults : T → ℕ) (names : List (List ℕ)) (feeds : List (Option T)) (tails : List (Tail T)) (text : List ℕ) : Type 0 where
+pub record IsFeedFault {T : Type 0} (faults : T → ℕ) (names : List (List ℕ)) (feeds : List (Option T)) (tails : List (Tail T))
+    (text : List ℕ) : Type 0 where
   pub place : ℕ
   pub name : List ℕ
   pub named : slice_get names place ≡ Some name
@@ -105,7 +117,8 @@ pub record IsFeedFault {T : Type 0} (faults : T → ℕ) (names : List (List ℕ
   pub line : text ≡ unread_line name
 
 -- The store, of which a call has failed. It was only looked at.
-pub record IsStoreFault {S : Type 0} (tells : S → Type 0) (seen : S → List ℕ) (shown : S → List (List ℕ)) (may_leave : S → Image → Type 0) (faults : S → ℕ) (store : List ℕ) (old new : Journal S) (text : List ℕ) : Type 0 where
+pub record IsStoreFault {S : Type 0} (tells : S → Type 0) (seen : S → List ℕ) (shown : S → List (List ℕ))
+    (may_leave : S → Image → Type 0) (faults : S → ℕ) (store : List ℕ) (old new : Journal S) (text : List ℕ) : Type 0 where
   pub risen : HasRisen (faults old.store) (faults new.store)
   pub left : (contents : List (List ℕ)) → IsFound tells seen may_leave contents old.store → IsLeft seen shown may_leave old.store new.store
   pub line : text ≡ unread_line store
@@ -113,7 +126,9 @@ pub record IsStoreFault {S : Type 0} (tells : S → Type 0) (seen : S → List �
 -- ---- by status
 
 -- The text that is due at a status over a network and start rows, to feeds of these names and a store of this one.
-abbrev pub IsDueOver : {S T : Type 0} → (S → Type 0) → (S → List ℕ) → (S → List (List ℕ)) → (S → Image → Type 0) → (S → ℕ) → (T → Option (List ℕ)) → (T → ℕ) → (Net → List ℕ → List Note → Type 0) → List (List ℕ) → List ℕ → List (Option T) → List (Tail T) → Journal S → Journal S → Status → Setting → List ℕ → Type 0
+abbrev pub IsDueOver : {S T : Type 0} → (S → Type 0) → (S → List ℕ) → (S → List (List ℕ)) → (S → Image → Type 0) → (S → ℕ) →
+    (T → Option (List ℕ)) → (T → ℕ) → (Net → List ℕ → List Note → Type 0) → List (List ℕ) → List ℕ → List (Option T) →
+    List (Tail T) → Journal S → Journal S → Status → Setting → List ℕ → Type 0
 IsDueOver tells seen shown may_leave store_faults given faults up names store feeds tails old new Well s text =
     IsDayOf tells seen shown may_leave given up s (length names) tails old new text
 IsDueOver tells seen shown may_leave store_faults given faults up names store feeds tails old new Refused s text =
@@ -128,7 +143,9 @@ IsDueOver tells seen shown may_leave store_faults given faults up names store fe
 IsDueOver tells seen shown may_leave store_faults given faults up names store feeds tails old new NoMemory s text = ⊥
 
 -- The text that is due at a status; a write fault and want of memory have none of their own.
-abbrev pub IsDue : {S T : Type 0} → (S → Type 0) → (S → List ℕ) → (S → List (List ℕ)) → (S → Image → Type 0) → (S → ℕ) → (T → Option (List ℕ)) → (T → ℕ) → (Net → List ℕ → List Note → Type 0) → Told → (List ℕ → Type 0) → ServerAsked → List (Option T) → List (Tail T) → Journal S → Journal S → Status → List ℕ → Type 0
+abbrev pub IsDue : {S T : Type 0} → (S → Type 0) → (S → List ℕ) → (S → List (List ℕ)) → (S → Image → Type 0) → (S → ℕ) →
+    (T → Option (List ℕ)) → (T → ℕ) → (Net → List ℕ → List Note → Type 0) → Told → (List ℕ → Type 0) → ServerAsked →
+    List (Option T) → List (Tail T) → Journal S → Journal S → Status → List ℕ → Type 0
 IsDue tells seen shown may_leave store_faults given faults up told is_sound asked feeds tails old new status text =
     IsOfFiles told is_sound asked status text
     ⊎ IsOver told asked (IsDueOver tells seen shown may_leave store_faults given faults up asked.run.feeds asked.store feeds tails old new status) text
@@ -140,13 +157,16 @@ pub record HasUnsynced {T : Type 0} (faults : T → ℕ) : Type 0 where
   pub risen : HasRisen (faults feed) (faults later)
 
 -- The sink failed so; or a call of the store has failed, or a feed could not be synced, and nothing was written to the sink.
-abbrev pub HasWriteFault : {K S T : Type 0} → (K → Option (List ℕ)) → (K → ℕ) → (S → ℕ) → (T → ℕ) → K → K → Journal S → Journal S → (Status → List ℕ → Type 0) → Type 0
+abbrev pub HasWriteFault : {K S T : Type 0} → (K → Option (List ℕ)) → (K → ℕ) → (S → ℕ) → (T → ℕ) → K → K → Journal S →
+    Journal S → (Status → List ℕ → Type 0) → Type 0
 HasWriteFault taken sink_faults store_faults faults before now old new due =
     FailsToWrite taken sink_faults before now due
     ⊎ (Keeps (taken before) (taken now) × (HasRisen (store_faults old.store) (store_faults new.store) ⊎ HasUnsynced faults))
 
 -- how a server ends, by its status
-abbrev pub Ends : {K S T : Type 0} → (K → Option (List ℕ)) → (K → ℕ) → (S → ℕ) → (T → ℕ) → (Status → List ℕ → Type 0) → K → K → Journal S → Journal S → Status → Type 0
-Ends taken sink_faults store_faults faults due before now old new WriteFault = HasWriteFault taken sink_faults store_faults faults before now old new due
+abbrev pub Ends : {K S T : Type 0} → (K → Option (List ℕ)) → (K → ℕ) → (S → ℕ) → (T → ℕ) → (Status → List ℕ → Type 0) → K → K →
+    Journal S → Journal S → Status → Type 0
+Ends taken sink_faults store_faults faults due before now old new WriteFault =
+    HasWriteFault taken sink_faults store_faults faults before now old new due
 Ends taken sink_faults store_faults faults due before now old new NoMemory = Keeps (taken before) (taken now)
 Ends taken sink_faults store_faults faults due before now old new status = Writes (taken before) (taken now) (due status)

@@ -12,7 +12,8 @@ use Rattle.dm_store_text.specs.Asked.{setting_for}
 
 -- nothing was read of the feeds that could be opened
 abbrev pub NothingIsRead : {T : Type 0} → (T → Option (List ℕ)) → List (Option T) → Type 0
-NothingIsRead {T} given feeds = (place : ℕ) (feed : T) → slice_get feeds place ≡ Some (Some feed) → IfSome (given feed) (λ bytes. bytes ≡ [])
+NothingIsRead {T} given feeds = (place : ℕ) (feed : T) → slice_get feeds place ≡ Some (Some feed) →
+    IfSome (given feed) (λ bytes. bytes ≡ [])
 
 -- The store was found with these blocks on the disk, and an end that a crash may leave. They hold this true book, of so many feeds, and
 -- what was shown is a front of its logs. So it is after a crash of an earlier life, and where nothing was served yet.
@@ -35,18 +36,22 @@ pub record IsSafeFrom (s : Setting) (first : Book) (image : Image) : Type 0 wher
   pub safe : IsSafe s first last image
 
 -- Whatever true book was found, a crash at any moment since left one that it grew to.
-abbrev pub KeepsBooks : {S : Type 0} → (S → Type 0) → (S → List ℕ) → (S → List (List ℕ)) → (S → Image → Type 0) → (S → ℕ) → (S → ℕ → Image → Type 0) → Setting → ℕ → S → S → Type 0
+abbrev pub KeepsBooks : {S : Type 0} → (S → Type 0) → (S → List ℕ) → (S → List (List ℕ)) → (S → Image → Type 0) → (S → ℕ) →
+    (S → ℕ → Image → Type 0) → Setting → ℕ → S → S → Type 0
 KeepsBooks tells seen shown may_leave moment left_since s feeds old new =
-    (contents : List (List ℕ)) (first : Book) → IsTakenUp tells seen shown may_leave s feeds old contents first → LeavesOnly moment left_since old new (IsSafeFrom s first)
+    (contents : List (List ℕ)) (first : Book) → IsTakenUp tells seen shown may_leave s feeds old contents first →
+    LeavesOnly moment left_since old new (IsSafeFrom s first)
 
 -- The files under the names of the words determine a network and start rows, over which books are kept.
-pub record KeepsBooksOver {S : Type 0} (tells : S → Type 0) (seen : S → List ℕ) (shown : S → List (List ℕ)) (may_leave : S → Image → Type 0) (moment : S → ℕ) (left_since : S → ℕ → Image → Type 0)
+pub record KeepsBooksOver {S : Type 0} (tells : S → Type 0) (seen : S → List ℕ) (shown : S → List (List ℕ))
+    (may_leave : S → Image → Type 0) (moment : S → ℕ) (left_since : S → ℕ → Image → Type 0)
     (told : Told) (asked : ServerAsked) (old new : S) : Type 0 where
   pub opening : Opening
   pub opens : OpeningAnswer told asked.run.files (Ok opening)
   pub keeps : KeepsBooks tells seen shown may_leave moment left_since (setting_for asked opening) (length asked.run.feeds) old new
 
 -- Nothing was done to the store, or it was taken up and books are kept.
-abbrev pub LivesSafely : {S : Type 0} → (S → Type 0) → (S → List ℕ) → (S → List (List ℕ)) → (S → Image → Type 0) → (S → ℕ) → (S → ℕ → Image → Type 0) → Told → ServerAsked → Journal S → Journal S → Type 0
+abbrev pub LivesSafely : {S : Type 0} → (S → Type 0) → (S → List ℕ) → (S → List (List ℕ)) → (S → Image → Type 0) → (S → ℕ) →
+    (S → ℕ → Image → Type 0) → Told → ServerAsked → Journal S → Journal S → Type 0
 LivesSafely tells seen shown may_leave moment left_since told asked old new =
     (new ≡ old) ⊎ KeepsBooksOver tells seen shown may_leave moment left_since told asked old.store new.store

@@ -24,11 +24,13 @@ pub record GoesOnFrom {S : Type 0} (tells : S → Type 0) (seen : S → List ℕ
   pub grows : IsFrontBook first (book_of_run run)
   pub settled : HaveSettled tells seen shown may_leave s (map (λ log. log.items) run.logs) journal
 
--- The text is that of a true run, in version 2, of a network and start rows, with a log for each feed. Each log answers the due lines of
--- a front of what its feed has given, which ends with a line feed, each once and in order. Boards that no note names are up with its times. The
--- run goes on from what was found in the store.
-pub record IsDayOf {S T : Type 0} (tells : S → Type 0) (seen : S → List ℕ) (shown : S → List (List ℕ)) (may_leave : S → Image → Type 0) (given : T → Option (List ℕ))
-    (up : Net → List ℕ → List Note → Type 0) (s : Setting) (feeds : ℕ) (tails : List (Tail T)) (old new : Journal S) (text : List ℕ) : Type 0 where
+-- The text is that of a true run, in version 2, of a network and start rows, with a log for each feed. Each log answers the due
+-- lines of a front of what its feed has given, which ends with a line feed, each once and in order. Boards that no note names
+-- are up with its times. The run goes on from what was found in the store.
+pub record IsDayOf {S T : Type 0} (tells : S → Type 0) (seen : S → List ℕ) (shown : S → List (List ℕ))
+    (may_leave : S → Image → Type 0) (given : T → Option (List ℕ))
+    (up : Net → List ℕ → List Note → Type 0) (s : Setting) (feeds : ℕ) (tails : List (Tail T)) (old new : Journal S)
+    (text : List ℕ) : Type 0 where
   pub run : Run
   pub net : run.net ≡ s.net
   pub penalty : run.penalty ≡ s.penalty
@@ -36,6 +38,7 @@ pub record IsDayOf {S T : Type 0} (tells : S → Type 0) (seen : S → List ℕ)
   pub boards : up run.net run.times run.notes
   pub as_many : length run.logs ≡ feeds
   pub as_many_tails : length tails ≡ feeds
-  pub answers : (place : ℕ) (log : FeedLog) (tail : Tail T) → slice_get run.logs place ≡ Some log → slice_get tails place ≡ Some tail → AnswersFront (given tail.feed) log.items
+  pub answers : (place : ℕ) (log : FeedLog) (tail : Tail T) → slice_get run.logs place ≡ Some log →
+      slice_get tails place ≡ Some tail → AnswersFront (given tail.feed) log.items
   pub goes_on : (contents : List (List ℕ)) (first : Book) → IsTakenUp tells seen shown may_leave s feeds old.store contents first
       → GoesOnFrom tells seen shown may_leave s first run new

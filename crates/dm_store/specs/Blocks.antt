@@ -64,7 +64,8 @@ version = codes "dm-store 1\n"
 -- why the journal of these blocks and this end is left as it stands, if it is not repaired
 abbrev pub refusal : List (List ℕ) → List ℕ → Option StoreError
 refusal [] end = if is_crash_end true end then None else Some NoJournal
-refusal (first ∷ contents) end = if starts_with nat_eq first version then (if is_crash_end false end then None else Some Broken) else Some OtherVersion
+refusal (first ∷ contents) end = if starts_with nat_eq first version then
+    (if is_crash_end false end then None else Some Broken) else Some OtherVersion
 
 -- a refusal
 abbrev pub IsOfJournal : StoreError → Type 0

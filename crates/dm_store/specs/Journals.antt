@@ -13,13 +13,15 @@ abbrev pub largest_journal : ℕ
 largest_journal = 134217728
 
 -- The store tells, these blocks stand in what a read returns, and a crash leaves that: so a store is found after a start.
-pub record IsFound {S : Type 0} (tells : S → Type 0) (seen : S → List ℕ) (may_leave : S → Image → Type 0) (contents : List (List ℕ)) (store : S) : Type 0 where
+pub record IsFound {S : Type 0} (tells : S → Type 0) (seen : S → List ℕ) (may_leave : S → Image → Type 0)
+    (contents : List (List ℕ)) (store : S) : Type 0 where
   pub told : tells store
   pub stands : Stands contents (seen store)
   pub durable : LeavesJournal (seen store) (may_leave store)
 
 -- The store tells, the file is these blocks and a closed gate, all of it on the disk, and the journal knows where the gate is.
-pub record IsAtRest {S : Type 0} (tells : S → Type 0) (seen : S → List ℕ) (may_leave : S → Image → Type 0) (contents : List (List ℕ)) (journal : Journal S) : Type 0 where
+pub record IsAtRest {S : Type 0} (tells : S → Type 0) (seen : S → List ℕ) (may_leave : S → Image → Type 0)
+    (contents : List (List ℕ)) (journal : Journal S) : Type 0 where
   pub told : tells journal.store
   pub file : seen journal.store ≡ at_rest contents
   pub gate : journal.end ≡ length (flat_map block contents)

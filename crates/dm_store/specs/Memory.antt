@@ -17,7 +17,8 @@ first_image journal shown image = (image.journal ≡ journal) × (image.shown �
 abbrev pub image_of : List ℕ → List (Vec ℕ Global) → Image
 image_of journal replies = record { journal = journal; shown = map (λ reply. reply.items) replies }
 
--- What the call makes of an image; a sync leaves those whose journal is what a read returns. What a write or a cut makes of one, a crash may cut short until the next sync.
+-- What the call makes of an image; a sync leaves those whose journal is what a read returns. What a write or a cut makes of
+-- one, a crash may cut short until the next sync.
 abbrev pub step_of : Done → Image → Image → Type 0
 step_of (Wrote at bytes) = OnJournal (Torn at (length bytes.items))
 step_of (CutTo len) = OnJournal (Cut len)
@@ -57,27 +58,34 @@ counted_now journal shown calls t image le left = record {
   count = length calls;
   from = le;
   to = le_refl (length calls);
-  left = subst (λ (cs : List Done). outcomes (first_image journal shown) cs image) (sym (take_all (length calls) calls (le_refl (length calls)))) left;
+  left = subst (λ (cs : List Done). outcomes (first_image journal shown) cs image)
+      (sym (take_all (length calls) calls (le_refl (length calls)))) left;
 }
 
-pub since_now : (journal : List ℕ) (shown : List (List ℕ)) (calls : List Done) (image : Image) → LeftSince journal shown calls (length calls) image →
+pub since_now : (journal : List ℕ) (shown : List (List ℕ)) (calls : List Done) (image : Image) →
+    LeftSince journal shown calls (length calls) image →
     outcomes (first_image journal shown) calls image
-since_now journal shown calls image left = subst (λ (cs : List Done). outcomes (first_image journal shown) cs image) (take_all left.count calls left.from) left.left
+since_now journal shown calls image left =
+    subst (λ (cs : List Done). outcomes (first_image journal shown) cs image) (take_all left.count calls left.from) left.left
 
 shows_then : (call : Done) (before : Image → Type 0) (shown : List (List ℕ)) → ((image : Image) → before image → image.shown ≡ shown) →
     (image : Image) → After (step_of call) before image → image.shown ≡ shown_then call shown
 shows_then (Wrote at bytes) before shown was image left = left.stepped.same ∙ was left.from left.was
 shows_then (CutTo len) before shown was image left = left.stepped.same ∙ was left.from left.was
 shows_then (Synced journal) before shown was image left = ap (λ (i : Image). i.shown) left.stepped.0 ∙ was left.from left.was
-shows_then (Showed feed bytes) before shown was image left = left.stepped.showing ∙ ap (λ (s : List (List ℕ)). shown_behind s feed bytes.items) (was left.from left.was)
-shows_then (Renewed feed text) before shown was image left = left.stepped.showing ∙ ap (λ (s : List (List ℕ)). slice_set s feed text.items) (was left.from left.was)
+shows_then (Showed feed bytes) before shown was image left = left.stepped.showing
+    ∙ ap (λ (s : List (List ℕ)). shown_behind s feed bytes.items) (was left.from left.was)
+shows_then (Renewed feed text) before shown was image left = left.stepped.showing
+    ∙ ap (λ (s : List (List ℕ)). slice_set s feed text.items) (was left.from left.was)
 
 all_shows : (calls : List Done) (before : Image → Type 0) (shown : List (List ℕ)) → ((image : Image) → before image → image.shown ≡ shown) →
     (image : Image) → outcomes before calls image → image.shown ≡ shown_after shown calls
 all_shows [] before shown was image left = was image left
-all_shows (call ∷ calls) before shown was image left = all_shows calls (After (step_of call) before) (shown_then call shown) (shows_then call before shown was) image left
+all_shows (call ∷ calls) before shown was image left =
+    all_shows calls (After (step_of call) before) (shown_then call shown) (shows_then call before shown was) image left
 
-pub all_show : (journal : List ℕ) (shown : List (List ℕ)) (calls : List Done) (image : Image) → outcomes (first_image journal shown) calls image → image.shown ≡ shown_after shown calls
+pub all_show : (journal : List ℕ) (shown : List (List ℕ)) (calls : List Done) (image : Image) →
+    outcomes (first_image journal shown) calls image → image.shown ≡ shown_after shown calls
 all_show journal shown calls image left = all_shows calls (first_image journal shown) shown (λ image is. is.1) image left
 
 -- ---- what contracts see of it

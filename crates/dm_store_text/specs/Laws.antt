@@ -13,5 +13,7 @@ use Rattle.dm_restore.specs.declared.stops.RestoreStop.TheVariants.{OutOfMemory,
 -- head, nor for their form, nor as a false book.
 abbrev pub TrueBooksAreNotRefused : Type 0
 TrueBooksAreNotRefused =
-    (s : Setting) (feeds : ℕ) (file : List ℕ) (contents : List (List ℕ)) (end : List ℕ) (book : Book) (why : RestoreStop) → s.penalty ≤ PENALTY → s.plans ≤ PLANS → feeds ≤ FEEDS
-    → IsRestored s feeds contents book → refusal contents end ≡ None → RefusesBook s feeds file contents end why → (why ≡ OutOfMemory) ⊎ (why ≡ Full)
+    (s : Setting) (feeds : ℕ) (file : List ℕ) (contents : List (List ℕ)) (end : List ℕ) (book : Book) (why : RestoreStop) →
+    s.penalty ≤ PENALTY → s.plans ≤ PLANS → feeds ≤ FEEDS
+    → IsRestored s feeds contents book → refusal contents end ≡ None → RefusesBook s feeds file contents end why →
+    (why ≡ OutOfMemory) ⊎ (why ≡ Full)

@@ -23,7 +23,8 @@ EndsAs taken faults before now text status result =
 -- files stopped it
 abbrev pub EndsFiles : {K : Type 0} → (K → Option (List ℕ)) → (K → ℕ) → FilesAsked → InputStop → K → K → Status → Type 0
 EndsFiles taken faults files (stop.Refused flaw) before now result = EndsAs taken faults before now (refused_line files flaw) Refused result
-EndsFiles taken faults files (stop.ReadFault file) before now result = EndsAs taken faults before now (read_fault_line files file) ReadFault result
+EndsFiles taken faults files (stop.ReadFault file) before now result =
+    EndsAs taken faults before now (read_fault_line files file) ReadFault result
 EndsFiles taken faults files stop.NoMemory before now result = (now ≡ before) × (result ≡ NoMemory)
 
 -- a text for which P holds was appended
@@ -33,7 +34,8 @@ pub record Writes (before now : Option (List ℕ)) (P : List ℕ → Type 0) : T
   pub appended : Appends before now text
 
 -- the sink failed, and took a proper front of a text that was due
-pub record FailsToWrite {K : Type 0} (taken : K → Option (List ℕ)) (faults : K → ℕ) (before now : K) (due : Status → List ℕ → Type 0) : Type 0 where
+pub record FailsToWrite {K : Type 0} (taken : K → Option (List ℕ)) (faults : K → ℕ) (before now : K)
+    (due : Status → List ℕ → Type 0) : Type 0 where
   pub status : Status
   pub text : List ℕ
   pub is_due : due status text

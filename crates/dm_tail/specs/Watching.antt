@@ -31,7 +31,8 @@ pub record Takes {T : Type 0} (given : T → Option (List ℕ)) (before now : Ta
 abbrev pub HasCause : {T : Type 0} → (T → ℕ) → Tail T → Tail T → Option FeedStop → Type 0
 HasCause faults before now None = Unit {0}
 HasCause faults before now (Some stop) =
-    (before.stop ≡ Some stop) ⊎ ((stop ≡ Fault) × HasRisen (faults before.feed) (faults now.feed)) ⊎ ((stop ≡ Long) × (largest_feed ≤ now.taken))
+    (before.stop ≡ Some stop) ⊎ ((stop ≡ Fault) × HasRisen (faults before.feed) (faults now.feed))
+    ⊎ ((stop ≡ Long) × (largest_feed ≤ now.taken))
 
 -- no line that ends is pending unless the tail says that one may be
 abbrev pub KnowsLines : {T : Type 0} → Tail T → Type 0
@@ -53,7 +54,8 @@ pub record IsWatched {T : Type 0} (given : T → Option (List ℕ)) (desk : Desk
 
 -- The next due lines of the feed of this number were answered, so many at most, between two moments of a desk; fewer only where no
 -- line that ends is left.
-pub record Answers {T : Type 0} (given : T → Option (List ℕ)) (batch : ℕ) (desk_before desk : DeskValue) (number : ℕ) (before now : Watched T) : Type 0 where
+pub record Answers {T : Type 0} (given : T → Option (List ℕ)) (batch : ℕ) (desk_before desk : DeskValue) (number : ℕ)
+    (before now : Watched T) : Type 0 where
   pub more : List LogItem
   pub behind : now.log.items ≡ before.log.items ++ more
   pub few : length more ≤ batch

@@ -55,7 +55,8 @@ Demands rule fault value place (Ok (v, next)) = rule × (v ≡ value) × (next �
 Demands rule fault value place (Err f) = (rule → ⊥) × (f ≡ fault)
 
 -- So many steps, one behind the other, each told what came of those before it. The value is the list of them all.
-abbrev pub Times : {V F : Type 0} → ℕ → (List V → Place → Result (V × Place) F → Type 0) → List V → Place → Result (List V × Place) F → Type 0
+abbrev pub Times : {V F : Type 0} → ℕ → (List V → Place → Result (V × Place) F → Type 0) → List V → Place →
+    Result (List V × Place) F → Type 0
 Times zero step before place answer = Gives before place answer
 Times (suc n) step before place answer = Then (step before) (λ v. Times n step (before ++ v ∷ [])) place answer
 

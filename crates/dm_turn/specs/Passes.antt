@@ -9,8 +9,8 @@ pub record TurnValue : Type 0 where
   pub id : TableId
   pub seats : ℕ
 
--- The turn of a pass, the base of the state that the turn was made with, and how many entries this state had then; whether the pass holds the
--- state; its room; the history that it has seen; and its own entries, with their numbers
+-- The turn of a pass, the base of the state that the turn was made with, and how many entries this state had then; whether the
+-- pass holds the state; its room; the history that it has seen; and its own entries, with their numbers
 pub record PassValue (B : Type 0) : Type 0 where
   pub turn : TableId
   pub base : Option B

@@ -46,7 +46,8 @@ pub record GoesRound {T : Type 0} (given : T → Option (List ℕ)) (before now 
 
 -- In a round a book grew to another. A crash at any moment of it leaves a true book between the two. At Ok the other is that of the
 -- watch; the journal has it, and it is shown.
-pub record Rounds {S T : Type 0} (tells : S → Type 0) (seen : S → List ℕ) (shown : S → List (List ℕ)) (may_leave : S → Image → Type 0) (moment : S → ℕ) (left_since : S → ℕ → Image → Type 0)
+pub record Rounds {S T : Type 0} (tells : S → Type 0) (seen : S → List ℕ) (shown : S → List (List ℕ))
+    (may_leave : S → Image → Type 0) (moment : S → ℕ) (left_since : S → ℕ → Image → Type 0)
     (s : Setting) (before : Book) (old new : Journal S) (result : Result (Watch T × Bool) RoundStop) : Type 0 where
   pub after : Book
   pub grows : IsFrontBook before after

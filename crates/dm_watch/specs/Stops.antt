@@ -41,12 +41,14 @@ IsCause faults before now end feeds stop.Failed = HasRisen before now
 IsCause faults before now end feeds stop.Full = IsTooLong end feeds
 
 -- the store's count of faults never falls, and each stop has its cause
-pub record HasCauses {T R : Type 0} (faults : T → ℕ) (before now end : ℕ) (feeds : List (Watched T)) (result : Result R RoundStop) : Type 0 where
+pub record HasCauses {T R : Type 0} (faults : T → ℕ) (before now end : ℕ) (feeds : List (Watched T))
+    (result : Result R RoundStop) : Type 0 where
   pub later : before ≤ now
   pub stops : IfErr result (IsCause faults before now end feeds)
 
 -- as lines were answered, and what was answered was settled
-pub record IsCauseOfRound {T : Type 0} (given : T → Option (List ℕ)) (faults : T → ℕ) (before now end batch : ℕ) (desk : DeskValue) (feeds : List (Watched T)) (stopped : RoundStop) : Type 0 where
+pub record IsCauseOfRound {T : Type 0} (given : T → Option (List ℕ)) (faults : T → ℕ) (before now end batch : ℕ)
+    (desk : DeskValue) (feeds : List (Watched T)) (stopped : RoundStop) : Type 0 where
   pub desk_now : DeskValue
   pub answered : List (Watched T)
   pub answers : AnswersAll given batch desk desk_now feeds answered

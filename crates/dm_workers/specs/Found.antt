@@ -42,8 +42,8 @@ pub record AreKept (task : Task) (own : ℕ) (choices : List Decision) (cost : �
   pub costs : CostsWith task choices cost
   pub no_dearer : cost ≤ own
 
--- Leaves that stand apart, of which each is known, whose bounds are no less than what the kept choices cost. So is a value at which bounds may
--- have been shown; that it is the least which a worker has looked at is no part of this.
+-- Leaves that stand apart, of which each is known, whose bounds are no less than what the kept choices cost. So is a value at
+-- which bounds may have been shown; that it is the least which a worker has looked at is no part of this.
 pub record IsFound (task : GuidedTask) (own : ℕ) (leaves : List Leaf) (choices : List Decision) (cost : ℕ) : Type 0 where
   pub looked : ℕ
   pub pruned : looked < nothing_looked → cost ≤ looked
@@ -52,8 +52,8 @@ pub record IsFound (task : GuidedTask) (own : ℕ) (leaves : List Leaf) (choices
   pub shown : (c : ℕ) → IsShown cost looked c → cost ≤ c
   pub kept : AreKept task.task own choices cost
 
--- No tally of the deque is out, and however paths are weighed, what was put on it weighs what was taken: each path that was put was taken, once,
--- and the deque is empty.
+-- No tally of the deque is out, and however paths are weighed, what was put on it weighs what was taken: each path that was put
+-- was taken, once, and the deque is empty.
 pub record IsDrained (owner : TallyValue (List Decision)) : Type 0 where
   pub lent : owner.account.lent ≡ 0
   pub balance : (h : List Decision → ℕ) → sum_by h owner.account.put ≡ sum_by h owner.account.taken

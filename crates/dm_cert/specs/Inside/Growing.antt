@@ -41,7 +41,8 @@ pub record GoesOnWith (held all : List Node) (due : List (List Decision)) (leave
 -- leaves are these, no other tree has the leaves read in front.
 pub record IsGrown (read next : List Leaf) (held : List Node) (due : List (List Decision)) : Type 0 where
   pub together : (nodes : List Node) (leaves : List Leaf) → FillsDue due nodes leaves → FillsDue ([] ∷ []) (held ++ nodes) (read ++ leaves)
-  pub alone : (all : List Node) (leaves : List Leaf) → FillsDue ([] ∷ []) all (read ++ (next ++ leaves)) → GoesOnWith held all due (next ++ leaves)
+  pub alone : (all : List Node) (leaves : List Leaf) → FillsDue ([] ∷ []) all (read ++ (next ++ leaves)) →
+      GoesOnWith held all due (next ++ leaves)
 
 -- no tree has these leaves in front
 abbrev pub IsBroken : List Leaf → Type 0

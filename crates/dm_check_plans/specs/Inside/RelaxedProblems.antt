@@ -33,7 +33,8 @@ times_of problem = problem.timetable.kept.times
 
 -- the timetable has the spans and the floors of the rows, the cost its weights for what is flagged, and the times of the cost are
 -- those of the timetable but at the places of the set, where these are all that may have moved
-pub record IsCosted (net : Net) (rows : RowsValue) (flags : List Bool) (t : HeldTimetableValue) (kept : KeptCostValue) (set : PlaceSetValue) (are_all : Bool) : Type 0 where
+pub record IsCosted (net : Net) (rows : RowsValue) (flags : List Bool) (t : HeldTimetableValue) (kept : KeptCostValue)
+    (set : PlaceSetValue) (are_all : Bool) : Type 0 where
   pub timetable : IsTimetableOf net t
   pub of_rows : AreOfRows net rows t
   pub cost : IsKeptCostOf net kept

@@ -74,7 +74,8 @@ LeadsAt net i b = (b < length net.activities) × (((activity_at net b).head ≡ 
 abbrev pub IsDecided : Net → Flip → ℕ → Type 0
 IsDecided net (Keep a) b = b ≡ a
 IsDecided net (Drop a) b = b ≡ a
-IsDecided net (First p small) b = (b < length net.activities) × (((activity_at net b).tail ≡ (pair_at net p).small) ⊎ ((activity_at net b).tail ≡ (pair_at net p).large))
+IsDecided net (First p small) b = (b < length net.activities)
+    × (((activity_at net b).tail ≡ (pair_at net p).small) ⊎ ((activity_at net b).tail ≡ (pair_at net p).large))
 
 -- the event agrees with the rows now, if its floor was before the clock, and so does each whose floor has changed
 pub record MovesAt (net : Net) (rows : RowsValue) (event : ℕ) (old new : KeptTimetableValue) : Type 0 where

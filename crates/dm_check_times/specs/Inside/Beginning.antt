@@ -11,11 +11,13 @@ pub record MarksHead (net : Net) (before now : List Bool) (a : ℕ) (stale stale
   pub as_many_due : length due_after ≡ length due
   pub grows : (e : ℕ) → is_marked stale e ≡ true → is_marked stale_after e ≡ true
   pub head : (is_held now a ≡ is_held before a) ⊎ (is_marked stale_after (activity_at net a).head ≡ true)
-  pub all_due : ((e : ℕ) → is_marked stale e ≡ true → is_due due e ≡ true) → (e : ℕ) → is_marked stale_after e ≡ true → is_due due_after e ≡ true
+  pub all_due : ((e : ℕ) → is_marked stale e ≡ true → is_due due e ≡ true) → (e : ℕ) → is_marked stale_after e ≡ true →
+      is_due due_after e ≡ true
 
 -- the same of the first n activities
 pub record HasMarkedHeads (net : Net) (before now : List Bool) (n : ℕ) (stale stale_after due due_after : List Bool) : Type 0 where
   pub as_many : length stale_after ≡ length stale
   pub as_many_due : length due_after ≡ length due
   pub heads : (a : ℕ) → a < n → (is_held now a ≡ is_held before a) ⊎ (is_marked stale_after (activity_at net a).head ≡ true)
-  pub all_due : ((e : ℕ) → is_marked stale e ≡ true → is_due due e ≡ true) → (e : ℕ) → is_marked stale_after e ≡ true → is_due due_after e ≡ true
+  pub all_due : ((e : ℕ) → is_marked stale e ≡ true → is_due due e ≡ true) → (e : ℕ) → is_marked stale_after e ≡ true →
+      is_due due_after e ≡ true

@@ -59,5 +59,6 @@ pub record HasSwept (g : Graph) (n : ℕ) (old new : List ℕ) (after : List Boo
   pub met : AreMet g new after
   pub no_fall : (i : ℕ) → slice_index old i ≤ slice_index new i
   pub early : StayEarly g old new
-  pub along : (a : ℕ) → Binds g.shape a → g.shape.tail a < n → slice_index old (g.shape.tail a) + g.span a ≤ slice_index new (g.shape.head a)
+  pub along : (a : ℕ) → Binds g.shape a → g.shape.tail a < n →
+      slice_index old (g.shape.tail a) + g.span a ≤ slice_index new (g.shape.head a)
   pub cause : (e : ℕ) → e < n → is_due after e ≡ true → slice_index old e < slice_index new e

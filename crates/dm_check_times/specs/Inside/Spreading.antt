@@ -10,13 +10,16 @@ use Rattle.dm_marks.specs.Marked.{is_marked}
 abbrev pub IsClosed : Net → List Bool → List ℕ → List ℕ → List Bool → Type 0
 IsClosed net held spans times stale =
     (a : ℕ) → Binds (arcs_of net (is_held held)) a → is_marked stale (activity_at net a).tail ≡ true →
-    slice_index times (activity_at net a).head ≤ slice_index times (activity_at net a).tail + slice_index spans a → is_marked stale (activity_at net a).head ≡ true
+    slice_index times (activity_at net a).head ≤ slice_index times (activity_at net a).tail + slice_index spans a →
+    is_marked stale (activity_at net a).head ≡ true
 
 -- the same but for tails that are due, and what was stale still is
 pub record HasSpread (net : Net) (held : List Bool) (spans times : List ℕ) (before stale due : List Bool) : Type 0 where
   pub grows : (e : ℕ) → is_marked before e ≡ true → is_marked stale e ≡ true
-  pub closed : (a : ℕ) → Binds (arcs_of net (is_held held)) a → is_marked stale (activity_at net a).tail ≡ true → is_due due (activity_at net a).tail ≡ false →
-      slice_index times (activity_at net a).head ≤ slice_index times (activity_at net a).tail + slice_index spans a → is_marked stale (activity_at net a).head ≡ true
+  pub closed : (a : ℕ) → Binds (arcs_of net (is_held held)) a → is_marked stale (activity_at net a).tail ≡ true →
+      is_due due (activity_at net a).tail ≡ false →
+      slice_index times (activity_at net a).head ≤ slice_index times (activity_at net a).tail + slice_index spans a →
+      is_marked stale (activity_at net a).head ≡ true
 
 -- more events are stale, and whichever is new is due
 pub record Spreads (before after due_before due_after : List Bool) : Type 0 where
@@ -32,21 +35,27 @@ pub record SpreadsTo (event : ℕ) (before after due_before due_after : List Boo
   pub there : is_marked after event ≡ true
 
 -- the head of the activity is stale where it is held and its tail, at this time, holds it to its time
-pub record SpreadsAlong (net : Net) (held : List Bool) (spans times : List ℕ) (from a : ℕ) (before after due_before due_after : List Bool) : Type 0 where
+pub record SpreadsAlong (net : Net) (held : List Bool) (spans times : List ℕ) (from a : ℕ)
+    (before after due_before due_after : List Bool) : Type 0 where
   pub spreads : Spreads before after due_before due_after
-  pub head : IsTrue (is_held held a) → slice_index times (activity_at net a).head ≤ from + slice_index spans a → is_marked after (activity_at net a).head ≡ true
+  pub head : IsTrue (is_held held a) → slice_index times (activity_at net a).head ≤ from + slice_index spans a →
+      is_marked after (activity_at net a).head ≡ true
 
 -- the first n activities of a row out of an event have been looked at
-pub record HasSpreadTo (net : Net) (held : List Bool) (spans times : List ℕ) (from : ℕ) (row : List ℕ) (n : ℕ) (before after due_before due_after : List Bool) : Type 0 where
+pub record HasSpreadTo (net : Net) (held : List Bool) (spans times : List ℕ) (from : ℕ) (row : List ℕ) (n : ℕ)
+    (before after due_before due_after : List Bool) : Type 0 where
   pub spreads : Spreads before after due_before due_after
   pub heads : (k : ℕ) → k < n → IsTrue (is_held held (slice_index row k)) →
-      slice_index times (activity_at net (slice_index row k)).head ≤ from + slice_index spans (slice_index row k) → is_marked after (activity_at net (slice_index row k)).head ≡ true
+      slice_index times (activity_at net (slice_index row k)).head ≤ from + slice_index spans (slice_index row k) →
+      is_marked after (activity_at net (slice_index row k)).head ≡ true
 
 -- each head that the event holds to its time is stale
-pub record SpreadsFrom (net : Net) (held : List Bool) (spans times : List ℕ) (event : ℕ) (before after due_before due_after : List Bool) : Type 0 where
+pub record SpreadsFrom (net : Net) (held : List Bool) (spans times : List ℕ) (event : ℕ)
+    (before after due_before due_after : List Bool) : Type 0 where
   pub spreads : Spreads before after due_before due_after
   pub heads : (a : ℕ) → Binds (arcs_of net (is_held held)) a → (activity_at net a).tail ≡ event →
-      slice_index times (activity_at net a).head ≤ slice_index times event + slice_index spans a → is_marked after (activity_at net a).head ≡ true
+      slice_index times (activity_at net a).head ≤ slice_index times event + slice_index spans a →
+      is_marked after (activity_at net a).head ≡ true
 
 -- ---- times begun anew
 
@@ -66,18 +75,22 @@ pub record HasMarkedTailsTo (net : Net) (held : List Bool) (row : List ℕ) (n :
 pub record HasMarkedTails (net : Net) (held : List Bool) (event : ℕ) (before after : List Bool) : Type 0 where
   pub as_many : length after ≡ length before
   pub grows : (e : ℕ) → is_due before e ≡ true → is_due after e ≡ true
-  pub tails : (a : ℕ) → Binds (arcs_of net (is_held held)) a → (activity_at net a).head ≡ event → is_due after (activity_at net a).tail ≡ true
+  pub tails : (a : ℕ) → Binds (arcs_of net (is_held held)) a → (activity_at net a).head ≡ event →
+      is_due after (activity_at net a).tail ≡ true
 
 -- of the first n events the stale ones have their floors, and they and the tails that are held to them are due
-pub record HasReset (net : Net) (held : List Bool) (floors : List ℕ) (n : ℕ) (stale : List Bool) (old new : List ℕ) (due : List Bool) : Type 0 where
+pub record HasReset (net : Net) (held : List Bool) (floors : List ℕ) (n : ℕ) (stale : List Bool) (old new : List ℕ)
+    (due : List Bool) : Type 0 where
   pub as_many : length new ≡ length old
   pub there : (e : ℕ) → e < n → is_marked stale e ≡ true → slice_index new e ≡ slice_index floors e
   pub elsewhere : (e : ℕ) → (n ≤ e) ⊎ (is_marked stale e ≡ false) → slice_index new e ≡ slice_index old e
   pub due_self : (e : ℕ) → e < n → is_marked stale e ≡ true → is_due due e ≡ true
-  pub due_tails : (a : ℕ) → Binds (arcs_of net (is_held held)) a → (activity_at net a).head < n → is_marked stale (activity_at net a).head ≡ true → is_due due (activity_at net a).tail ≡ true
+  pub due_tails : (a : ℕ) → Binds (arcs_of net (is_held held)) a → (activity_at net a).head < n →
+      is_marked stale (activity_at net a).head ≡ true → is_due due (activity_at net a).tail ≡ true
 
 -- the stale events from n on are still to come
-pub record IsResetting (net : Net) (held : List Bool) (floors : List ℕ) (n : ℕ) (stale rest : List Bool) (old new : List ℕ) (due : List Bool) : Type 0 where
+pub record IsResetting (net : Net) (held : List Bool) (floors : List ℕ) (n : ℕ) (stale rest : List Bool) (old new : List ℕ)
+    (due : List Bool) : Type 0 where
   pub done : HasReset net held floors n stale old new due
   pub left : (e : ℕ) → n ≤ e → is_marked rest e ≡ is_marked stale e
   pub none : (e : ℕ) → e < n → is_marked rest e ≡ false

@@ -62,18 +62,22 @@ AreWalksIn net journeys = All (λ journey. IsWalkIn net journey.walk) journeys
 -- ---- ends
 
 -- journeys that answer the question were printed, or there was not enough memory
-pub record PrintsJourneys {K : Type 0} (taken : K → Option (List ℕ)) (faults : K → ℕ) (asked : JourneyWords) (table : TableValue) (before now : K) (result : Status) : Type 0 where
+pub record PrintsJourneys {K : Type 0} (taken : K → Option (List ℕ)) (faults : K → ℕ) (asked : JourneyWords)
+    (table : TableValue) (before now : K) (result : Status) : Type 0 where
   pub is_table : IsTable table
   pub journeys : List Journey
-  pub answer : AreJourneys table.network table.rows table.times (stop_numbered asked.from) (stop_numbered asked.to) asked.after asked.changes journeys
+  pub answer : AreJourneys table.network table.rows table.times (stop_numbered asked.from)
+      (stop_numbered asked.to) asked.after asked.changes journeys
   pub ends : EndsAs taken faults before now (journeys_text table.network journeys) Well result
 
 abbrev pub EndsTravelled : {K : Type 0} → (K → Option (List ℕ)) → (K → ℕ) → JourneyWords → TableValue → K → K → Status → Type 0
-EndsTravelled taken faults asked table before now result = PrintsJourneys taken faults asked table before now result ⊎ ((now ≡ before) × (result ≡ NoMemory))
+EndsTravelled taken faults asked table before now result = PrintsJourneys taken faults asked table before now result
+    ⊎ ((now ≡ before) × (result ≡ NoMemory))
 
 -- a plan that answers the question was printed, or that there are fewer entries than are named, or that an activity makes no choice
 -- which could be held, or there was not enough memory
-pub record PrintsOutlook {K : Type 0} (taken : K → Option (List ℕ)) (faults : K → ℕ) (asked : WindowWords) (table : TableValue) (before now : K) (result : Status) : Type 0 where
+pub record PrintsOutlook {K : Type 0} (taken : K → Option (List ℕ)) (faults : K → ℕ) (asked : WindowWords) (table : TableValue)
+    (before now : K) (result : Status) : Type 0 where
   pub is_table : IsTable table
   pub among : IfSome asked.at (λ n. n ≤ length table.history)
   pub window : Window
@@ -82,13 +86,15 @@ pub record PrintsOutlook {K : Type 0} (taken : K → Option (List ℕ)) (faults 
   pub answer : IsOutlook table.network table.start table.penalty table.history window asked.budget asked.at asked.minimal outlook
   pub ends : EndsAs taken faults before now (outlook_text window (length table.history) outlook) Well result
 
-pub record PrintsUnknown {K : Type 0} (taken : K → Option (List ℕ)) (faults : K → ℕ) (asked : WindowWords) (table : TableValue) (before now : K) (result : Status) : Type 0 where
+pub record PrintsUnknown {K : Type 0} (taken : K → Option (List ℕ)) (faults : K → ℕ) (asked : WindowWords) (table : TableValue)
+    (before now : K) (result : Status) : Type 0 where
   pub n : ℕ
   pub named : asked.at ≡ Some n
   pub above : length table.history < n
   pub ends : EndsAs taken faults before now (unknown_entry_line n) Refused result
 
-pub record PrintsNoChoice {K : Type 0} (taken : K → Option (List ℕ)) (faults : K → ℕ) (asked : WindowWords) (table : TableValue) (before now : K) (result : Status) : Type 0 where
+pub record PrintsNoChoice {K : Type 0} (taken : K → Option (List ℕ)) (faults : K → ℕ) (asked : WindowWords) (table : TableValue)
+    (before now : K) (result : Status) : Type 0 where
   pub among : IfSome asked.at (λ n. n ≤ length table.history)
   pub id : ℕ
   pub first : IsFirstWithout table.network asked.held id
@@ -101,17 +107,20 @@ EndsOutlook taken faults asked table before now result =
     ⊎ (PrintsNoChoice taken faults asked table before now result ⊎ ((now ≡ before) × (result ≡ NoMemory))))
 
 -- a comparison that answers the question was printed, or there was not enough memory
-pub record PrintsComparison {K : Type 0} (taken : K → Option (List ℕ)) (faults : K → ℕ) (asked : RulesWords) (table : TableValue) (before now : K) (result : Status) : Type 0 where
+pub record PrintsComparison {K : Type 0} (taken : K → Option (List ℕ)) (faults : K → ℕ) (asked : RulesWords)
+    (table : TableValue) (before now : K) (result : Status) : Type 0 where
   pub is_table : IsTable table
   pub compared : Comparison
   pub answer : Compares table.network table.rows table.penalty asked.budget (rule_named asked.rule) compared
   pub ends : EndsAs taken faults before now (comparison_text (rule_named asked.rule) compared) Well result
 
 abbrev pub EndsCompared : {K : Type 0} → (K → Option (List ℕ)) → (K → ℕ) → RulesWords → TableValue → K → K → Status → Type 0
-EndsCompared taken faults asked table before now result = PrintsComparison taken faults asked table before now result ⊎ ((now ≡ before) × (result ≡ NoMemory))
+EndsCompared taken faults asked table before now result = PrintsComparison taken faults asked table before now result
+    ⊎ ((now ≡ before) × (result ≡ NoMemory))
 
 -- a text that is due to the question was printed, at its status
-pub record PrintsAnswer {K : Type 0} (taken : K → Option (List ℕ)) (faults : K → ℕ) (asked : Query) (net : Net) (rows : RowsValue) (penalty : ℕ) (bytes : List ℕ) (before now : K) (result : Status) : Type 0 where
+pub record PrintsAnswer {K : Type 0} (taken : K → Option (List ℕ)) (faults : K → ℕ) (asked : Query) (net : Net)
+    (rows : RowsValue) (penalty : ℕ) (bytes : List ℕ) (before now : K) (result : Status) : Type 0 where
   pub status : Status
   pub text : List ℕ
   pub answers : IsAnswerAt asked net rows penalty bytes status text
@@ -122,14 +131,16 @@ EndsOnJournal taken faults asked net rows penalty bytes before now result =
     PrintsAnswer taken faults asked net rows penalty bytes before now result ⊎ ((now ≡ before) × (result ≡ NoMemory))
 
 -- the bytes of the text are short, and an answer to the question was printed, or there was not enough memory
-pub record AnswersText {K : Type 0} (taken : K → Option (List ℕ)) (faults : K → ℕ) (told : Told) (asked : QueryAsked) (net : Net) (rows : RowsValue) (before now : K) (result : Status) : Type 0 where
+pub record AnswersText {K : Type 0} (taken : K → Option (List ℕ)) (faults : K → ℕ) (told : Told) (asked : QueryAsked)
+    (net : Net) (rows : RowsValue) (before now : K) (result : Status) : Type 0 where
   pub bytes : List ℕ
   pub held : IsHeld told asked.text bytes
   pub short : length bytes ≤ TEXT
   pub ends : EndsOnJournal taken faults asked.query net rows asked.files.penalty bytes before now result
 
 -- how a question ends whose files make this network with these rows
-abbrev pub EndsAsked : {K : Type 0} → (K → Option (List ℕ)) → (K → ℕ) → Told → (List ℕ → Type 0) → QueryAsked → Net → RowsValue → K → K → Status → Type 0
+abbrev pub EndsAsked : {K : Type 0} → (K → Option (List ℕ)) → (K → ℕ) → Told → (List ℕ → Type 0) → QueryAsked → Net →
+    RowsValue → K → K → Status → Type 0
 EndsAsked taken faults told is_sound asked net rows before now result =
     AnswersText taken faults told asked net rows before now result
     ⊎ (((is_sound asked.text → ⊥) × EndsAs taken faults before now (unread_text_line asked.text) ReadFault result)
@@ -137,7 +148,8 @@ EndsAsked taken faults told is_sound asked net rows before now result =
     ⊎ ((now ≡ before) × (result ≡ NoMemory))))
 
 -- its files made a network with rows
-pub record EndsAtJournal {K : Type 0} (taken : K → Option (List ℕ)) (faults : K → ℕ) (told : Told) (is_sound : List ℕ → Type 0) (asked : QueryAsked) (before now : K) (result : Status) : Type 0 where
+pub record EndsAtJournal {K : Type 0} (taken : K → Option (List ℕ)) (faults : K → ℕ) (told : Told) (is_sound : List ℕ → Type 0)
+    (asked : QueryAsked) (before now : K) (result : Status) : Type 0 where
   pub opening : Opening
   pub opens : OpeningAnswer told asked.files (Ok opening)
   pub ends : EndsAsked taken faults told is_sound asked opening.net opening.rows before now result

@@ -36,25 +36,29 @@ Judges told is_sound name net rows penalty plans (Err OutOfMemory) = Unit {0}
 
 -- what is written of this, and the status
 abbrev pub EndsBy : {K : Type 0} → (K → Option (List ℕ)) → (K → ℕ) → List ℕ → Result Verdict TakeFault → K → K → Status → Type 0
-EndsBy taken faults name (Ok verdict) before now result = EndsAs taken faults before now (verdict_line verdict) (verdict_status verdict) result
+EndsBy taken faults name (Ok verdict) before now result =
+    EndsAs taken faults before now (verdict_line verdict) (verdict_status verdict) result
 EndsBy taken faults name (Err NotRead) before now result = EndsAs taken faults before now (unread_text_line name) ReadFault result
 EndsBy taken faults name (Err TooMany) before now result = EndsAs taken faults before now (long_text_line name) Refused result
 EndsBy taken faults name (Err OutOfMemory) before now result = (now ≡ before) × (result ≡ NoMemory)
 
 -- how a check ends whose files make this network with these rows
-pub record EndsJudged {K : Type 0} (taken : K → Option (List ℕ)) (faults : K → ℕ) (told : Told) (is_sound : List ℕ → Type 0) (name : List ℕ) (net : Net) (rows : RowsValue) (penalty plans : ℕ) (before now : K) (result : Status) : Type 0 where
+pub record EndsJudged {K : Type 0} (taken : K → Option (List ℕ)) (faults : K → ℕ) (told : Told) (is_sound : List ℕ → Type 0)
+    (name : List ℕ) (net : Net) (rows : RowsValue) (penalty plans : ℕ) (before now : K) (result : Status) : Type 0 where
   pub judgement : Result Verdict TakeFault
   pub judges : Judges told is_sound name net rows penalty plans judgement
   pub ends : EndsBy taken faults name judgement before now result
 
 -- its files stopped a command
-pub record EndsAtFiles {K : Type 0} (taken : K → Option (List ℕ)) (faults : K → ℕ) (told : Told) (is_sound : List ℕ → Type 0) (files : FilesAsked) (before now : K) (result : Status) : Type 0 where
+pub record EndsAtFiles {K : Type 0} (taken : K → Option (List ℕ)) (faults : K → ℕ) (told : Told) (is_sound : List ℕ → Type 0)
+    (files : FilesAsked) (before now : K) (result : Status) : Type 0 where
   pub stop : InputStop
   pub stops : StopsOpening told is_sound files stop
   pub ends : EndsStopped taken faults files stop before now result
 
 -- its files made a network with rows
-pub record EndsAtText {K : Type 0} (taken : K → Option (List ℕ)) (faults : K → ℕ) (told : Told) (is_sound : List ℕ → Type 0) (asked : CheckAsked) (before now : K) (result : Status) : Type 0 where
+pub record EndsAtText {K : Type 0} (taken : K → Option (List ℕ)) (faults : K → ℕ) (told : Told) (is_sound : List ℕ → Type 0)
+    (asked : CheckAsked) (before now : K) (result : Status) : Type 0 where
   pub opening : Opening
   pub opens : OpeningAnswer told asked.files (Ok opening)
   pub ends : EndsJudged taken faults told is_sound asked.text opening.net opening.rows asked.files.penalty asked.files.plans before now result

@@ -18,5 +18,6 @@ pub record IsDayWithin (asked : GenAsked) : Type 0 where
 -- the day's summary is printed, unless memory is wanted
 abbrev pub EndsGenerated : {K : Type 0} → (K → Option (List ℕ)) → (K → ℕ) → GenAsked → K → K → Status → Type 0
 EndsGenerated taken faults asked before now result =
-    ((summary : Summary) × IsSummaryOf asked.number asked.trains asked.penalty summary × EndsAs taken faults before now (summary_text summary) Well result)
+    ((summary : Summary) × IsSummaryOf asked.number asked.trains asked.penalty summary
+    × EndsAs taken faults before now (summary_text summary) Well result)
     ⊎ ((now ≡ before) × (result ≡ NoMemory))

@@ -78,7 +78,8 @@ IsWithin (QueryOf asked) = IsQueryWithin asked
 -- ---- feeds
 
 -- what opening a name gave: a source that has the bytes under it left, or none where the name is not told sound
-pub record IsOpenedAs {S : Type 0} (left : S → Option (List ℕ)) (source_sound : S → Type 0) (told : Told) (is_sound : List ℕ → Type 0) (name : List ℕ) (source : S) : Type 0 where
+pub record IsOpenedAs {S : Type 0} (left : S → Option (List ℕ)) (source_sound : S → Type 0) (told : Told)
+    (is_sound : List ℕ → Type 0) (name : List ℕ) (source : S) : Type 0 where
   pub held : (bytes : List ℕ) → left source ≡ Some bytes → IsHeld told name bytes
   pub untold : left source ≡ None → told ≡ None
   pub sound : is_sound name → source_sound source
@@ -88,13 +89,17 @@ IsOpened left source_sound told is_sound name (Some source) = IsOpenedAs left so
 IsOpened left source_sound told is_sound name None = is_sound name → ⊥
 
 -- the first names were opened
-pub record OpenedFirst {S : Type 0} (left : S → Option (List ℕ)) (source_sound : S → Type 0) (told : Told) (is_sound : List ℕ → Type 0) (names : List (List ℕ)) (many : ℕ) (feeds : List (Option S)) : Type 0 where
+pub record OpenedFirst {S : Type 0} (left : S → Option (List ℕ)) (source_sound : S → Type 0) (told : Told)
+    (is_sound : List ℕ → Type 0) (names : List (List ℕ)) (many : ℕ) (feeds : List (Option S)) : Type 0 where
   pub as_many : length feeds ≡ many
-  pub each : (k : ℕ) (name : List ℕ) (feed : Option S) → slice_get names k ≡ Some name → slice_get feeds k ≡ Some feed → IsOpened left source_sound told is_sound name feed
+  pub each : (k : ℕ) (name : List ℕ) (feed : Option S) → slice_get names k ≡ Some name → slice_get feeds k ≡ Some feed →
+      IsOpened left source_sound told is_sound name feed
 
-pub record AreOpened {S : Type 0} (left : S → Option (List ℕ)) (source_sound : S → Type 0) (told : Told) (is_sound : List ℕ → Type 0) (names : List (List ℕ)) (feeds : List (Option S)) : Type 0 where
+pub record AreOpened {S : Type 0} (left : S → Option (List ℕ)) (source_sound : S → Type 0) (told : Told)
+    (is_sound : List ℕ → Type 0) (names : List (List ℕ)) (feeds : List (Option S)) : Type 0 where
   pub as_many : length feeds ≡ length names
-  pub each : (k : ℕ) (name : List ℕ) (feed : Option S) → slice_get names k ≡ Some name → slice_get feeds k ≡ Some feed → IsOpened left source_sound told is_sound name feed
+  pub each : (k : ℕ) (name : List ℕ) (feed : Option S) → slice_get names k ≡ Some name → slice_get feeds k ≡ Some feed →
+      IsOpened left source_sound told is_sound name feed
 
 -- ---- runs
 
@@ -116,5 +121,6 @@ run_in table logs notes =
 -- a run that its files stopped ends so
 abbrev pub EndsStopped : {K : Type 0} → (K → Option (List ℕ)) → (K → ℕ) → FilesAsked → InputStop → K → K → Status → Type 0
 EndsStopped taken faults files (Refused flaw) before now result = EndsAs taken faults before now (refused_line files flaw) IsRefused result
-EndsStopped taken faults files (ReadFault file) before now result = EndsAs taken faults before now (read_fault_line files file) IsReadFault result
+EndsStopped taken faults files (ReadFault file) before now result =
+    EndsAs taken faults before now (read_fault_line files file) IsReadFault result
 EndsStopped taken faults files NoMemory before now result = (now ≡ before) × (result ≡ WantsMore)

@@ -24,17 +24,21 @@ pub record HasEarlierTimes (base : Base) (seen : List Entry) (display : Display)
 
 -- the boards were kept up since these first ones, and show the times after this history; the display has them only where there are
 -- boards
-pub record AreUp {B : Type 0} (place : B → ℕ) (times : B → Option (ℕ → Option ℕ)) (faults : B → ℕ) (is_sound : B → ℕ → Type 0) (base : Base) (seen : List Entry) (display : Display) (first now : List B) : Type 0 where
+pub record AreUp {B : Type 0} (place : B → ℕ) (times : B → Option (ℕ → Option ℕ)) (faults : B → ℕ) (is_sound : B → ℕ → Type 0)
+    (base : Base) (seen : List Entry) (display : Display) (first now : List B) : Type 0 where
   pub is_for : IsFor base.network (length now) display
   pub has : 0 < length now → HasTimes base seen display
   pub kept : AreKept place times faults is_sound base.network (length seen) display first now
-  pub shown : (x : List ℕ) → AreTimesAfter base seen x → AreShown place times faults is_sound base.network x (length seen) display.publisher.notes first now
+  pub shown : (x : List ℕ) → AreTimesAfter base seen x →
+      AreShown place times faults is_sound base.network x (length seen) display.publisher.notes first now
 
 -- The pass has looked at most, and boards that were kept up to an earlier entry are shown the times after the history that it
 -- has then seen.
-pub record Shows {B : Type 0} (place : B → ℕ) (times : B → Option (ℕ → Option ℕ)) (faults : B → ℕ) (is_sound : B → ℕ → Type 0) (base : Base) (before now : PassValue Base) (display display_now : Display) (old new : List B) : Type 0 where
+pub record Shows {B : Type 0} (place : B → ℕ) (times : B → Option (ℕ → Option ℕ)) (faults : B → ℕ) (is_sound : B → ℕ → Type 0)
+    (base : Base) (before now : PassValue Base) (display display_now : Display) (old new : List B) : Type 0 where
   pub looked : HasLooked before now
   pub legal : IsLegal base.network base.start now.seen
-  pub up : (first : List B) (entries : ℕ) → entries ≤ length now.seen → AreKept place times faults is_sound base.network entries display first old
+  pub up : (first : List B) (entries : ℕ) → entries ≤ length now.seen →
+      AreKept place times faults is_sound base.network entries display first old
       → AreUp place times faults is_sound base now.seen display_now first new
   pub stops : map place new ≡ map place old

@@ -27,14 +27,18 @@ pub record IsReady {S : Type 0} (turn : TableId) (plans : ℕ) (base : Base) (fe
   pub are_true : AreTrueOf (desk_of plans base pass) feed job.log.items
 
 -- the next lines were answered over the pass, or memory was wanting
-pub record IsWorked {S E : Type 0} (left : S → Option (List ℕ)) (is_sound : S → Type 0) (plans : ℕ) (base : Base) (batch feed : ℕ) (pass : PassValue Base) (job : Job S) (now : PassValue Base) (after : Job S) (answer : Result (Unit {0}) E) : Type 0 where
+pub record IsWorked {S E : Type 0} (left : S → Option (List ℕ)) (is_sound : S → Type 0) (plans : ℕ) (base : Base)
+    (batch feed : ℕ) (pass : PassValue Base) (job : Job S) (now : PassValue Base) (after : Job S)
+    (answer : Result (Unit {0}) E) : Type 0 where
   pub same : IsSamePass pass now
-  pub steps : OnOk answer (StepsFrom left is_sound job.progress job.log.items after (desk_of plans base pass) (desk_of plans base now) feed batch)
+  pub steps : OnOk answer (StepsFrom left is_sound job.progress job.log.items after (desk_of plans base pass)
+      (desk_of plans base now) feed batch)
 
 -- the next lines of each feed were answered over its pass, or memory was wanting
 abbrev pub AreWorkedEach : {S : Type 0} → (S → Option (List ℕ)) → (S → Type 0) → ℕ → Base → ℕ → List (Work S) → List (Work S) → Type 0
 AreWorkedEach {S} left is_sound plans base batch works after =
-    (k : ℕ) (w v : Work S) → slice_get works k ≡ Some w → slice_get after k ≡ Some v → (v.feed ≡ w.feed) × IsWorked left is_sound plans base batch w.feed w.pass w.job.value v.pass v.job.value v.answer
+    (k : ℕ) (w v : Work S) → slice_get works k ≡ Some w → slice_get after k ≡ Some v → (v.feed ≡ w.feed)
+    × IsWorked left is_sound plans base batch w.feed w.pass w.job.value v.pass v.job.value v.answer
 
 -- a feed that is still read
 abbrev pub is_read : {S : Type 0} → Progress S → Bool
@@ -47,7 +51,8 @@ pub record IsGathered (base : Base) (start now : PassValue Base) (passes : List 
   pub later : IsPrefix start.seen now.seen
   pub latest : All (λ pass. IsPrefix pass.seen now.seen) passes
   pub legal : IsLegal base.network base.start now.seen
-  pub mine : (n : ℕ) → times n (numbers_in now.mine) ≡ times n (numbers_in start.mine) + sum_by (λ pass. times n (numbers_in pass.mine)) passes
+  pub mine : (n : ℕ) → times n (numbers_in now.mine) ≡ times n (numbers_in start.mine) + sum_by
+      (λ pass. times n (numbers_in pass.mine)) passes
 
 -- the first pass of a server with no entries, which has all its seats
 abbrev pub first_pass : TableId → Base → ℕ → PassValue Base

@@ -22,7 +22,8 @@ pub record PassesQuiet (before now : DeskValue) (items_before items : List LogIt
   pub same_items : items ≡ items_before
 
 -- a due line was answered, and its answer put behind the log
-pub record KeepsAnswer (before now : DeskValue) (feed line : ℕ) (items_before items : List LogItem) (heard : Heard) (count : ℕ) : Type 0 where
+pub record KeepsAnswer (before now : DeskValue) (feed line : ℕ) (items_before items : List LogItem) (heard : Heard)
+    (count : ℕ) : Type 0 where
   pub one : count ≡ 1
   pub is_due : heard ≢ Blank
   pub answered : LogItem
@@ -34,7 +35,8 @@ HandlesLine before now feed line items_before items heard count =
     PassesQuiet before now items_before items heard count ⊎ KeepsAnswer before now feed line items_before items heard count
 
 -- the part was answered up to what is left of it: so many due lines
-pub record HasAnswered (part rest : List ℕ) (passed lines answered : ℕ) (before now : DeskValue) (feed : ℕ) (items_before items : List LogItem) : Type 0 where
+pub record HasAnswered (part rest : List ℕ) (passed lines answered : ℕ) (before now : DeskValue) (feed : ℕ)
+    (items_before items : List LogItem) : Type 0 where
   pub front : List ℕ
   pub cut : part ≡ front ++ rest
   pub fits : lines + length rest ≤ passed + length part

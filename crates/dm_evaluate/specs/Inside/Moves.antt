@@ -35,7 +35,8 @@ IsOnly a b = b ≡ a
 
 -- all but what is held of the headways of the pair among these activities stays, and the times
 pub record KeepsBut (net : Net) (p : ℕ) (among : ℕ → Type 0) (before after : PricedValue) : Type 0 where
-  pub same : (b : ℕ) → (is_held after.live.given.held b ≡ is_held before.live.given.held b) ⊎ (among b × ((activity_at net b).pair ≡ Some p))
+  pub same : (b : ℕ) → (is_held after.live.given.held b ≡ is_held before.live.given.held b)
+      ⊎ (among b × ((activity_at net b).pair ≡ Some p))
   pub floors : after.live.given.floors ≡ before.live.given.floors
   pub spans : after.live.given.spans ≡ before.live.given.spans
   pub times : after.live.times ≡ before.live.times

@@ -36,7 +36,8 @@ pub record Overflows {S : Type 0} (left : S → Option (List ℕ)) (before now :
   pub over : now.taken ≡ FEED + 1
 
 -- a read failed
-pub record Breaks {S : Type 0} (left : S → Option (List ℕ)) (faults : S → ℕ) (is_sound : S → Type 0) (before now : ReaderValue S) : Type 0 where
+pub record Breaks {S : Type 0} (left : S → Option (List ℕ)) (faults : S → ℕ) (is_sound : S → Type 0)
+    (before now : ReaderValue S) : Type 0 where
   pub within : now.taken ≤ FEED
   pub takes : Takes left before now []
   pub risen : HasRisen (faults before.source) (faults now.source)
@@ -93,7 +94,8 @@ pub record FindsLimit {S : Type 0} (left : S → Option (List ℕ)) (before now 
   pub stopped : now.stop ≡ Some Long
 
 -- a read failed within a line
-pub record FindsFault {S : Type 0} (left : S → Option (List ℕ)) (faults : S → ℕ) (is_sound : S → Type 0) (before now : ReaderValue S) : Type 0 where
+pub record FindsFault {S : Type 0} (left : S → Option (List ℕ)) (faults : S → ℕ) (is_sound : S → Type 0)
+    (before now : ReaderValue S) : Type 0 where
   pub within : now.taken ≤ FEED
   pub given : List ℕ
   pub takes : Takes left before now given
@@ -106,7 +108,8 @@ pub record FindsFault {S : Type 0} (left : S → Option (List ℕ)) (faults : S 
 abbrev pub ConsumesRest : {S : Type 0} → ReaderValue S → ReaderValue S → NextLine → Type 0
 ConsumesRest before now (Line heard) = ⊥
 ConsumesRest before now (Last heard) =
-    (0 < length before.pending) × (now ≡ record before { pending = []; lines = before.lines + 1; stop = Some End }) × Hears before.pending heard
+    (0 < length before.pending) × (now ≡ record before { pending = []; lines = before.lines + 1; stop = Some End })
+    × Hears before.pending heard
 ConsumesRest before now (Nothing End) = (before.pending ≡ []) × (now ≡ record before { stop = Some End })
 ConsumesRest before now (Nothing Long) = ⊥
 ConsumesRest before now (Nothing Fault) = ⊥

@@ -51,7 +51,8 @@ IsInHeader (Failed line k) = ⊥
 abbrev pub StepsHeader : ℕ → Stage → List ℕ → Option Stage → Type 0
 StepsHeader penalty stage line (Some next) =
     (header_line next ≡ header_line stage + 1)
-    × ((place behind : Place) (answer : Result (Header × Place) Halt) → IsLineAt place line behind → HeaderFrom penalty next behind answer → HeaderFrom penalty stage place answer)
+    × ((place behind : Place) (answer : Result (Header × Place) Halt) → IsLineAt place line behind →
+    HeaderFrom penalty next behind answer → HeaderFrom penalty stage place answer)
 StepsHeader penalty stage line None =
     (place behind : Place) → IsLineAt place line behind → HeaderFrom penalty stage place (Err (broken kind.Form place.line))
 
@@ -59,14 +60,17 @@ StepsHeader penalty stage line None =
 
 -- Lines of the header were read, and no entry: the history is empty, and what is told of the lines that are left, whatever comes
 -- behind the bytes, is told of the whole header.
-pub record IsAtHeader (net : Net) (start : RowsValue) (penalty : ℕ) (stage : Stage) (history : List Entry) (part bytes : List ℕ) : Type 0 where
+pub record IsAtHeader (net : Net) (start : RowsValue) (penalty : ℕ) (stage : Stage) (history : List Entry)
+    (part bytes : List ℕ) : Type 0 where
   pub none : history ≡ []
   pub last : IsLastPart bytes part
-  pub on : (more : List ℕ) (answer : Result (Header × Place) Halt) → HeaderFrom penalty stage (record { left = part ++ more; line = header_line stage }) answer →
+  pub on : (more : List ℕ) (answer : Result (Header × Place) Halt) →
+      HeaderFrom penalty stage (record { left = part ++ more; line = header_line stage }) answer →
       TellsHeader penalty (at_start (bytes ++ more)) answer
 
 -- the header stands at the front of the text, and behind it these entries, up to this place
-pub record HasEntered (net : Net) (start : RowsValue) (penalty feeds entries : ℕ) (history : List Entry) (text : List ℕ) (here : Place) : Type 0 where
+pub record HasEntered (net : Net) (start : RowsValue) (penalty feeds entries : ℕ) (history : List Entry) (text : List ℕ)
+    (here : Place) : Type 0 where
   pub behind : Place
   pub told_header : TellsHeader penalty (at_start text) (Ok (header feeds entries, behind))
   pub told : Times {F = Halt} (length history) (TellsEntry net start feeds) [] behind (Ok (history, here))
@@ -79,7 +83,8 @@ behind_entries n left = record { left = left; line = n + 5 }
 pub record IsAtEntry (net : Net) (start : RowsValue) (penalty feeds entries : ℕ) (history : List Entry) (part bytes : List ℕ) : Type 0 where
   pub within : length history ≤ entries
   pub rest : List ℕ
-  pub on : (more : List ℕ) → HasEntered net start penalty feeds entries history (bytes ++ more) (behind_entries (length history) (rest ++ more))
+  pub on : (more : List ℕ) → HasEntered net start penalty feeds entries history (bytes ++ more)
+      (behind_entries (length history) (rest ++ more))
   pub due : length history < entries → rest ≡ part
   pub last : length history < entries → IsLastPart bytes part
 
@@ -90,7 +95,8 @@ IsRuleKind kind.Entry = Unit {0}
 IsRuleKind kind.OutOfMemory = ⊥
 
 -- a line breaks its rule, and the history is that of the bytes
-pub record HasFailed (net : Net) (start : RowsValue) (penalty : ℕ) (history : List Entry) (bytes : List ℕ) (line : ℕ) (k : FollowKind) : Type 0 where
+pub record HasFailed (net : Net) (start : RowsValue) (penalty : ℕ) (history : List Entry) (bytes : List ℕ) (line : ℕ)
+    (k : FollowKind) : Type 0 where
   pub followed : IsFollowed net start penalty bytes history
   pub of_rule : IsRuleKind k
   pub fault : IsFrontFault net start penalty bytes k line
@@ -124,13 +130,15 @@ pub record IsInTurn (feeds entered : ℕ) (said : Numbered) : Type 0 where
 -- the entry is entered where nothing refuses it, and where something does none is
 pub record PostsEntry (old new : TableValue) (entry : Entry) : Type 0 where
   pub day : SameDay old new
-  pub accepted : (r : Refusal) → Refuses old.network (rows_at old.network old.start old.history (length old.history)) (length old.history) entry.message r → ⊥
+  pub accepted : (r : Refusal) → Refuses old.network (rows_at old.network old.start old.history (length old.history))
+      (length old.history) entry.message r → ⊥
   pub history : new.history ≡ old.history ++ entry ∷ []
 
 pub record PostsNone (old new : TableValue) (entry : Entry) : Type 0 where
   pub keeps : KeepsEntries old new
   pub refusal : Refusal
-  pub refused : Refuses old.network (rows_at old.network old.start old.history (length old.history)) (length old.history) entry.message refusal
+  pub refused : Refuses old.network (rows_at old.network old.start old.history (length old.history))
+      (length old.history) entry.message refusal
 
 abbrev pub Posts : TableValue → TableValue → Entry → Bool → Type 0
 Posts old new entry true = PostsEntry old new entry

@@ -160,7 +160,8 @@ pub record HasPathArcs (places : List ℕ) (walk : Walk) (last : ℕ) : Type 0 w
   pub on_path : walk.top ≤ last
   pub within : last < length walk.order.items
   pub is_event : (place : ℕ) → walk.top ≤ place → place ≤ last → slice_index walk.order.items place < length walk.next.items
-  pub is_place : (place : ℕ) → walk.top ≤ place → place ≤ last → slice_index walk.next.items (slice_index walk.order.items place) < length places
+  pub is_place : (place : ℕ) → walk.top ≤ place → place ≤ last →
+      slice_index walk.next.items (slice_index walk.order.items place) < length places
 
 -- the arcs of the path from its top to this place, in its order
 pub record ListsPathArcs (places : List ℕ) (walk : Walk) (last : ℕ) (arcs : List ℕ) : Type 0 where

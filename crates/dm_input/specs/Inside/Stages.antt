@@ -16,13 +16,15 @@ use Rattle.dm_input.specs.declared.reading.Files.{Files}
 use Rattle.dm_input.specs.Input.{Told, NamedAnswers, FileRows, Raised}
 
 -- why reading the file of a name stops: by what it answers, or because it could not be read
-abbrev pub StopsAtName : {R : Type 0} → Told → (List ℕ → Type 0) → List ℕ → File → (List ℕ → Result (List R) FileFault → Type 0) → InputStop → Type 0
+abbrev pub StopsAtName : {R : Type 0} → Told → (List ℕ → Type 0) → List ℕ → File →
+    (List ℕ → Result (List R) FileFault → Type 0) → InputStop → Type 0
 StopsAtName told is_sound name file Reads (Refused flaw) = Raised (InFile file) (NamedAnswers told name Reads) (Err flaw)
 StopsAtName told is_sound name file Reads (ReadFault at) = (at ≡ file) × (is_sound name → ⊥)
 StopsAtName told is_sound name file Reads NoMemory = Unit {0}
 
 -- the same of a file that may have no name
-abbrev pub StopsAtFile : {R : Type 0} → Told → (List ℕ → Type 0) → Option (List ℕ) → File → (List ℕ → Result (List R) FileFault → Type 0) → InputStop → Type 0
+abbrev pub StopsAtFile : {R : Type 0} → Told → (List ℕ → Type 0) → Option (List ℕ) → File →
+    (List ℕ → Result (List R) FileFault → Type 0) → InputStop → Type 0
 StopsAtFile told is_sound None file Reads stop = stop ≡ NoMemory
 StopsAtFile told is_sound (Some name) file Reads stop = StopsAtName told is_sound name file Reads stop
 

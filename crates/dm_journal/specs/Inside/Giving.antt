@@ -56,7 +56,8 @@ pub record GivesWhole (left_before left_now : Option (List ℕ)) (old new : Foll
   pub short : length bytes ≤ TEXT
   pub gives : GivesMore old None new broken bytes
 
-abbrev pub ReadsFollowing : {S : Type 0} → (S → Option (List ℕ)) → (S → Type 0) → S → S → FollowerValue → FollowerValue → Result (Option BrokenLine) TakeFault → Type 0
+abbrev pub ReadsFollowing : {S : Type 0} → (S → Option (List ℕ)) → (S → Type 0) → S → S → FollowerValue → FollowerValue →
+    Result (Option BrokenLine) TakeFault → Type 0
 ReadsFollowing left is_sound before now old new (Ok broken) = GivesWhole (left before) (left now) old new broken
 ReadsFollowing left is_sound before now old new (Err NotRead) = is_sound before → ⊥
 ReadsFollowing left is_sound before now old new (Err TooMany) = TakesCount (TEXT + 1) (left before) (left now)

@@ -67,7 +67,8 @@ number_from (Some number) columns fields column = number
 number_from None columns fields column = number_of column (text_under columns fields column)
 
 -- the kind was put, or its cell is the first of that column among those left
-abbrev pub KindFrom : {K : Type 0} → (K → List ℕ → Type 0) → Option K → List (Option Column) → List (List ℕ) → List (Option Column) → List (List ℕ) → Type 0
+abbrev pub KindFrom : {K : Type 0} → (K → List ℕ → Type 0) → Option K → List (Option Column) → List (List ℕ) →
+    List (Option Column) → List (List ℕ) → Type 0
 KindFrom Names None left rest columns fields =
     (text_under left rest col.Kind ≡ text_under columns fields col.Kind) × (has_column left col.Kind ≡ has_column columns col.Kind)
 KindFrom Names (Some kind) left rest columns fields = Names kind (text_under columns fields col.Kind)

@@ -18,7 +18,8 @@ pub record ArePlaced (events : ℕ) (ranks : List ℕ) (marks fixed placed : Lis
 pub record ArePlacedBefore (events : ℕ) (ranks : List ℕ) (marks fixed left placed : List Bool) (from : ℕ) : Type 0 where
   pub as_many : length placed ≡ events
   pub as_many_left : length left ≡ events
-  pub each : (e : ℕ) → e < events → IsLoose marks fixed e → (is_marked placed (slice_index ranks e) ≡ true) ⊎ ((from ≤ e) × (is_marked left e ≡ true))
+  pub each : (e : ℕ) → e < events → IsLoose marks fixed e → (is_marked placed (slice_index ranks e) ≡ true)
+      ⊎ ((from ≤ e) × (is_marked left e ≡ true))
   pub only : (e : ℕ) → e < events → is_marked placed (slice_index ranks e) ≡ true → IsLoose marks fixed e
   pub none_before : (e : ℕ) → e < from → is_marked left e ≡ false
   pub others : (e : ℕ) → is_marked left e ≡ true → is_marked marks e ≡ true

@@ -72,7 +72,8 @@ downward_pair a = headway_pair a a.head a.tail
 
 -- no pair comes before the one before it
 abbrev pub PairsDoNotFall : List Pair → Type 0
-PairsDoNotFall pairs = (i j : ℕ) → i ≤ j → j < length pairs → ComesBefore (slice_index_or pairs j no_pair) (slice_index_or pairs i no_pair) → ⊥
+PairsDoNotFall pairs = (i j : ℕ) → i ≤ j → j < length pairs →
+    ComesBefore (slice_index_or pairs j no_pair) (slice_index_or pairs i no_pair) → ⊥
 
 -- a pair stands in one of two lists exactly where it stands in both
 abbrev pub AreCommon : List Pair → List Pair → List Pair → Type 0
@@ -173,7 +174,8 @@ KnowsPair net a = (p : ℕ) → a.pair ≡ Some p →
 -- the event of a pair that is first at the start
 abbrev pub first_in : List Event → Pair → ℕ
 first_in events pair =
-    if nat_le (slice_index_or events pair.small no_event).time (slice_index_or events pair.large no_event).time then pair.small else pair.large
+    if nat_le (slice_index_or events pair.small no_event).time
+    (slice_index_or events pair.large no_event).time then pair.small else pair.large
 
 -- no list of activities is a cycle at the start
 abbrev pub HasNoStartCycle : Net → Type 0

@@ -34,7 +34,8 @@ pub record IsCause (net : Net) (held : List Bool) (ranks : List ℕ) (causes : L
 pub record HasReached (net : Net) (held : List Bool) (ranks : List ℕ) (low high at : ℕ) (causes : List (Option ℕ)) : Type 0 where
   pub as_many : length causes ≡ length net.events
   pub begun : is_reached causes low ≡ true
-  pub caused : (place a : ℕ) → low < place → place ≤ high → slice_index_or causes place None ≡ Some a → IsCause net held ranks causes low place a
+  pub caused : (place a : ℕ) → low < place → place ≤ high → slice_index_or causes place None ≡ Some a →
+      IsCause net held ranks causes low place a
   pub closed : (a : ℕ) → a < length net.activities → IsTrue (is_held held a) →
       low ≤ slice_index ranks (activity_at net a).tail → slice_index ranks (activity_at net a).tail < at →
       slice_index ranks (activity_at net a).tail < slice_index ranks (activity_at net a).head →

@@ -31,7 +31,8 @@ HaveFloorsFrom net rows clock given =
 
 -- each fixed event has the floor that the rows give it
 abbrev pub FloorsStay : Net → RowsValue → ConstraintsValue → List Bool → Type 0
-FloorsStay net rows given fixed = (i : ℕ) → i < length net.events → is_fixed fixed i ≡ true → slice_index given.floors i ≡ floor_of net rows i
+FloorsStay net rows given fixed = (i : ℕ) → i < length net.events → is_fixed fixed i ≡ true →
+    slice_index given.floors i ≡ floor_of net rows i
 
 -- where a change moves the clock, the floors are those of the rows at a clock
 abbrev pub FollowsAt : Net → RowsValue → Change → ℕ → ConstraintsValue → Type 0
@@ -69,7 +70,8 @@ pub record HasPlace (net : Net) (rows : RowsValue) (i : ℕ) (before after : Liv
 pub record HasPassed (net : Net) (rows : RowsValue) (i t : ℕ) (before after : LiveValue) (first last : ℕ) : Type 0 where
   pub times : after.times ≡ slice_set before.times i t
   pub marked : (e : ℕ) → is_marked after.marks e ≡ true →
-      (e ≢ i) × (((is_marked before.marks e ≡ true) ⊎ IsActiveBetween net rows i e) ⊎ (IsLetGoAt net rows before e ⊎ IsTakenUpAt net rows before e))
+      (e ≢ i) × (((is_marked before.marks e ≡ true) ⊎ IsActiveBetween net rows i e)
+      ⊎ (IsLetGoAt net rows before e ⊎ IsTakenUpAt net rows before e))
   pub stays : slice_index before.times i ≡ t → last ≡ first + 2
   pub moves : slice_index before.times i ≢ t → last ≡ first + 3
 
@@ -83,7 +85,8 @@ pub record MarksOnly (some : ℕ → Type 0) (before after : LiveValue) (first l
 abbrev pub MarksFor : Net → RowsValue → Change → LiveValue → LiveValue → ℕ → ℕ → Type 0
 MarksFor net rows (EventDelay i d) before after first last = MarksOnly (λ e. e ≡ i) before after first last
 MarksFor net rows (ActDelay a d) before after first last = MarksOnly (λ e. e ≡ (activity_at net a).head) before after first last
-MarksFor net rows (Passed i t) before after first last = (time : ℕ) → passed_at rows i ≡ Some time → HasPassed net rows i time before after first last
+MarksFor net rows (Passed i t) before after first last = (time : ℕ) → passed_at rows i ≡ Some time →
+    HasPassed net rows i time before after first last
 MarksFor net rows (Recalled i) before after first last = Unit {0}
 MarksFor net rows (Flipped flip) before after first last = Unit {0}
 MarksFor net rows (Adopted flips) before after first last = Unit {0}
@@ -92,7 +95,8 @@ MarksFor net rows (Clock t) before after first last =
 
 -- Where each activity was held as it is active or is one of these, each is held as it is active, and spans stay.
 pub record Turns (net : Net) (rows : RowsValue) (some : ℕ → Type 0) (before after : LiveValue) : Type 0 where
-  pub held : (a : ℕ) → a < length net.activities → (is_held before.given.held a ≡ is_active net rows a) ⊎ some a → is_held after.given.held a ≡ is_active net rows a
+  pub held : (a : ℕ) → a < length net.activities → (is_held before.given.held a ≡ is_active net rows a) ⊎ some a →
+      is_held after.given.held a ≡ is_active net rows a
   pub spans : after.given.spans ≡ before.given.spans
   pub cycle : after.order.cycle ≡ before.order.cycle
 
@@ -101,4 +105,5 @@ pub record IsTurnRefused (net : Net) (rows : RowsValue) (some : ℕ → Type 0) 
   pub held : (a : ℕ) → a < length net.activities → (is_held before.given.held a ≡ is_active net rows a) ⊎ some a →
       (is_held after.given.held a ≡ is_active net rows a) ⊎ some a
   pub spans : after.given.spans ≡ before.given.spans
-  pub cycle : ((a : ℕ) → a < length net.activities → (is_held before.given.held a ≡ is_active net rows a) ⊎ some a) → IsCycle net rows after.order.cycle
+  pub cycle : ((a : ℕ) → a < length net.activities → (is_held before.given.held a ≡ is_active net rows a) ⊎ some a) →
+      IsCycle net rows after.order.cycle

@@ -31,7 +31,8 @@ pub record IsSettled (net : Net) (before after : PricedValue) (first last : ℕ)
 
 -- What is lent by this name are the notes of a sweep: since it began, with this noted and with these times, it notes each event
 -- that moves.
-pub record IsNotedSince (net : Net) (name : ℕ) (noted : List Bool) (before : List ℕ) (lent : ℕ) (noted_now : List Bool) (now : List ℕ) : Type 0 where
+pub record IsNotedSince (net : Net) (name : ℕ) (noted : List Bool) (before : List ℕ) (lent : ℕ) (noted_now : List Bool)
+    (now : List ℕ) : Type 0 where
   pub same_name : lent ≡ name
   pub events : length noted ≡ length net.events
   pub takes_in : TakesInMoved noted noted_now before now

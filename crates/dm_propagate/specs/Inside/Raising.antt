@@ -24,5 +24,7 @@ pub record RaisesFloors (net : Net) (rows : RowsValue) (due : List Scheduled) (n
   pub cycle : after.order.cycle ≡ before.order.cycle
   pub floors : (i : ℕ) → IsInFront due n i → slice_index after.given.floors i ≡ floor_of net rows i
   pub others : (i : ℕ) →
-      (slice_index after.given.floors i ≡ slice_index before.given.floors i) ⊎ ((i < length net.events) × (slice_index after.given.floors i ≡ floor_of net rows i))
-  pub marked : (e : ℕ) → is_marked after.marks e ≡ true → (is_marked before.marks e ≡ true) ⊎ ((e < length net.events) × IsOffFloor net rows before e)
+      (slice_index after.given.floors i ≡ slice_index before.given.floors i)
+      ⊎ ((i < length net.events) × (slice_index after.given.floors i ≡ floor_of net rows i))
+  pub marked : (e : ℕ) → is_marked after.marks e ≡ true → (is_marked before.marks e ≡ true)
+      ⊎ ((e < length net.events) × IsOffFloor net rows before e)

@@ -27,7 +27,8 @@ pub record AreGrouped (net : Net) (listed : List Listed) : Type 0 where
 
 -- a part of a list has those that stand in it at this stop, and no others
 pub record IsPartOf (listed : List Listed) (stop : ℕ) (part : List Listed) : Type 0 where
-  pub each : (k : ℕ) (d : Listed) → k < length listed → (slice_index_or listed k d).stop.0 ≡ stop → StandsIn part (slice_index_or listed k d).place
+  pub each : (k : ℕ) (d : Listed) → k < length listed → (slice_index_or listed k d).stop.0 ≡ stop →
+      StandsIn part (slice_index_or listed k d).place
   pub within : All (λ l. Contains listed l) part
   pub of_stop : All (λ l. l.stop.0 ≡ stop) part
   pub few : length part ≤ length listed

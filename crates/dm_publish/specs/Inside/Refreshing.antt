@@ -30,9 +30,11 @@ pub record Covers (net : Net) (last x : List ℕ) (stop : ℕ) (part : List List
   pub each : (i : ℕ) → IsAtStop net stop i → StandsIn part i ⊎ HasLast last x i
 
 -- the changes that a board needs for the first k of these events: with them each has its time
-pub record Gathers (net : Net) (x : List ℕ) (stop : ℕ) (told : Option (ℕ → Option ℕ)) (part : List Listed) (k : ℕ) (changes : List (ℕ × ℕ)) : Type 0 where
+pub record Gathers (net : Net) (x : List ℕ) (stop : ℕ) (told : Option (ℕ → Option ℕ)) (part : List Listed) (k : ℕ)
+    (changes : List (ℕ × ℕ)) : Type 0 where
   pub due : All (IsDue net x stop) changes
-  pub shows : IfSome told (λ shown. (j : ℕ) → j < k → times_after shown changes (event_at net (place_at part j)).id.0 ≡ Some (time_at x (place_at part j)))
+  pub shows : IfSome told (λ shown. (j : ℕ) → j < k →
+      times_after shown changes (event_at net (place_at part j)).id.0 ≡ Some (time_at x (place_at part j)))
   pub none : IfSome told (λ shown. AllStand net x stop shown → changes ≡ [])
   pub few : length changes ≤ k
 
@@ -60,6 +62,7 @@ pub record Refreshes {B T E : Type 0} (place : B → ℕ) (times : B → Option 
   pub stays_sound : IsSoundFor net (place before) (is_sound before) → IsSoundFor net (place now) (is_sound now)
   pub succeeds : IsSoundFor net (place before) (is_sound before) → IsOk result
   pub risen : OnErr result (HasRisen (faults before) (faults now))
-  pub shows : OnOk result (IsSome (times before) → ShowsLast net last (place before) (times before) → ShowsTimes net x (place before) (times now))
+  pub shows : OnOk result (IsSome (times before) → ShowsLast net last (place before) (times before) →
+      ShowsTimes net x (place before) (times now))
   pub others : OnOk result (KeepsOthers net (place before) (times before) (times now))
   pub quiet : IfSome (times before) (λ shown. AllStand net x (place before) shown → now ≡ before)

@@ -20,11 +20,15 @@ note_of at stop entry = record { board = at + 1; stop = stop; entry = entry }
 -- a board with a note is left, another is refreshed, and where its show failed a note is made
 pub data TakesTurn {B : Type 0} (place : B → ℕ) (times : B → Option (ℕ → Option ℕ)) (faults : B → ℕ) (is_sound : B → ℕ → Type 0)
     (net : Net) (last x : List ℕ) (entry at : ℕ) (noted noted_now : List Note) (before now : B) : Type 0 where
-  is_left : has_note noted at ≡ true → noted_now ≡ noted → now ≡ before → TakesTurn place times faults is_sound net last x entry at noted noted_now before now
+  is_left : has_note noted at ≡ true → noted_now ≡ noted → now ≡ before →
+      TakesTurn place times faults is_sound net last x entry at noted noted_now before now
   is_shown : has_note noted at ≡ false → noted_now ≡ noted → (result : Result (Unit {0}) Failed) → result ≡ Ok tt →
-      Refreshes place times faults is_sound net last x before now result → TakesTurn place times faults is_sound net last x entry at noted noted_now before now
-  is_dropped : has_note noted at ≡ false → noted_now ≡ noted ++ note_of at (place before) entry ∷ [] → place before ≤ 4294967295 → (result : Result (Unit {0}) Failed) → (f : Failed) → result ≡ Err f →
-      Refreshes place times faults is_sound net last x before now result → TakesTurn place times faults is_sound net last x entry at noted noted_now before now
+      Refreshes place times faults is_sound net last x before now result →
+      TakesTurn place times faults is_sound net last x entry at noted noted_now before now
+  is_dropped : has_note noted at ≡ false → noted_now ≡ noted ++ note_of at (place before) entry ∷ [] →
+      place before ≤ 4294967295 → (result : Result (Unit {0}) Failed) → (f : Failed) → result ≡ Err f →
+      Refreshes place times faults is_sound net last x before now result →
+      TakesTurn place times faults is_sound net last x entry at noted noted_now before now
 
 -- the first k boards are kept up, and the others are as before
 pub record IsPublishedTo {B : Type 0} (place : B → ℕ) (times : B → Option (ℕ → Option ℕ)) (faults : B → ℕ) (is_sound : B → ℕ → Type 0)

@@ -54,7 +54,8 @@ pub record KeepsEntries (old new : List (Option Entry)) : Type 0 where
 pub record HasPutOne (old new : List (Option Entry)) (number : ℕ) (entry : Entry) : Type 0 where
   pub here : 0 < number → number ≤ ENTRIES → IsAt new (number - 1) entry
   pub kept : (place : ℕ) → HasAt old place → HasAt new place
-  pub none_else : (place : ℕ) (other : Entry) → IsAt new place other → IsAt old place other ⊎ ((place ≡ number - 1) × (0 < number) × (other ≡ entry))
+  pub none_else : (place : ℕ) (other : Entry) → IsAt new place other → IsAt old place other
+      ⊎ ((place ≡ number - 1) × (0 < number) × (other ≡ entry))
 
 abbrev pub HasPut : List (Option Entry) → List (Option Entry) → Option (ℕ × Entry) → Type 0
 HasPut old new None = new ≡ old
@@ -84,4 +85,5 @@ abbrev pub EntersAll : TableValue → TableValue → Entry → Bool → Type 0
 EntersAll before now entry true = now.history ≡ before.history ++ entry ∷ []
 EntersAll before now entry false =
     (now.history ≡ before.history)
-    × ((why : Refusal) × Refuses before.network (rows_at before.network before.start before.history (length before.history)) (length before.history) entry.message why)
+    × ((why : Refusal) × Refuses before.network (rows_at before.network before.start before.history (length before.history))
+    (length before.history) entry.message why)

@@ -21,13 +21,15 @@ new_reader source = record { source = source; pending = []; taken = 0; lines = 0
 -- ---- one job
 
 -- so far its log answers what its reader has given
-pub record IsReading {S : Type 0} (left : S → Option (List ℕ)) (is_sound : S → Type 0) (source : S) (reader : ReaderValue S) (desk : DeskValue) (feed : ℕ) (items : List LogItem) : Type 0 where
+pub record IsReading {S : Type 0} (left : S → Option (List ℕ)) (is_sound : S → Type 0) (source : S) (reader : ReaderValue S)
+    (desk : DeskValue) (feed : ℕ) (items : List LogItem) : Type 0 where
   pub answered : IsAnswered left (new_reader source) reader desk feed items
   pub is_open : IsOpen reader
   pub sound : is_sound source → is_sound reader.source
 
 -- its log is whole, and true of what the desk has seen
-pub record IsFinished {S : Type 0} (left : S → Option (List ℕ)) (is_sound : S → Type 0) (feed : Option S) (desk : DeskValue) (number : ℕ) (items : List LogItem) (stop : FeedStop) : Type 0 where
+pub record IsFinished {S : Type 0} (left : S → Option (List ℕ)) (is_sound : S → Type 0) (feed : Option S) (desk : DeskValue)
+    (number : ℕ) (items : List LogItem) (stop : FeedStop) : Type 0 where
   pub log_for : IsLogFor left is_sound feed (record { items = items; stop = stop })
   pub answers : AreTrueOf desk number items
   pub in_order : IsInOrder 0 0 items
@@ -48,7 +50,8 @@ progress_after reader None = Reading reader
 progress_after reader (Some stop) = Ended stop
 
 -- the next lines were answered
-pub record Advances {S : Type 0} (left : S → Option (List ℕ)) (is_sound : S → Type 0) (reader : ReaderValue S) (items : List LogItem) (after : Job S) (before now : DeskValue) (feed batch : ℕ) : Type 0 where
+pub record Advances {S : Type 0} (left : S → Option (List ℕ)) (is_sound : S → Type 0) (reader : ReaderValue S)
+    (items : List LogItem) (after : Job S) (before now : DeskValue) (feed batch : ℕ) : Type 0 where
   pub then : ReaderValue S
   pub stop : Option FeedStop
   pub answers : AnswersBatch left is_sound reader then before now feed batch items after.log.items stop
@@ -61,7 +64,8 @@ pub record Stays {S : Type 0} (stop : FeedStop) (items : List LogItem) (after : 
   pub log : after.log.items ≡ items
   pub desk : now ≡ before
 
-abbrev pub StepsFrom : {S : Type 0} → (S → Option (List ℕ)) → (S → Type 0) → Progress S → List LogItem → Job S → DeskValue → DeskValue → ℕ → ℕ → Type 0
+abbrev pub StepsFrom : {S : Type 0} → (S → Option (List ℕ)) → (S → Type 0) → Progress S → List LogItem → Job S → DeskValue →
+    DeskValue → ℕ → ℕ → Type 0
 StepsFrom left is_sound (Reading reader) items after before now feed batch = Advances left is_sound reader items after before now feed batch
 StepsFrom left is_sound (Ended stop) items after before now feed batch = Stays stop items after before now
 
@@ -84,10 +88,12 @@ IsPaced batch rounds (Reading reader) items = length items ≡ rounds * batch
 IsPaced batch rounds (Ended stop) items = length items ≤ rounds * batch
 
 -- In a round, before which so many rounds and so many entries were, the jobs below a place have been answered.
-pub record RoundState {S : Type 0} (left : S → Option (List ℕ)) (is_sound : S → Type 0) (feeds : List (Option S)) (first : DeskValue) (batch rounds low : ℕ) (desk : DeskValue) (jobs : List (Job S)) (place : ℕ) : Type 0 where
+pub record RoundState {S : Type 0} (left : S → Option (List ℕ)) (is_sound : S → Type 0) (feeds : List (Option S))
+    (first : DeskValue) (batch rounds low : ℕ) (desk : DeskValue) (jobs : List (Job S)) (place : ℕ) : Type 0 where
   pub goes_on : GoesOn first desk
   pub as_many : length jobs ≡ length feeds
-  pub each : (k : ℕ) (feed : Option S) (job : Job S) → slice_get feeds k ≡ Some feed → slice_get jobs k ≡ Some job → IsJob left is_sound feed desk (k + 1) job.progress job.log.items
+  pub each : (k : ℕ) (feed : Option S) (job : Job S) → slice_get feeds k ≡ Some feed → slice_get jobs k ≡ Some job →
+      IsJob left is_sound feed desk (k + 1) job.progress job.log.items
   pub named : (n : ℕ) → sum_by (job_names n) jobs + times n first.mine ≡ times n desk.mine
   pub done : (k : ℕ) (job : Job S) → k < place → slice_get jobs k ≡ Some job → IsPaced batch (rounds + 1) job.progress job.log.items
   pub ahead : (k : ℕ) (job : Job S) → place ≤ k → slice_get jobs k ≡ Some job → IsPaced batch rounds job.progress job.log.items
@@ -104,7 +110,8 @@ abbrev pub AllAreTrue : {S : Type 0} → DeskValue → List (Job S) → Type 0
 AllAreTrue desk jobs = (k : ℕ) (job : Job _) → slice_get jobs k ≡ Some job → AreTrueOf desk (k + 1) job.log.items
 
 -- one round more was answered
-abbrev pub AnswersRound : {S : Type 0} → (S → Option (List ℕ)) → (S → Type 0) → ℕ → DeskValue → List (Job S) → DeskValue → List (Job S) → Type 0
+abbrev pub AnswersRound : {S : Type 0} → (S → Option (List ℕ)) → (S → Type 0) → ℕ → DeskValue → List (Job S) → DeskValue →
+    List (Job S) → Type 0
 AnswersRound left is_sound batch before jobs now after =
     (feeds : List (Option _)) (first : DeskValue) (rounds low : ℕ) → RoundState left is_sound feeds first batch rounds low before jobs 0
     → RoundState left is_sound feeds first batch (rounds + 1) (length now.seen) now after 0
@@ -131,7 +138,8 @@ abbrev pub log_in : {S : Type 0} → Job S → FeedLog
 log_in job = record { items = job.log.items; stop = stop_in job.progress }
 
 -- what stands in a state of rounds that have begun
-pub record InRounds {S : Type 0} (left : S → Option (List ℕ)) (is_sound : S → Type 0) (feeds : List (Option S)) (first : DeskValue) (batch : ℕ) (desk : DeskValue) (jobs : List (Job S)) : Type 0 where
+pub record InRounds {S : Type 0} (left : S → Option (List ℕ)) (is_sound : S → Type 0) (feeds : List (Option S))
+    (first : DeskValue) (batch : ℕ) (desk : DeskValue) (jobs : List (Job S)) : Type 0 where
   pub rounds : ℕ
   pub low : ℕ
   pub state : RoundState left is_sound feeds first batch rounds low desk jobs 0

@@ -20,7 +20,8 @@ pub record IsKeptIn (s : Setting) (contents : List (List ℕ)) (book : Book) : T
   pub is_true : IsTrueBook s book
 
 -- Since a start a crash left the book. The journal is at rest with these blocks, and what is shown is a front of the book's logs.
-pub record IsStarting {S : Type 0} (tells : S → Type 0) (seen : S → List ℕ) (shown : S → List (List ℕ)) (may_leave : S → Image → Type 0) (moment : S → ℕ) (left_since : S → ℕ → Image → Type 0)
+pub record IsStarting {S : Type 0} (tells : S → Type 0) (seen : S → List ℕ) (shown : S → List (List ℕ))
+    (may_leave : S → Image → Type 0) (moment : S → ℕ) (left_since : S → ℕ → Image → Type 0)
     (s : Setting) (contents : List (List ℕ)) (book : Book) (start now : S) : Type 0 where
   pub told : tells now
   pub file : seen now ≡ at_rest contents
@@ -33,39 +34,47 @@ abbrev pub log_text : {T : Type 0} → Watched T → List ℕ
 log_text watched = reply_text (all_items watched)
 
 -- The store was only looked at. What was found is still there, and a crash meanwhile left it.
-abbrev pub Looks : {S : Type 0} → (S → Type 0) → (S → List ℕ) → (S → List (List ℕ)) → (S → Image → Type 0) → (S → ℕ) → (S → ℕ → Image → Type 0) → S → S → Type 0
+abbrev pub Looks : {S : Type 0} → (S → Type 0) → (S → List ℕ) → (S → List (List ℕ)) → (S → Image → Type 0) → (S → ℕ) →
+    (S → ℕ → Image → Type 0) → S → S → Type 0
 Looks {S} tells seen shown may_leave moment left_since old new =
     (tells old → tells new × IsLeft seen shown may_leave old new)
     × ((s : Setting) (feeds : ℕ) (contents : List (List ℕ)) (first : Book) → IsTakenUp tells seen shown may_leave s feeds old contents first
     → LeavesOnly moment left_since old new (IsSafe s first first) × IsTakenUp tells seen shown may_leave s feeds new contents first)
 
 -- the reply file at this place is no front of its log
-pub record ShowsMore {S : Type 0} (tells : S → Type 0) (shown : S → List (List ℕ)) (logs : List FeedLog) (store : S) (place : ℕ) : Type 0 where
+pub record ShowsMore {S : Type 0} (tells : S → Type 0) (shown : S → List (List ℕ)) (logs : List FeedLog) (store : S)
+    (place : ℕ) : Type 0 where
   pub log : FeedLog
   pub stands : slice_get logs place ≡ Some log
   pub more : tells store → place < length (shown store) → IsPrefix (slice_index_or (shown store) place []) (reply_text log.items) → ⊥
 
 -- The reply file of one feed was put anew, or shows what it did where the call failed.
-abbrev pub PutsOne : {S T E : Type 0} → (S → Type 0) → (S → List ℕ) → (S → List (List ℕ)) → (S → Image → Type 0) → (S → ℕ) → (S → ℕ → Image → Type 0) → Watched T → ℕ → S → S → Result (Unit {0}) E → Type 0
+abbrev pub PutsOne : {S T E : Type 0} → (S → Type 0) → (S → List ℕ) → (S → List (List ℕ)) → (S → Image → Type 0) → (S → ℕ) →
+    (S → ℕ → Image → Type 0) → Watched T → ℕ → S → S → Result (Unit {0}) E → Type 0
 PutsOne {S} tells seen shown may_leave moment left_since watched place old new result =
     (s : Setting) (contents : List (List ℕ)) (book : Book) (start : S) (first rest : List (List ℕ)) (text : List ℕ) → place ≡ length first
     → shown old ≡ first ++ text ∷ rest → AreFronts (first ++ log_text watched ∷ rest) (map reply_text book.logs) → IsKeptIn s contents book
     → IsStarting tells seen shown may_leave moment left_since s contents book start old
     → LeavesOnly moment left_since start new (IsSafe s book book)
-    × OnOk result (IsStarting tells seen shown may_leave moment left_since s contents book start new × (shown new ≡ first ++ log_text watched ∷ rest))
+    × OnOk result (IsStarting tells seen shown may_leave moment left_since s contents book start new
+    × (shown new ≡ first ++ log_text watched ∷ rest))
 
 -- Since a start, reply files were put anew: a crash leaves the book, and at Ok they show it whole.
-abbrev pub PutsReplies : {S T E : Type 0} → (S → Type 0) → (S → List ℕ) → (S → List (List ℕ)) → (S → Image → Type 0) → (S → ℕ) → (S → ℕ → Image → Type 0) → List (Watched T) → S → S → Result (Unit {0}) E → Type 0
+abbrev pub PutsReplies : {S T E : Type 0} → (S → Type 0) → (S → List ℕ) → (S → List (List ℕ)) → (S → Image → Type 0) → (S → ℕ) →
+    (S → ℕ → Image → Type 0) → List (Watched T) → S → S → Result (Unit {0}) E → Type 0
 PutsReplies {S} tells seen shown may_leave moment left_since feeds old new result =
     (s : Setting) (contents : List (List ℕ)) (book : Book) (start : S) → book.logs ≡ map all_items feeds → IsKeptIn s contents book
     → IsStarting tells seen shown may_leave moment left_since s contents book start old
     → LeavesOnly moment left_since start new (IsSafe s book book)
-    × OnOk result (IsStarting tells seen shown may_leave moment left_since s contents book start new × (shown new ≡ map reply_text book.logs))
+    × OnOk result (IsStarting tells seen shown may_leave moment left_since s contents book start new
+    × (shown new ≡ map reply_text book.logs))
 
 -- the reply file at this place shows a front of the items, or not
 abbrev pub ComparesOne : {S : Type 0} → (S → Type 0) → (S → List (List ℕ)) → S → List LogItem → ℕ → Bool → Type 0
-ComparesOne tells shown store items place true = tells store → place < length (shown store) → IsPrefix (slice_index_or (shown store) place []) (reply_text items)
-ComparesOne tells shown store items place false = tells store → place < length (shown store) → IsPrefix (slice_index_or (shown store) place []) (reply_text items) → ⊥
+ComparesOne tells shown store items place true = tells store → place < length (shown store) →
+    IsPrefix (slice_index_or (shown store) place []) (reply_text items)
+ComparesOne tells shown store items place false = tells store → place < length (shown store) →
+    IsPrefix (slice_index_or (shown store) place []) (reply_text items) → ⊥
 
 -- the cause of a stop as a reply file is read
 abbrev pub StopsReading : {S : Type 0} → (S → ℕ) → S → S → StartStop → Type 0

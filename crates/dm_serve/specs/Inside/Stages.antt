@@ -52,7 +52,8 @@ use Rattle.dm_serve.specs.declared.starting.StartStop.TheVariants as stop
 
 -- The book that was read back is the one that was found. It stands in the blocks, at whose end the journal is at rest; a crash since
 -- the start left it, and what is shown is a front of its logs.
-pub record HasBegun {S : Type 0} (tells : S → Type 0) (seen : S → List ℕ) (shown : S → List (List ℕ)) (may_leave : S → Image → Type 0) (moment : S → ℕ) (left_since : S → ℕ → Image → Type 0)
+pub record HasBegun {S : Type 0} (tells : S → Type 0) (seen : S → List ℕ) (shown : S → List (List ℕ))
+    (may_leave : S → Image → Type 0) (moment : S → ℕ) (left_since : S → ℕ → Image → Type 0)
     (s : Setting) (book first : Book) (start : S) (now : Journal S) : Type 0 where
   pub is : book ≡ first
   pub contents : List (List ℕ)
@@ -61,57 +62,74 @@ pub record HasBegun {S : Type 0} (tells : S → Type 0) (seen : S → List ℕ) 
   pub starting : IsStarting tells seen shown may_leave moment left_since s contents first start now.store
 
 -- whatever true book is found, this is it, and the journal is new exactly where it has no blocks
-abbrev pub FindsBook : {S : Type 0} → (S → Type 0) → (S → List ℕ) → (S → List (List ℕ)) → (S → Image → Type 0) → Setting → ℕ → Book → Bool → S → Type 0
+abbrev pub FindsBook : {S : Type 0} → (S → Type 0) → (S → List ℕ) → (S → List (List ℕ)) → (S → Image → Type 0) → Setting → ℕ →
+    Book → Bool → S → Type 0
 FindsBook tells seen shown may_leave s feeds book is_new store =
-    (contents : List (List ℕ)) (first : Book) → IsTakenUp tells seen shown may_leave s feeds store contents first → (book ≡ first) × (IsTrue is_new ↔ (contents ≡ []))
+    (contents : List (List ℕ)) (first : Book) → IsTakenUp tells seen shown may_leave s feeds store contents first →
+    (book ≡ first) × (IsTrue is_new ↔ (contents ≡ []))
 
 -- nothing is refused of the blocks that are found, or of the end behind them
 abbrev pub IsWholeEnd : {S : Type 0} → (S → Type 0) → (S → List ℕ) → (S → Image → Type 0) → S → Type 0
-IsWholeEnd tells seen may_leave store = (contents : List (List ℕ)) (found : IsFound tells seen may_leave contents store) → refusal contents found.stands.end ≡ None
+IsWholeEnd tells seen may_leave store = (contents : List (List ℕ)) (found : IsFound tells seen may_leave contents store) →
+    refusal contents found.stands.end ≡ None
 
 -- What a store holds was read back, as this book; the store was only looked at since a start.
-pub record IsReadBack {S : Type 0} (tells : S → Type 0) (seen : S → List ℕ) (shown : S → List (List ℕ)) (may_leave : S → Image → Type 0) (moment : S → ℕ) (left_since : S → ℕ → Image → Type 0)
+pub record IsReadBack {S : Type 0} (tells : S → Type 0) (seen : S → List ℕ) (shown : S → List (List ℕ))
+    (may_leave : S → Image → Type 0) (moment : S → ℕ) (left_since : S → ℕ → Image → Type 0)
     (s : Setting) (feeds : ℕ) (book : Book) (is_new : Bool) (start now : S) : Type 0 where
   pub looks : Looks tells seen shown may_leave moment left_since start now
   pub finds : FindsBook tells seen shown may_leave s feeds book is_new start
   pub whole : IsWholeEnd tells seen may_leave start
 
 -- the reply file at this place is no front of its log in the book that is restored from the blocks
-pub record HoldsMore {S : Type 0} (tells : S → Type 0) (seen : S → List ℕ) (shown : S → List (List ℕ)) (may_leave : S → Image → Type 0) (s : Setting) (feeds : ℕ) (store : S) (place : ℕ) : Type 0 where
+pub record HoldsMore {S : Type 0} (tells : S → Type 0) (seen : S → List ℕ) (shown : S → List (List ℕ))
+    (may_leave : S → Image → Type 0) (s : Setting) (feeds : ℕ) (store : S) (place : ℕ) : Type 0 where
   pub within : place < feeds
-  pub cause : (contents : List (List ℕ)) (book : Book) (items : List LogItem) → IsFound tells seen may_leave contents store → IsRestored s feeds contents book
-      → slice_get book.logs place ≡ Some items → place < length (shown store) → IsPrefix (slice_index_or (shown store) place []) (reply_text items) → ⊥
+  pub cause : (contents : List (List ℕ)) (book : Book) (items : List LogItem) → IsFound tells seen may_leave contents store →
+      IsRestored s feeds contents book
+      → slice_get book.logs place ≡ Some items → place < length (shown store) →
+      IsPrefix (slice_index_or (shown store) place []) (reply_text items) → ⊥
 
 -- the cause of a stop as what a store holds is read back
-abbrev pub StopsReadingBack : {S : Type 0} → (S → Type 0) → (S → List ℕ) → (S → List (List ℕ)) → (S → Image → Type 0) → (S → ℕ) → Setting → ℕ → S → S → StartStop → Type 0
+abbrev pub StopsReadingBack : {S : Type 0} → (S → Type 0) → (S → List ℕ) → (S → List (List ℕ)) → (S → Image → Type 0) →
+    (S → ℕ) → Setting → ℕ → S → S → StartStop → Type 0
 StopsReadingBack tells seen shown may_leave faults s feeds old new stop.OutOfMemory = Unit {0}
 StopsReadingBack tells seen shown may_leave faults s feeds old new stop.Unread = HasRisen (faults old) (faults new)
 StopsReadingBack tells seen shown may_leave faults s feeds old new (stop.Refused reason) =
-    (reason ≡ why.OutOfMemory → ⊥) × ((contents : List (List ℕ)) (found : IsFound tells seen may_leave contents old) → RefusesBook s feeds (seen old) contents found.stands.end reason)
-StopsReadingBack tells seen shown may_leave faults s feeds old new (stop.Reply place) = HoldsMore tells seen shown may_leave s feeds old place
+    (reason ≡ why.OutOfMemory → ⊥) × ((contents : List (List ℕ)) (found : IsFound tells seen may_leave contents old) →
+    RefusesBook s feeds (seen old) contents found.stands.end reason)
+StopsReadingBack tells seen shown may_leave faults s feeds old new (stop.Reply place) =
+    HoldsMore tells seen shown may_leave s feeds old place
 StopsReadingBack tells seen shown may_leave faults s feeds old new stopped = ⊥
 
 -- Whatever true book was found, a crash while its journal is put right leaves that, and at Ok it was taken up.
-abbrev pub PutsRight : {S E : Type 0} → (S → Type 0) → (S → List ℕ) → (S → List (List ℕ)) → (S → Image → Type 0) → (S → ℕ) → (S → ℕ → Image → Type 0) → Head → Bool → Journal S → Journal S → Result (Unit {0}) E → Type 0
+abbrev pub PutsRight : {S E : Type 0} → (S → Type 0) → (S → List ℕ) → (S → List (List ℕ)) → (S → Image → Type 0) → (S → ℕ) →
+    (S → ℕ → Image → Type 0) → Head → Bool → Journal S → Journal S → Result (Unit {0}) E → Type 0
 PutsRight tells seen shown may_leave moment left_since head is_new old new result =
-    (s : Setting) (contents : List (List ℕ)) (first : Book) → s.penalty ≡ head.penalty → s.plans ≡ head.plans → (IsTrue is_new ↔ (contents ≡ []))
+    (s : Setting) (contents : List (List ℕ)) (first : Book) → s.penalty ≡ head.penalty → s.plans ≡ head.plans →
+    (IsTrue is_new ↔ (contents ≡ []))
     → IsTakenUp tells seen shown may_leave s head.feeds old.store contents first
     → LeavesOnly moment left_since old.store new.store (IsSafe s first first)
     × OnOk result (HasBegun tells seen shown may_leave moment left_since s first first old.store new)
 
 -- The cause of a stop as a journal is put right. One that could not be read is left, and one that nothing is refused of is not refused.
-abbrev pub StopsPutting : {S : Type 0} → (S → Type 0) → (S → List ℕ) → (S → List (List ℕ)) → (S → Image → Type 0) → (S → ℕ) → S → S → StartStop → Type 0
+abbrev pub StopsPutting : {S : Type 0} → (S → Type 0) → (S → List ℕ) → (S → List (List ℕ)) → (S → Image → Type 0) → (S → ℕ) →
+    S → S → StartStop → Type 0
 StopsPutting tells seen shown may_leave faults old new stop.OutOfMemory = Unit {0}
-StopsPutting tells seen shown may_leave faults old new stop.Unread = HasRisen (faults old) (faults new) × ((contents : List (List ℕ)) → IsFound tells seen may_leave contents old → IsLeft seen shown may_leave old new)
+StopsPutting tells seen shown may_leave faults old new stop.Unread = HasRisen (faults old) (faults new)
+    × ((contents : List (List ℕ)) → IsFound tells seen may_leave contents old → IsLeft seen shown may_leave old new)
 StopsPutting tells seen shown may_leave faults old new stop.Failed = HasRisen (faults old) (faults new)
 StopsPutting tells seen shown may_leave faults old new (stop.Refused reason) =
-    (reason ≡ why.OutOfMemory → ⊥) × ((contents : List (List ℕ)) (found : IsFound tells seen may_leave contents old) → refusal contents found.stands.end ≡ None → ⊥)
+    (reason ≡ why.OutOfMemory → ⊥) × ((contents : List (List ℕ)) (found : IsFound tells seen may_leave contents old) →
+    refusal contents found.stands.end ≡ None → ⊥)
 StopsPutting tells seen shown may_leave faults old new stopped = ⊥
 
 -- Whatever true book was found whose logs are those of the feeds, a crash while it is taken up leaves it, and at Ok it is settled.
-abbrev pub TakesUp : {S T E : Type 0} → (S → Type 0) → (S → List ℕ) → (S → List (List ℕ)) → (S → Image → Type 0) → (S → ℕ) → (S → ℕ → Image → Type 0) → Head → Bool → List (Watched T) → Journal S → Journal S → Result (Unit {0}) E → Type 0
+abbrev pub TakesUp : {S T E : Type 0} → (S → Type 0) → (S → List ℕ) → (S → List (List ℕ)) → (S → Image → Type 0) → (S → ℕ) →
+    (S → ℕ → Image → Type 0) → Head → Bool → List (Watched T) → Journal S → Journal S → Result (Unit {0}) E → Type 0
 TakesUp tells seen shown may_leave moment left_since head is_new feeds old new result =
-    (s : Setting) (contents : List (List ℕ)) (first : Book) → s.penalty ≡ head.penalty → s.plans ≡ head.plans → (IsTrue is_new ↔ (contents ≡ []))
+    (s : Setting) (contents : List (List ℕ)) (first : Book) → s.penalty ≡ head.penalty → s.plans ≡ head.plans →
+    (IsTrue is_new ↔ (contents ≡ []))
     → first.logs ≡ map all_items feeds → IsTakenUp tells seen shown may_leave s head.feeds old.store contents first
     → LeavesOnly moment left_since old.store new.store (IsSafe s first first)
     × OnOk result (HaveSettled tells seen shown may_leave s first.logs new)
@@ -123,21 +141,25 @@ pub record GoesOnWith {T : Type 0} (given : T → Option (List ℕ)) (items : Li
   pub log : watched.log.items ≡ items
   pub ready : IsReady watched
   pub shown : IsShown watched
-  pub over : (desk : DeskValue) (number : ℕ) → AreTrueOf desk number items → IsInOrder 0 0 items → All IsSpelledItem items → IsWatched given desk number watched
+  pub over : (desk : DeskValue) (number : ℕ) → AreTrueOf desk number items → IsInOrder 0 0 items → All IsSpelledItem items →
+      IsWatched given desk number watched
 
 -- each feed does so with its log
 pub record AllGoOn {T : Type 0} (given : T → Option (List ℕ)) (logs : List (List LogItem)) (feeds : List (Watched T)) : Type 0 where
   pub as_many : length feeds ≡ length logs
-  pub each : (place : ℕ) (items : List LogItem) (watched : Watched T) → slice_get logs place ≡ Some items → slice_get feeds place ≡ Some watched → GoesOnWith given items watched
+  pub each : (place : ℕ) (items : List LogItem) (watched : Watched T) → slice_get logs place ≡ Some items →
+      slice_get feeds place ≡ Some watched → GoesOnWith given items watched
 
 -- the first feeds go on with these logs, and the others are as they were
 pub record CaughtUpTo {T : Type 0} (given : T → Option (List ℕ)) (logs : List FeedLog) (before now : List (Watched T)) : Type 0 where
   pub as_many : length now ≡ length before
-  pub each : (place : ℕ) (log : FeedLog) (watched : Watched T) → slice_get logs place ≡ Some log → slice_get now place ≡ Some watched → GoesOnWith given log.items watched
+  pub each : (place : ℕ) (log : FeedLog) (watched : Watched T) → slice_get logs place ≡ Some log →
+      slice_get now place ≡ Some watched → GoesOnWith given log.items watched
   pub others : (place : ℕ) → length logs ≤ place → slice_get now place ≡ slice_get before place
 
 -- the cause of a stop at a feed
-pub record IsChangedAt {T : Type 0} (given : T → Option (List ℕ)) (logs : List (List LogItem)) (feeds : List (Watched T)) (number line : ℕ) : Type 0 where
+pub record IsChangedAt {T : Type 0} (given : T → Option (List ℕ)) (logs : List (List LogItem)) (feeds : List (Watched T))
+    (number line : ℕ) : Type 0 where
   pub place : ℕ
   pub items : List LogItem
   pub watched : Watched T
@@ -153,7 +175,8 @@ pub record HasFailedAt {T : Type 0} (faults : T → ℕ) (before now : List (Wat
   pub is : slice_get now place ≡ Some other
   pub risen : HasRisen (faults one.tail.feed) (faults other.tail.feed)
 
-abbrev pub StopsCatchingUp : {T : Type 0} → (T → Option (List ℕ)) → (T → ℕ) → List (List LogItem) → List (Watched T) → List (Watched T) → StartStop → Type 0
+abbrev pub StopsCatchingUp : {T : Type 0} → (T → Option (List ℕ)) → (T → ℕ) → List (List LogItem) → List (Watched T) →
+    List (Watched T) → StartStop → Type 0
 StopsCatchingUp given faults logs before now stop.OutOfMemory = Unit {0}
 StopsCatchingUp given faults logs before now (stop.Fault place) = HasFailedAt faults before now place
 StopsCatchingUp given faults logs before now (stop.Changed number line) = IsChangedAt given logs now number line
@@ -169,26 +192,31 @@ pub record IsGoing {T : Type 0} (given : T → Option (List ℕ)) (s : Setting) 
   pub shown : All IsShown watch.feeds.items
 
 -- Since the start a crash left a book that goes on from the first. The journal has that of the watch, and it is shown.
-pub record HasGone {S T : Type 0} (tells : S → Type 0) (seen : S → List ℕ) (shown : S → List (List ℕ)) (may_leave : S → Image → Type 0) (moment : S → ℕ) (left_since : S → ℕ → Image → Type 0)
+pub record HasGone {S T : Type 0} (tells : S → Type 0) (seen : S → List ℕ) (shown : S → List (List ℕ))
+    (may_leave : S → Image → Type 0) (moment : S → ℕ) (left_since : S → ℕ → Image → Type 0)
     (s : Setting) (first : Book) (watch : Watch T) (start : S) (now : Journal S) : Type 0 where
   pub leaves : LeavesOnly moment left_since start now.store (IsSafeFrom s first)
   pub grows : IsFrontBook first (book_in watch)
   pub settled : HaveSettled tells seen shown may_leave s (book_in watch).logs now
 
 -- Where a day has gone on since a start, it goes on as rounds are gone.
-abbrev pub GoesOver : {S T E : Type 0} → (S → Type 0) → (S → List ℕ) → (S → List (List ℕ)) → (S → Image → Type 0) → (S → ℕ) → (S → ℕ → Image → Type 0) → Setting → Book → S → Watch T → Journal S → Journal S → Result (Watch T) E → Type 0
+abbrev pub GoesOver : {S T E : Type 0} → (S → Type 0) → (S → List ℕ) → (S → List (List ℕ)) → (S → Image → Type 0) → (S → ℕ) →
+    (S → ℕ → Image → Type 0) → Setting → Book → S → Watch T → Journal S → Journal S → Result (Watch T) E → Type 0
 GoesOver tells seen shown may_leave moment left_since s first start watch old new result =
     setting_of watch.desk.plans watch.desk.table ≡ s → HasGone tells seen shown may_leave moment left_since s first watch start old
     → LeavesOnly moment left_since start new.store (IsSafeFrom s first)
     × IfOk result (λ r. HasGone tells seen shown may_leave moment left_since s first r start new)
 
 -- the cause of a stop as rounds are gone
-abbrev pub StopsGoing : {S T : Type 0} → (S → Type 0) → (S → List ℕ) → (S → List (List ℕ)) → (S → Image → Type 0) → (S → ℕ) → (S → ℕ → Image → Type 0) → (T → Option (List ℕ)) → (S → ℕ) → (T → ℕ) → Watch T → Journal S → Journal S → RoundStop → Type 0
+abbrev pub StopsGoing : {S T : Type 0} → (S → Type 0) → (S → List ℕ) → (S → List (List ℕ)) → (S → Image → Type 0) → (S → ℕ) →
+    (S → ℕ → Image → Type 0) → (T → Option (List ℕ)) → (S → ℕ) → (T → ℕ) → Watch T → Journal S → Journal S → RoundStop → Type 0
 StopsGoing tells seen shown may_leave moment left_since given store_faults faults watch old new round.OutOfMemory = Unit {0}
 StopsGoing tells seen shown may_leave moment left_since given store_faults faults watch old new (round.Unsynced number) = HasUnsynced faults
-StopsGoing tells seen shown may_leave moment left_since given store_faults faults watch old new round.Failed = HasRisen (store_faults old.store) (store_faults new.store)
+StopsGoing tells seen shown may_leave moment left_since given store_faults faults watch old new round.Failed =
+    HasRisen (store_faults old.store) (store_faults new.store)
 StopsGoing {S} tells seen shown may_leave moment left_since given store_faults faults watch old new round.Full =
-    (s : Setting) (first : Book) (start : S) → setting_of watch.desk.plans watch.desk.table ≡ s → HasGone tells seen shown may_leave moment left_since s first watch start old → IsFullOf given s first
+    (s : Setting) (first : Book) (start : S) → setting_of watch.desk.plans watch.desk.table ≡ s →
+    HasGone tells seen shown may_leave moment left_since s first watch start old → IsFullOf given s first
 
 -- ---- the end
 
@@ -223,10 +251,13 @@ EndsUnopened taken faults names (unopened.Feed place) before now result = EndsUn
 abbrev pub EndsStart : {K : Type 0} → (K → Option (List ℕ)) → (K → ℕ) → List ℕ → List (List ℕ) → StartStop → K → K → Status → Type 0
 EndsStart taken faults store names stop.OutOfMemory before now result = (now ≡ before) × (result ≡ NoMemory)
 EndsStart taken faults store names stop.Unread before now result = EndsAs taken faults before now (unread_line store) ReadFault result
-EndsStart taken faults store names (stop.Refused reason) before now result = EndsAs taken faults before now (refusal_line reason) Refused result
-EndsStart taken faults store names (stop.Reply place) before now result = EndsAs taken faults before now (reply_line (place + 1)) Refused result
+EndsStart taken faults store names (stop.Refused reason) before now result =
+    EndsAs taken faults before now (refusal_line reason) Refused result
+EndsStart taken faults store names (stop.Reply place) before now result =
+    EndsAs taken faults before now (reply_line (place + 1)) Refused result
 EndsStart taken faults store names (stop.Fault place) before now result = EndsUnread taken faults (slice_get names place) before now result
-EndsStart taken faults store names (stop.Changed number line) before now result = EndsAs taken faults before now (feed_line number line) Refused result
+EndsStart taken faults store names (stop.Changed number line) before now result =
+    EndsAs taken faults before now (feed_line number line) Refused result
 EndsStart taken faults store names stop.Failed before now result = (now ≡ before) × (result ≡ WriteFault)
 
 -- how a server ends that a round stops
@@ -242,19 +273,23 @@ abbrev pub book_beside : TableValue → List (List LogItem) → Book
 book_beside table logs = record { history = table.history; logs = logs }
 
 -- since the start, whatever true book was found, the day has gone on
-abbrev pub HasGoneSince : {S T : Type 0} → (S → Type 0) → (S → List ℕ) → (S → List (List ℕ)) → (S → Image → Type 0) → (S → ℕ) → (S → ℕ → Image → Type 0) → Setting → ℕ → Watch T → S → Journal S → Type 0
+abbrev pub HasGoneSince : {S T : Type 0} → (S → Type 0) → (S → List ℕ) → (S → List (List ℕ)) → (S → Image → Type 0) → (S → ℕ) →
+    (S → ℕ → Image → Type 0) → Setting → ℕ → Watch T → S → Journal S → Type 0
 HasGoneSince tells seen shown may_leave moment left_since s feeds watch start now =
-    (contents : List (List ℕ)) (first : Book) → IsTakenUp tells seen shown may_leave s feeds start contents first → HasGone tells seen shown may_leave moment left_since s first watch start now
+    (contents : List (List ℕ)) (first : Book) → IsTakenUp tells seen shown may_leave s feeds start contents first →
+    HasGone tells seen shown may_leave moment left_since s first watch start now
 
 -- a run was printed, or there was no memory for that
-abbrev pub EndsDay : {K T : Type 0} → (K → Option (List ℕ)) → (K → ℕ) → TableValue → List (Watched T) → List Note → K → K → DayEnd T → Type 0
+abbrev pub EndsDay : {K T : Type 0} → (K → Option (List ℕ)) → (K → ℕ) → TableValue → List (Watched T) → List Note → K → K →
+    DayEnd T → Type 0
 EndsDay taken faults table feeds notes before now end =
     ((now ≡ before) × (end.status ≡ NoMemory))
     ⊎ ((end.tails.items ≡ map tail_in feeds) × FitsRun (run_in table (map log_in feeds) notes)
     × EndsAs taken faults before now (run_text 2 (run_in table (map log_in feeds) notes)) Well end.status)
 
 -- it was said why feeds do not go on, or there was no memory for that
-abbrev pub EndsAtFeeds : {K T : Type 0} → (K → Option (List ℕ)) → (K → ℕ) → ServerAsked → List (Watched T) → StartStop → K → K → DayEnd T → Type 0
+abbrev pub EndsAtFeeds : {K T : Type 0} → (K → Option (List ℕ)) → (K → ℕ) → ServerAsked → List (Watched T) → StartStop → K → K →
+    DayEnd T → Type 0
 EndsAtFeeds taken faults asked feeds stopped before now end =
     ((now ≡ before) × (end.status ≡ NoMemory))
     ⊎ ((end.tails.items ≡ map tail_in feeds) × EndsStart taken faults asked.store asked.run.feeds stopped before now end.status)

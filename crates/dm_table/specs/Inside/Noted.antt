@@ -12,7 +12,8 @@ use Rattle.dm_rows.specs.Timetable.{IsLeast, time_at}
 pub record AreNoted (net : Net) (start : RowsValue) (history : List Entry) (since : ℕ) (noted : List Bool) (times : List ℕ) : Type 0 where
   pub within : since ≤ length history
   pub as_many : length noted ≡ length net.events
-  pub others : (x : List ℕ) → IsLeast net (rows_at net start history since) x → (i : ℕ) → is_marked noted i ≡ false → time_at times i ≡ time_at x i
+  pub others : (x : List ℕ) → IsLeast net (rows_at net start history since) x → (i : ℕ) → is_marked noted i ≡ false →
+      time_at times i ≡ time_at x i
 
 -- a copy is what the times are, and the places at which it was not are listed
 pub record IsUpToDate (times before after : List ℕ) (listed : List ℕ) : Type 0 where

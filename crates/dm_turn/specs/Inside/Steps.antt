@@ -24,7 +24,16 @@ module _ {B : Type 0} where
   -- the view of the first pass of a turn
   abbrev pub opening_view : {S : Type 0} → (S → List Entry) → (S → B) → S → ℕ → View B
   opening_view history base opened seats =
-      record { base = Some (base opened); opening = length (history opened); seats = seats; room = seats; seen = history opened; told = []; mine = []; phase = Idle }
+      record {
+        base = Some (base opened);
+        opening = length (history opened);
+        seats = seats;
+        room = seats;
+        seen = history opened;
+        told = [];
+        mine = [];
+        phase = Idle;
+      }
 
   -- a pass cut off from another: it has seen as much, and has one room
   abbrev pub cut_off : View B → View B
@@ -78,7 +87,8 @@ module _ {S B : Type 0} where
 
   -- a pass that knows two histories keeps the longer, and the shorter is its prefix
   abbrev pub Settled : Step (Option S) → Sat S B → ℕ → Sat S B → Type 0
-  Settled step me found me' = (me' ≡ (record me.0 { told = [] }, me.1)) × (length me.0.told ≤ length me.0.seen → IsPrefix me.0.told me.0.seen)
+  Settled step me found me' = (me' ≡ (record me.0 { told = [] }, me.1))
+      × (length me.0.told ≤ length me.0.seen → IsPrefix me.0.told me.0.seen)
 
   -- what a seat has taken: the state, whose history it now has seen
   pub record Took (history : S → List Entry) (base : S → B) (me me' : Sat S B) : Type 0 where
@@ -88,7 +98,8 @@ module _ {S B : Type 0} where
     pub base_is : me.0.base ≡ Some (base state)
 
   -- the seat looked which ticket is served, and took the slot where it was its own
-  pub record Looked (history : S → List Entry) (base : S → B) (step : Step (Option S)) (me : Sat S B) (found : ℕ) (me' : Sat S B) : Type 0 where
+  pub record Looked (history : S → List Entry) (base : S → B) (step : Step (Option S)) (me : Sat S B) (found : ℕ)
+      (me' : Sat S B) : Type 0 where
     pub own : found ≡ ticket_of me.0.phase % 2 ^ 64 → Took history base me me'
     pub other : found ≢ ticket_of me.0.phase % 2 ^ 64 → me' ≡ me
 
@@ -106,4 +117,12 @@ module _ {S B : Type 0} where
 
   -- what contracts see of a pass
   abbrev pub pass_value : Seat (Option S) (View B) → PassValue B
-  pass_value s = record { turn = s.table_id; base = s.me.0.base; opening = s.me.0.opening; holds = is_served s.me.0.phase; room = s.me.0.room; seen = s.me.0.seen; mine = s.me.0.mine }
+  pass_value s = record {
+    turn = s.table_id;
+    base = s.me.0.base;
+    opening = s.me.0.opening;
+    holds = is_served s.me.0.phase;
+    room = s.me.0.room;
+    seen = s.me.0.seen;
+    mine = s.me.0.mine;
+  }

@@ -34,13 +34,16 @@ abbrev pub with_new : {T : Type 0} → List (List ℕ) → List (Watched T) → 
 with_new contents feeds = contents ++ round_text (map new_items feeds) ∷ []
 
 -- A crash at any moment meanwhile leaves a true book between the two. At Ok the journal has the round besides, and it is shown.
-pub record Settles {S T : Type 0} (tells : S → Type 0) (seen : S → List ℕ) (shown : S → List (List ℕ)) (may_leave : S → Image → Type 0) (moment : S → ℕ) (left_since : S → ℕ → Image → Type 0)
-    (s : Setting) (contents : List (List ℕ)) (before after : Book) (feeds : List (Watched T)) (old new : Journal S) (result : Result (Vec (Watched T) Global) RoundStop) : Type 0 where
+pub record Settles {S T : Type 0} (tells : S → Type 0) (seen : S → List ℕ) (shown : S → List (List ℕ))
+    (may_leave : S → Image → Type 0) (moment : S → ℕ) (left_since : S → ℕ → Image → Type 0)
+    (s : Setting) (contents : List (List ℕ)) (before after : Book) (feeds : List (Watched T)) (old new : Journal S)
+    (result : Result (Vec (Watched T) Global) RoundStop) : Type 0 where
   pub leaves : LeavesOnly moment left_since old.store new.store (IsSafe s before after)
   pub done : IfOk result (λ now. AreSettled tells seen shown may_leave s (with_new contents feeds) after.logs new)
 
 -- A crash at any moment meanwhile leaves a true book between the two. At Ok the journal has the later one, and it is shown.
-pub record SettlesSome {S T E : Type 0} (tells : S → Type 0) (seen : S → List ℕ) (shown : S → List (List ℕ)) (may_leave : S → Image → Type 0) (moment : S → ℕ) (left_since : S → ℕ → Image → Type 0)
+pub record SettlesSome {S T E : Type 0} (tells : S → Type 0) (seen : S → List ℕ) (shown : S → List (List ℕ))
+    (may_leave : S → Image → Type 0) (moment : S → ℕ) (left_since : S → ℕ → Image → Type 0)
     (s : Setting) (before after : Book) (old new : Journal S) (result : Result T E) : Type 0 where
   pub leaves : LeavesOnly moment left_since old.store new.store (IsSafe s before after)
   pub done : OnOk result (HaveSettled tells seen shown may_leave s after.logs new)

@@ -23,7 +23,8 @@ pub record IsKeptBook (s : Setting) (contents : List (List ℕ)) (before after :
 
 -- Since a start a crash left a true book between two. The journal is at rest, and the reply files show these texts, which are fronts
 -- of the later book's logs.
-pub record IsShowing {S : Type 0} (tells : S → Type 0) (seen : S → List ℕ) (shown : S → List (List ℕ)) (may_leave : S → Image → Type 0) (moment : S → ℕ) (left_since : S → ℕ → Image → Type 0)
+pub record IsShowing {S : Type 0} (tells : S → Type 0) (seen : S → List ℕ) (shown : S → List (List ℕ))
+    (may_leave : S → Image → Type 0) (moment : S → ℕ) (left_since : S → ℕ → Image → Type 0)
     (s : Setting) (contents : List (List ℕ)) (before after : Book) (start now : S) (texts : List (List ℕ)) : Type 0 where
   pub told : tells now
   pub file : seen now ≡ at_rest contents
@@ -33,18 +34,23 @@ pub record IsShowing {S : Type 0} (tells : S → Type 0) (seen : S → List ℕ)
   pub leaves : LeavesOnly moment left_since start now (IsSafe s before after)
 
 -- The text of one feed was shown behind its old one, or a front of it where the call failed.
-abbrev pub ShowsOne : {S T R E : Type 0} → (S → Type 0) → (S → List ℕ) → (S → List (List ℕ)) → (S → Image → Type 0) → (S → ℕ) → (S → ℕ → Image → Type 0) → Watched T → ℕ → S → S → Result R E → Type 0
+abbrev pub ShowsOne : {S T R E : Type 0} → (S → Type 0) → (S → List ℕ) → (S → List (List ℕ)) → (S → Image → Type 0) → (S → ℕ) →
+    (S → ℕ → Image → Type 0) → Watched T → ℕ → S → S → Result R E → Type 0
 ShowsOne {S} tells seen shown may_leave moment left_since watched place old new result =
-    (s : Setting) (contents : List (List ℕ)) (before after : Book) (start : S) (first rest : List (List ℕ)) → place ≡ length first → IsKeptBook s contents before after
+    (s : Setting) (contents : List (List ℕ)) (before after : Book) (start : S) (first rest : List (List ℕ)) →
+    place ≡ length first → IsKeptBook s contents before after
     → AreFronts (first ++ all_text watched ∷ rest) (map reply_text after.logs)
     → IsShowing tells seen shown may_leave moment left_since s contents before after start old (first ++ old_text watched ∷ rest)
     → LeavesOnly moment left_since start new (IsSafe s before after)
-    × OnOk result (IsShowing tells seen shown may_leave moment left_since s contents before after start new (first ++ all_text watched ∷ rest))
+    × OnOk result (IsShowing tells seen shown may_leave moment left_since s contents before after start new
+    (first ++ all_text watched ∷ rest))
 
 -- The replies of all feeds were shown, or of some where a call failed: a crash left a true book between the two.
-abbrev pub ShowsAll : {S T E : Type 0} → (S → Type 0) → (S → List ℕ) → (S → List (List ℕ)) → (S → Image → Type 0) → (S → ℕ) → (S → ℕ → Image → Type 0) → List (Watched T) → S → S → Result (Vec (Watched T) Global) E → Type 0
+abbrev pub ShowsAll : {S T E : Type 0} → (S → Type 0) → (S → List ℕ) → (S → List (List ℕ)) → (S → Image → Type 0) → (S → ℕ) →
+    (S → ℕ → Image → Type 0) → List (Watched T) → S → S → Result (Vec (Watched T) Global) E → Type 0
 ShowsAll {S} tells seen shown may_leave moment left_since feeds old new result =
-    (s : Setting) (contents : List (List ℕ)) (before after : Book) (start : S) → IsKeptBook s contents before after → after.logs ≡ map all_items feeds
+    (s : Setting) (contents : List (List ℕ)) (before after : Book) (start : S) → IsKeptBook s contents before after →
+    after.logs ≡ map all_items feeds
     → IsShowing tells seen shown may_leave moment left_since s contents before after start old (map old_text feeds)
     → LeavesOnly moment left_since start new (IsSafe s before after)
     × OnOk result (IsShowing tells seen shown may_leave moment left_since s contents before after start new (map all_text feeds))

@@ -19,7 +19,8 @@ IsJudged net rows penalty decisions None = HasNoCycle net (with_decisions net ro
 IsJudged net rows penalty decisions (Some c) = CostsSet net rows penalty decisions c
 
 -- so it is judged without the decision at each place before this one
-pub record AreJudged (net : Net) (rows : RowsValue) (penalty : ℕ) (decisions : List Decision) (many : ℕ) (costs : List (Option ℕ)) : Type 0 where
+pub record AreJudged (net : Net) (rows : RowsValue) (penalty : ℕ) (decisions : List Decision) (many : ℕ)
+    (costs : List (Option ℕ)) : Type 0 where
   pub size : length costs ≡ many
   pub each : (place : ℕ) (cost : Option ℕ) → slice_get costs place ≡ Some cost → IsJudged net rows penalty (remove decisions place) cost
 

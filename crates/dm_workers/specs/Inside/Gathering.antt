@@ -44,6 +44,7 @@ pub record AreEquipped (before owners : List (TallyValue Path)) (n : ℕ) (purse
   pub many : length purses ≡ n
 
 -- The leaves of some workers: on each way no more paths were put and leaves handed in than were given and taken.
-pub record AreGathered (task : GuidedTask) (own : ℕ) (word : TableId) (start rooms : ℕ) (given taken_by_tallies : List Bool → ℕ) (owners : List (TallyValue Path)) (hand : HandValue) (leaves : List Leaf) (choices : List Decision) (cost : ℕ) : Type 0 where
+pub record AreGathered (task : GuidedTask) (own : ℕ) (word : TableId) (start rooms : ℕ) (given taken_by_tallies : List Bool → ℕ)
+    (owners : List (TallyValue Path)) (hand : HandValue) (leaves : List Leaf) (choices : List Decision) (cost : ℕ) : Type 0 where
   pub fair : (sides : List Bool) → owners_put sides owners + leaves_on sides leaves ≤ given sides + owners_taken sides owners + taken_by_tallies sides
   pub found : AreFindings task own word start rooms hand leaves choices cost

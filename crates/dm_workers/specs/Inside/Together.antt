@@ -27,10 +27,12 @@ module _ {F : Type 0} where
   -- what all have gathered, where the tallies' paths count too
   abbrev pub IsGathered : GuidedTask → ℕ → TableId → ℕ → ℕ → (List Bool → ℕ) → Gathered F → Type 0
   IsGathered task own word start rooms given g =
-      AreGathered task own word start rooms given (λ s. all_taken s g.tallies.items) g.owners.items g.hand g.leaves.items g.best.choices g.best.cost
+      AreGathered task own word start rooms given
+      (λ s. all_taken s g.tallies.items) g.owners.items g.hand g.leaves.items g.best.choices g.best.cost
 
   -- what was gathered from these workers, after a start with so many rooms
-  pub record IsGatheredFrom (task : GuidedTask) (own : ℕ) (word : TableId) (start rooms : ℕ) (theirs : List RowsId) (workers : List (Worker F)) (g : Gathered F) : Type 0 where
+  pub record IsGatheredFrom (task : GuidedTask) (own : ℕ) (word : TableId) (start rooms : ℕ) (theirs : List RowsId)
+      (workers : List (Worker F)) (g : Gathered F) : Type 0 where
     pub gathered : IsGathered task own word start (rooms + length workers) (λ s. given_to s workers) g
     pub deques : map deque_of g.owners.items ≡ map deque_of_worker workers
     pub lent : map lent_of g.owners.items ≡ map lent_of_worker workers
@@ -38,7 +40,8 @@ module _ {F : Type 0} where
     pub of_all : All (λ ts. map deque_of ts ≡ theirs) g.tallies.items
 
   -- a worker has done its work
-  pub record HandsIn (task : GuidedTask) (own : ℕ) (word : TableId) (start : ℕ) (theirs : List RowsId) (before after : Worker F) : Type 0 where
+  pub record HandsIn (task : GuidedTask) (own : ℕ) (word : TableId) (start : ℕ) (theirs : List RowsId)
+      (before after : Worker F) : Type 0 where
     pub works : IsWorking task own word start (λ s. paths_on s before.owner.account.put) nothing after
     pub deque : after.owner.deque ≡ before.owner.deque
     pub lent : after.owner.account.lent ≡ before.owner.account.lent
@@ -50,17 +53,19 @@ module _ {F : Type 0} where
   AreHandedIn task own word start theirs [] [] = Unit {0}
   AreHandedIn task own word start theirs [] (r ∷ rs) = ⊥
   AreHandedIn task own word start theirs (w ∷ ws) [] = ⊥
-  AreHandedIn task own word start theirs (w ∷ ws) (r ∷ rs) = IfOk r (HandsIn task own word start theirs w) × AreHandedIn task own word start theirs ws rs
+  AreHandedIn task own word start theirs (w ∷ ws) (r ∷ rs) = IfOk r (HandsIn task own word start theirs w)
+      × AreHandedIn task own word start theirs ws rs
 
   -- Workers of some deques have done their work, who were given no more than one path on each way, and a tally of each deque.
-  pub record AreDone {E : Type 0} (task : GuidedTask) (own : ℕ) (word : TableId) (start : ℕ) (worked : List (Result (Worker F) E)) : Type 0 where
+  pub record AreDone {E : Type 0} (task : GuidedTask) (own : ℕ) (word : TableId) (start : ℕ)
+      (worked : List (Result (Worker F) E)) : Type 0 where
     pub jobs : List (Worker F)
     pub handed : AreHandedIn task own word start (map deque_of_worker jobs) jobs worked
     pub one : (sides : List Bool) → given_to sides jobs ≤ 1
     pub lent : All (λ w. lent_of_worker w ≡ length jobs) jobs
 
--- A hand of the word that has looked at nothing, where the word starts at what the rows cost by themselves. It has lowered the word by no less than
--- what the choices cost that are kept.
+-- A hand of the word that has looked at nothing, where the word starts at what the rows cost by themselves. It has lowered the
+-- word by no less than what the choices cost that are kept.
 pub record IsFirstHand (own best : ℕ) (word : TableId) (hand : HandValue) : Type 0 where
   pub word_is : hand.word ≡ word
   pub start_is : hand.start ≡ min own nothing_looked

@@ -71,7 +71,8 @@ module _ {F : Type 0} where
     }
 
   -- it has done its work, and has found its deque empty at the end; an evaluator that it has is one of the task
-  pub record IsDone (task : GuidedTask) (own : ℕ) (word : TableId) (start : ℕ) (theirs : List RowsId) (before after : Worker F) : Type 0 where
+  pub record IsDone (task : GuidedTask) (own : ℕ) (word : TableId) (start : ℕ) (theirs : List RowsId)
+      (before after : Worker F) : Type 0 where
     pub works : IsWorking task own word start (λ s. paths_on s before.owner.account.put) nothing after
     pub empty : WasEmpty after.owner.account
     pub evaluator : IfSome after.evaluator (IsOver task.task)
@@ -79,8 +80,8 @@ module _ {F : Type 0} where
     pub lent : after.owner.account.lent ≡ before.owner.account.lent
     pub deques : map deque_of after.tallies.items ≡ theirs
 
-  -- It has taken and handed in nothing, and has a new tally of each deque, a hand of the word that has lowered and looked at nothing, the rows'
-  -- own choices, and no evaluator or one of the task.
+  -- It has taken and handed in nothing, and has a new tally of each deque, a hand of the word that has lowered and looked at
+  -- nothing, the rows' own choices, and no evaluator or one of the task.
   pub record IsNewWorker (task : Task) (own : ℕ) (word : TableId) (start : ℕ) (theirs : List RowsId) (w : Worker F) : Type 0 where
     pub taken : w.owner.account.taken ≡ []
     pub tallies : w.tallies.items ≡ map new_tally theirs

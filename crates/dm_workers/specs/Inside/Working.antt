@@ -21,7 +21,8 @@ abbrev pub AreListed : ℕ → List ℕ → Type 0
 AreListed best lowered = All (λ c. (best ≤ c) ⊎ (c ≡ nothing_looked)) lowered
 
 -- Leaves that are known, choices that are kept, and a hand of so many seats of the word that starts so.
-pub record AreFindings (task : GuidedTask) (own : ℕ) (word : TableId) (start seats : ℕ) (hand : HandValue) (leaves : List Leaf) (choices : List Decision) (cost : ℕ) : Type 0 where
+pub record AreFindings (task : GuidedTask) (own : ℕ) (word : TableId) (start seats : ℕ) (hand : HandValue) (leaves : List Leaf)
+    (choices : List Decision) (cost : ℕ) : Type 0 where
   pub ends : All (IsHandedIn task cost hand.looked) leaves
   pub kept : AreKept task.task own choices cost
   pub listed : AreListed cost hand.lowered
@@ -30,7 +31,9 @@ pub record AreFindings (task : GuidedTask) (own : ℕ) (word : TableId) (start s
   pub room : hand.room ≡ seats
 
 -- On each way no more paths were put and leaves handed in, with what is in hand, than were given and taken.
-pub record IsAtWork (task : GuidedTask) (own : ℕ) (word : TableId) (start : ℕ) (given in_hand : List Bool → ℕ) (owner : TallyValue Path) (tallies : List (TallyValue Path)) (hand : HandValue) (leaves : List Leaf) (choices : List Decision) (cost : ℕ) : Type 0 where
+pub record IsAtWork (task : GuidedTask) (own : ℕ) (word : TableId) (start : ℕ) (given in_hand : List Bool → ℕ)
+    (owner : TallyValue Path) (tallies : List (TallyValue Path)) (hand : HandValue) (leaves : List Leaf)
+    (choices : List Decision) (cost : ℕ) : Type 0 where
   pub fair : (sides : List Bool) →
       paths_on sides owner.account.put + leaves_on sides leaves + in_hand sides ≤ given sides + paths_on sides owner.account.taken + taken_on sides tallies
   pub found : AreFindings task own word start 1 hand leaves choices cost
