@@ -1,11 +1,13 @@
-use Rattle.std.proofs.Common.{rules, subst}
+use Rattle.std.proofs.Common.{ap, subst, ◌∙◌, map}
 use Rattle.std.specs.List.Sorted.{IsPermutation}
-use Rattle.std.proofs.lemmas.List.Sorted.{IsNonDecreasingBy-from_sort_by_key}
-use Rattle.dm_schedule.specs.declared.schedule.Scheduled.{Scheduled}
+use Rattle.std.proofs.lemmas.List.Sorted.{IsNonDecreasingBy-from_sort}
+use Rattle.dm_schedule.specs.Inside.Keys.{scheduled_of}
+use Rattle.dm_schedule.proofs.Keys.{keys_schedule}
 use Rattle.dm_schedule.proofs.schedule.schedule_of.Goals as goal
 
 pub returns : goal.returns
-returns c = record {
-  all = subst (λ xs. IsPermutation xs c.sort_by_key.new.self.items) c.in_ok-schedule.ensures c.sort_by_key.ensures.permutation;
-  rising = IsNonDecreasingBy-from_sort_by_key (λ (s : Scheduled). s.time) _ c.in_ok-sort_by_key.ensures.sorted (λ a r q k. search rules);
-}
+returns c =
+    keys_schedule c.args.net.now c.reveal.ensures.within.events c.sort_unstable.new.self.items c.in_ok-schedule.schedule.items
+    (subst (λ xs. IsPermutation xs c.sort_unstable.new.self.items) c.in_ok-keys.ensures c.sort_unstable.ensures.permutation)
+    (IsNonDecreasingBy-from_sort (λ x. x) c.sort_unstable.new.self.items c.sort_unstable.ensures.sorted)
+    (c.in_ok-schedule.ensures ∙ ap (map scheduled_of) c.deref.ensures.value)
