@@ -1,5 +1,5 @@
 //! The rows of a day, and what one message does to them.
-ghost use Rattle.std.specs.Prelude.{ℕ, slice_index_or, ◌≡◌, ◌<◌, ◌≤◌, length, All, fold, IfOk, IfSome};
+ghost use Rattle.std.specs.Prelude.{ℕ, slice_index_or, ◌≡◌, ◌<◌, ◌≤◌, ◌^◌, length, All, fold, IfOk, IfSome};
 ghost use Rattle.dm_network.specs.Net.{Net};
 ghost use Rattle.dm_rows.specs.Rows.{IsSized, AreAsLong, RowsAreWithinLimits, event_delay_at, act_delay_at, passed_at, kept_at, small_first_at};
 ghost use Rattle.dm_rows.specs.Inside.Delays.{IsStartWith};
@@ -17,9 +17,11 @@ use std::marker::Model;
 /// The source delays, the passed events, the kept changes and the order of each pair, by place, and the clock.
 pub struct Rows {
     alloc: Global,
-    event_delays: Vec<u64>,
-    act_delays: Vec<u64>,
-    passed: Vec<Option<u64>>,
+
+    /// Delays and passed times are below 2^32, and so take half the room.
+    event_delays: Vec<u32>,
+    act_delays: Vec<u32>,
+    passed: Vec<Option<u32>>,
     kept: Vec<bool>,
     small_first: Vec<bool>,
     clock: u64,
@@ -56,6 +58,24 @@ impl Model for Rows {
     ghost invariant = { λ r. NumbersAreWithinLimits r.event_delays.items r.act_delays.items r.passed.items r.clock };
 }
 
+/// The same number of seconds in half the room.
+pub(crate) fn narrow(seconds: Secs) -> u32
+    requires { seconds < 2 ^ 32 }
+    ensures { result ≡ seconds }
+{
+    seconds as u32
+}
+
+/// The same time, if there is one.
+fn widened(time: Option<u32>) -> Option<Secs>
+    ensures { result ≡ time }
+{
+    match time {
+        Some(seconds) => Some(u64::from(seconds)),
+        None => None,
+    }
+}
+
 /// The rows at an entry of a history.
 pub struct Snapshot {
     pub entry: u32,
@@ -73,8 +93,8 @@ impl Rows {
     pub(crate) fn at_start(
         alloc: Global,
         net: &Network,
-        event_delays: Vec<Secs>,
-        act_delays: Vec<Secs>,
+        event_delays: Vec<u32>,
+        act_delays: Vec<u32>,
     ) -> Result<Rows, AllocError>
         requires events_within { (i : ℕ) → slice_index_or event_delays.items i 0 ≤ DELAY }
         requires activities_within { (a : ℕ) → slice_index_or act_delays.items a 0 ≤ DELAY }
@@ -112,7 +132,7 @@ impl Rows {
         ensures value { result ≡ event_delay_at self.now i }
         ensures limit { result ≤ DELAY }
     {
-        self.event_delays[i]
+        u64::from(self.event_delays[i])
     }
 
     /// The source delay of the activity at this place, in seconds.
@@ -121,7 +141,7 @@ impl Rows {
         ensures value { result ≡ act_delay_at self.now a }
         ensures limit { result ≤ DELAY }
     {
-        self.act_delays[a]
+        u64::from(self.act_delays[a])
     }
 
     /// When the event at this place has passed, in seconds, or `None` where it has not.
@@ -130,7 +150,7 @@ impl Rows {
         ensures value { result ≡ passed_at self.now i }
         ensures limit { IfSome result (λ t. t ≤ PASSED_TIME) }
     {
-        self.passed[i]
+        widened(self.passed[i])
     }
 
     /// Whether the change at this place is kept.
@@ -215,9 +235,9 @@ impl Rows {
         ensures sizes { (net : Net) → IsSized net self.old → IsSized net self.new }
     {
         match change {
-            Change::EventDelay { event, delay } => self.event_delays[*event] = *delay,
-            Change::ActDelay { act, delay } => self.act_delays[*act] = *delay,
-            Change::Passed { event, time } => self.passed[*event] = Some(*time),
+            Change::EventDelay { event, delay } => self.event_delays[*event] = narrow(*delay),
+            Change::ActDelay { act, delay } => self.act_delays[*act] = narrow(*delay),
+            Change::Passed { event, time } => self.passed[*event] = Some(narrow(*time)),
             Change::Recalled { event } => self.passed[*event] = None,
             Change::Flipped(flip) => self.set(*flip),
             Change::Adopted(flips) => {

@@ -7,8 +7,8 @@ ghost use Rattle.dm_rows.specs.Inside.Delays.{AreDelaysOf, count_of, number_of, 
 ghost use Rattle.dm_rows.specs.StartFaults.{DelaysAreWithin, RefusesDelayRecords, AllAreKnown, event_numbered, activity_numbered};
 
 use crate::messages::StartFault;
-use crate::rows::Rows;
-use dm_base::{ActId, DelayRow, EventId, Secs};
+use crate::rows::{Rows, narrow};
+use dm_base::{ActId, DelayRow, EventId};
 use dm_network::Network;
 use std::alloc::{AllocError, Global};
 
@@ -81,7 +81,7 @@ fn delays_of(
     net: &Network,
     delayed: Delayed,
     records: &[DelayRow],
-) -> Result<Vec<Secs>, StartFault>
+) -> Result<Vec<u32>, StartFault>
     requires { DelaysAreWithin records.now }
     ensures delays { IfOk result (λ delays. AreDelaysOf (count_of net.now delayed) (number_of net.now delayed) records.now delays.items) }
     ensures known { OnOk result (AllAreKnown (place_numbered net.now delayed) records.now) }
@@ -96,7 +96,7 @@ fn delays_of(
         let Some(place) = delayed.place(net, record.id) else {
             return Err(delayed.unknown(record.id));
         };
-        delays[place] = record.delay;
+        delays[place] = narrow(record.delay);
     }
     Ok(delays)
 }

@@ -1,14 +1,22 @@
 use Rattle.std.proofs.Common.{arith, sym}
 use Rattle.std.proofs.lemmas.List.{get_or_default}
+use Rattle.std.proofs.lemmas.Option.{slice_get-get_or}
 use Rattle.dm_rows.proofs.StartDelays.{one_more_delay, all_delays, all_known, delayed_alone, first_unknown}
 use Rattle.dm_rows.proofs.starting.delays_of.Goals as goal
 
+pub narrow-requires : goal.narrow-requires
+narrow-requires c =
+    let small = c.requires c.loop-record.record-index _ (slice_get-get_or c.args.records.now c.loop-record.record-index _ c.loop-record-test.true) in
+    omega (arith, small)
+
 pub loop-record-preserved : goal.loop-record-preserved
 loop-record-preserved c =
+    rw c.narrow.ensures (
     one_more_delay _ _ _ c.args.records.now c.loop-record.record-index c.loop-record.delays.items _ c.in-Some.place c.requires
     c.loop-record.invariant c.loop-record-test.true
     (get_or_default c.args.records.now c.loop-record.record-index _ _ c.loop-record-test.true)
     (sym c.in-Some.ensures) (delayed_alone c.args.net.now c.reveal.ensures.network c.args.delayed _ c.in-Some.place (sym c.in-Some.ensures))
+    )
 
 pub returns-clause-delays : goal.returns-clause-delays
 returns-clause-delays c = all_delays _ _ _ c.args.records.now c.loop-record.record-index _ (omega arith) c.loop-record.invariant

@@ -15,5 +15,7 @@ of_item xs i r P below is h = of_value r P (λ t e. h t (get_or_default xs i Non
 
 pub returns-clause-limit : goal.returns-clause-limit
 returns-clause-limit c =
+    rw c.widened.ensures (
     of_item c.self.inside.passed.items c.args.i c.index.result.now _ (subst (λ (v : RowsValue). c.args.i < length v.passed) (sym c.self.view_is) c.requires) c.index.ensures
     (c.self.invariant.of_passed c.args.i)
+    )
