@@ -1,9 +1,10 @@
 -- Numbers that stand twice in a list.
-use Rattle.std.proofs.Common.{◌≡◌, ℕ, zero, suc, ◌+◌, ◌-◌, ◌<◌, ◌≤◌, cond, eqb, List, [], ◌∷◌, length, get_or, refl, ap, ◌∙◌, subst, inl, inr, arith, Some, None, Option, MatchOption, slice_get}
+use Rattle.std.proofs.Common.{◌≡◌, ℕ, zero, suc, ◌+◌, ◌-◌, ◌<◌, ◌≤◌, cond, eqb, List, [], ◌∷◌, length, map, get_or, refl, sym, ap, ◌∙◌, subst, inl, inr, arith, Some, None, Option, MatchOption, slice_get}
 use Rattle.std.specs.List.{sum_by}
 use Rattle.std.specs.List.Sorted.{IsNonDecreasing, IsPermutation}
 use Rattle.std.proofs.lemmas.Bool.{cases_lt, cases_Bool, eqb-true, eq-eqb}
 use Rattle.std.proofs.lemmas.Option.{slice_get_within, slice_get-get_or, get_or_from_slice_get}
+use Rattle.std.proofs.lemmas.List.{get_or-map}
 use Rattle.std.proofs.lemmas.List.Sums.{sum_by-cons}
 use Rattle.std.proofs.lemmas.List.Sorted.{sum_by-IsPermutation, IsPermutation-sym}
 use Rattle.dm_network.specs.Build.{StandsTwice, NoneStandsTwice, IsLeastDouble}
@@ -59,6 +60,34 @@ none_stands_twice xs i front all id t =
     let o = t.apart in
     let r = front_rises_to xs i front t.first t.second o (omega arith) in
     omega arith
+
+-- the first numbers rise, and each is below the least that the next one may be
+pub record RisesTo (xs : List ℕ) (i least : ℕ) : Type 0 where
+  pub front : FrontRises xs i
+  pub below : (k : ℕ) → k < i → get_or xs k 0 < least
+
+-- one number more
+pub rises_more : {X : Type 0} (number : X → ℕ) (items : List X) (i least : ℕ) (x : X) (n : ℕ) → RisesTo (map number items) i least → i < length items →
+    x ≡ get_or items i x → n ≡ number x → least ≤ n → RisesTo (map number items) (i + 1) (n + 1)
+rises_more number items i least x n rises lt is value le =
+    let here : get_or (map number items) i 0 ≡ n = get_or-map number items i x 0 lt ∙ ap number (sym is) ∙ sym value in
+    record {
+      front = λ k up.
+          elim (cases_lt (k + 1) i) [
+            | inl before ↦ rises.front k before
+            | inr past ↦
+                let e : k + 1 ≡ i = omega arith in
+                let low = rises.below k (omega arith) in
+                rw e (omega (arith, here, low, le))
+          ];
+      below = λ k lt.
+          elim (cases_lt k i) [
+            | inl before ↦ let low = rises.below k before in omega (arith, low, le)
+            | inr past ↦
+                let e : k ≡ i = omega arith in
+                rw e (omega (arith, here))
+          ];
+    }
 
 abbrev pub one_at : ℕ → ℕ → ℕ
 one_at id x = cond (eqb x id) 1 0

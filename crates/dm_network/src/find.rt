@@ -5,10 +5,10 @@ ghost use Rattle.dm_network.specs.Pairs.{joins};
 ghost use Rattle.dm_network.specs.Inside.Flat.{ArePairsInOrder, stands_before, StandsWithin};
 
 use crate::parts::{Activity, Event, Pair};
-use dm_base::{ActId, EventId, StopId};
+use dm_base::{ActId, ActRow, EventId, EventRow, StopId};
 
 /// What has a number of its own, in ascending order of which lists stand.
-trait Numbered {
+pub trait Numbered {
     ghost number: { Self → ℕ };
 
     fn number(&self) -> u32
@@ -25,6 +25,22 @@ impl Numbered for Event {
 
 impl Numbered for Activity {
     ghost number = { λ a. a.id.0 };
+
+    fn number(&self) -> u32 {
+        self.id.0
+    }
+}
+
+impl Numbered for EventRow {
+    ghost number = { λ row. row.id.0 };
+
+    fn number(&self) -> u32 {
+        self.id.0
+    }
+}
+
+impl Numbered for ActRow {
+    ghost number = { λ row. row.id.0 };
 
     fn number(&self) -> u32 {
         self.id.0

@@ -5,8 +5,7 @@ ghost use Rattle.dm_network.specs.Inside.Stages.{AreEventsOf, RefusesEvents, Are
 
 use crate::parts::{Activity, Event, NetFault, Pair};
 use crate::records::{
-    first_zero_headway, ids_of_activities, ids_of_events, least_double, resolved,
-    sorted_activities, sorted_events,
+    double_number, first_zero_headway, resolved, sorted_activities, sorted_events,
 };
 use dm_base::{ActId, ActRow, EventId, EventRow};
 use std::alloc::Global;
@@ -24,7 +23,7 @@ pub fn events_from(alloc: Global, rows: Vec<EventRow>) -> Result<Vec<Event>, Net
     ensures ok { IfOk result (λ events. AreEventsOf rows.items events.items) }
     ensures err { IfErr result (RefusesEvents rows.items) }
 {
-    if let Some(id) = least_double(ids_of_events(alloc, &rows)?) {
+    if let Some(id) = double_number(alloc, &rows)? {
         return Err(NetFault::DoubleEvent(EventId(id)));
     }
     let events = sorted_events(alloc, rows)?;
@@ -41,7 +40,7 @@ pub fn activities_from(
     ensures ok { IfOk result (λ activities. AreActivitiesOf events.now rows.now activities.items) }
     ensures err { IfErr result (RefusesActivities events.now rows.now) }
 {
-    if let Some(id) = least_double(ids_of_activities(alloc, rows)?) {
+    if let Some(id) = double_number(alloc, rows)? {
         return Err(NetFault::DoubleActivity(ActId(id)));
     }
     let activities = match resolved(alloc, events, rows) {

@@ -1,16 +1,16 @@
 //! Events and activities from records, and what is wrong with records.
-ghost use Rattle.std.specs.Prelude.{◌≡◌, map, IfOk, IfErr, MatchOption, IsPermutation};
+ghost use Rattle.std.specs.Prelude.{◌≡◌, map, IfOk, IfErr, IsTrue, MatchOption, IsPermutation};
 ghost use Rattle.std.specs.List.Sorted.{IsStrictlyIncreasing, IsNonDecreasing};
-ghost use Rattle.dm_network.specs.Build.{event_row, event_ids, activity_ids, NamesNoEvent, IsFirst, HoldsOfNone, IsZeroHeadway, NoneStandsTwice, IsLeastDouble};
+ghost use Rattle.dm_network.specs.Build.{event_row, NamesNoEvent, IsFirst, HoldsOfNone, IsZeroHeadway, NoneStandsTwice, IsLeastDouble};
 ghost use Rattle.dm_network.specs.Inside.Stages.{event_with, Resolves, AreResolved, RefusesEnds};
 
-use crate::find::event_place;
+use crate::find::{Numbered, event_place};
 use crate::parts::{Activity, Event, NetFault};
 use dm_base::{ActId, ActKind, ActRow, EventRow};
 use std::alloc::{AllocError, Global};
 
 /// The least number that stands twice.
-pub fn least_double(mut ids: Vec<u32>) -> Option<u32>
+fn least_double(mut ids: Vec<u32>) -> Option<u32>
     ensures { MatchOption result (NoneStandsTwice ids.items) (λ id. IsLeastDouble ids.items id) }
 {
     ids.sort_unstable();
@@ -30,18 +30,38 @@ fn first_tie(ids: &[u32]) -> Option<u32>
     None
 }
 
-/// The ids of event records.
-pub fn ids_of_events(alloc: Global, rows: &[EventRow]) -> Result<Vec<u32>, AllocError>
-    ensures { IfOk result (λ ids. ids.items ≡ event_ids rows.now) }
+/// The least number that stands twice in a list. Where each is above the one before it, as in most files, none is copied.
+pub fn double_number<T: Numbered>(alloc: Global, items: &[T]) -> Result<Option<u32>, AllocError>
+    ensures { IfOk result (λ double. MatchOption double (NoneStandsTwice (map T.number items.now))
+        (λ id. IsLeastDouble (map T.number items.now) id)) }
 {
-    rows.iter().map(|row| row.id.0).collect(alloc)
+    if rises(items) {
+        return Ok(None);
+    }
+    let numbers = numbers_of(alloc, items)?;
+    Ok(least_double(numbers))
 }
 
-/// The ids of activity records.
-pub fn ids_of_activities(alloc: Global, rows: &[ActRow]) -> Result<Vec<u32>, AllocError>
-    ensures { IfOk result (λ ids. ids.items ≡ activity_ids rows.now) }
+/// Whether each number is above the one before it, so that none stands twice.
+fn rises<T: Numbered>(items: &[T]) -> bool
+    ensures { IsTrue result → NoneStandsTwice (map T.number items.now) }
 {
-    rows.iter().map(|row| row.id.0).collect(alloc)
+    let mut least = 0;
+    for item in items {
+        let number = u64::from(item.number());
+        if number < least {
+            return false;
+        }
+        least = number + 1;
+    }
+    true
+}
+
+/// The numbers of a list, in its order.
+fn numbers_of<T: Numbered>(alloc: Global, items: &[T]) -> Result<Vec<u32>, AllocError>
+    ensures { IfOk result (λ numbers. numbers.items ≡ map T.number items.now) }
+{
+    items.iter().map(|item| item.number()).collect(alloc)
 }
 
 /// The events of the records, in ascending order of ids.

@@ -1,16 +1,14 @@
-use Rattle.std.proofs.Common.{subst}
-use Rattle.dm_network.specs.Build.{NoneStandsTwice}
 use Rattle.dm_network.proofs.Formation.{activities_are, ends_refused}
 use Rattle.dm_network.proofs.forming.activities_from.Goals as goal
 
 pub returns-in-Err-clause-err : goal.returns-in-Err-clause-err
 returns-in-Err-clause-err c =
     ends_refused c.args.events.now c.args.rows.now c.in-Err.fault
-    (subst (λ ids. NoneStandsTwice ids) c.in_ok-ids_of_activities.ensures c.in_default.ensures) c.in-Err.ensures.err
+    (rw c.in_default.is at c.in_ok-double_number.ensures) c.in-Err.ensures.err
 
 pub returns-in-Some-first_zero_headway-clause-err : goal.returns-in-Some-first_zero_headway-clause-err
 returns-in-Some-first_zero_headway-clause-err c = (
-  subst (λ ids. NoneStandsTwice ids) c.in_ok-ids_of_activities.ensures c.in_default.ensures,
+  rw c.in_default.is at c.in_ok-double_number.ensures,
   c.in-Ok.ensures.ok.known,
   c.in-Some-first_zero_headway.ensures,
 )
@@ -19,5 +17,5 @@ pub returns-clause-ok : goal.returns-clause-ok
 returns-clause-ok c =
     activities_are c.args.events.now c.args.rows.now c.in-Ok.activities.items c.in_ok-sorted.sorted.items c.in-Ok.ensures.ok
     c.in_ok-sorted.ensures.same c.in_ok-sorted.ensures.ascend
-    (subst (λ ids. NoneStandsTwice ids) c.in_ok-ids_of_activities.ensures c.in_default.ensures)
+    (rw c.in_default.is at c.in_ok-double_number.ensures)
     c.in_default-first_zero_headway.ensures
