@@ -1,5 +1,5 @@
 //! Arrays beside a network, for its readers and for the search for a cycle.
-ghost use Rattle.std.specs.Prelude.{◌≡◌, ◌<◌, ◌≤◌, [], map, length, IfOk, All, slice_index_or};
+ghost use Rattle.std.specs.Prelude.{◌≡◌, ◌<◌, ◌≤◌, ◌^◌, [], map, length, IfOk, All, slice_index_or};
 ghost use Rattle.std.specs.List.{range_with_len};
 ghost use Rattle.dm_network.specs.Net.{no_activity};
 ghost use Rattle.dm_network.specs.Start.{binds_at_start, is_start_active};
@@ -18,11 +18,11 @@ pub struct ByStop {
     pub places: Vec<usize>,
 }
 
-/// A stop, and the place of an event there.
+/// A stop, and the place of an event there. Places of events are far below 2^32, and small items are sorted quickly.
 #[derive(Clone, Copy)]
 pub struct Standing {
     pub stop: StopId,
-    pub place: usize,
+    pub place: u32,
 }
 
 /// What stands beside a network: the tail of each activity, the activities by head and by tail, and the events by stop.
@@ -60,6 +60,7 @@ pub fn arrays_of(
 
 /// The events by stop.
 pub fn by_stop(alloc: Global, events: &[Event]) -> Result<ByStop, AllocError>
+    requires { length events.now ≤ EVENTS }
     ensures { IfOk result (λ b. AreStopsOf events.now b.stops.items b.places.items) }
 {
     let sorted = sorted_standings(standings(alloc, events)?)?;
@@ -70,16 +71,24 @@ pub fn by_stop(alloc: Global, events: &[Event]) -> Result<ByStop, AllocError>
 
 /// Each event's stop and place, in order of places.
 fn standings(alloc: Global, events: &[Event]) -> Result<Vec<Standing>, AllocError>
+    requires { length events.now ≤ EVENTS }
     ensures { IfOk result (λ s. s.items ≡ map (standing_at events.now) (range_with_len 0 (length events.now))) }
 {
-    let mut standings = Vec::new(alloc);
+    let mut standings = Vec::with_capacity(alloc, events.len())?;
     for (place, event) in events.iter().enumerate() {
         standings.push(Standing {
             stop: event.stop,
-            place,
+            place: short(place),
         })?;
     }
     Ok(standings)
+}
+
+fn short(place: usize) -> u32
+    requires { place < 2 ^ 32 }
+    ensures { result ≡ place }
+{
+    place as u32
 }
 
 /// The same in ascending order of stops, those of one stop in their order.
@@ -99,7 +108,7 @@ fn stops_of(alloc: Global, standings: &[Standing]) -> Result<Vec<StopId>, AllocE
 fn places_of(alloc: Global, standings: &[Standing]) -> Result<Vec<usize>, AllocError>
     ensures { IfOk result (λ places. places.items ≡ map (λ s. s.place) standings.now) }
 {
-    standings.iter().map(|s| s.place).collect(alloc)
+    standings.iter().map(|s| s.place as usize).collect(alloc)
 }
 
 /// The tail of each activity.
