@@ -27,7 +27,7 @@ fn numbered(alloc: Global, links: &[Link]) -> Result<Vec<ActRow>, AllocError>
     requires { length links.now < 2 ^ 32 }
     ensures { IfOk result (λ rows. rows.items ≡ numbered_from 1 links.now) }
 {
-    let mut rows = Vec::new(alloc);
+    let mut rows = Vec::with_capacity(alloc, links.len())?;
     for (place, link) in links.iter().enumerate() {
         rows.push(link.with_id(place as u32 + 1))?;
     }
