@@ -7,6 +7,7 @@ ghost use Rattle.dm_lintim.specs.Files.{IsActivityRow, IsActivityWord, IsWord, R
 
 use crate::columns::{Column, Columns};
 use crate::fault::FileFault;
+use crate::field::is_word;
 use crate::rows::{Row, read_rows};
 use crate::values::Values;
 use dm_base::limits::FILE;
@@ -18,19 +19,19 @@ fn activity_kind(text: &[u8]) -> Option<ActKind>
     ensures found { IfSome result (λ k. IsWord (activity_word k) text.now) }
     ensures none { IfNone result (IsActivityWord text.now → ⊥) }
 {
-    if text.eq_ignore_ascii_case("drive".as_bytes()) {
+    if is_word(text, "drive") {
         return Some(ActKind::Drive);
     }
-    if text.eq_ignore_ascii_case("wait".as_bytes()) {
+    if is_word(text, "wait") {
         return Some(ActKind::Wait);
     }
-    if text.eq_ignore_ascii_case("turnaround".as_bytes()) {
+    if is_word(text, "turnaround") {
         return Some(ActKind::Turnaround);
     }
-    if text.eq_ignore_ascii_case("change".as_bytes()) {
+    if is_word(text, "change") {
         return Some(ActKind::Change);
     }
-    if text.eq_ignore_ascii_case("headway".as_bytes()) {
+    if is_word(text, "headway") {
         return Some(ActKind::Headway);
     }
     None

@@ -7,6 +7,7 @@ ghost use Rattle.dm_lintim.specs.Files.{IsEventRow, IsEventWord, IsWord, ReadsEv
 
 use crate::columns::{Column, Columns};
 use crate::fault::FileFault;
+use crate::field::is_word;
 use crate::rows::{Row, read_rows};
 use crate::values::Values;
 use dm_base::limits::FILE;
@@ -18,10 +19,10 @@ fn event_kind(text: &[u8]) -> Option<EventKind>
     ensures found { IfSome result (λ k. IsWord (event_word k) text.now) }
     ensures none { IfNone result (IsEventWord text.now → ⊥) }
 {
-    if text.eq_ignore_ascii_case("departure".as_bytes()) {
+    if is_word(text, "departure") {
         return Some(EventKind::Departure);
     }
-    if text.eq_ignore_ascii_case("arrival".as_bytes()) {
+    if is_word(text, "arrival") {
         return Some(EventKind::Arrival);
     }
     None

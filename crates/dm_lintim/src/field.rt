@@ -1,5 +1,6 @@
 //! The cell of a field: the part without blanks at its ends and without one pair of quotes.
-ghost use Rattle.std.specs.Prelude.{◌≡◌, ◌-◌, ◌+◌, ◌≤◌, length};
+ghost use Rattle.std.specs.Prelude.{◌≡◌, ◌-◌, ◌+◌, ◌≤◌, ◌↔◌, IsTrue, length, map};
+ghost use Rattle.std.specs.Char.{to_ascii_lowercase};
 ghost use Rattle.std.specs.List.{prefix_len, suffix_len};
 ghost use Rattle.dm_lintim.specs.Pieces.{is_blank, cell_of, unquoted, without_front_blanks, without_end_blanks};
 
@@ -61,4 +62,14 @@ pub(crate) fn cell_of(field: &[u8]) -> &[u8]
     ensures { result.now ≡ cell_of field.now }
 {
     unquoted(trim_end(trim_front(field)))
+}
+
+/// Whether a text is a word; ASCII letters count in either case. Most texts have them in the word's, so this is tried first.
+pub(crate) fn is_word(text: &[u8], word: &str) -> bool
+    ensures { IsTrue result ↔ (map to_ascii_lowercase text.now ≡ map to_ascii_lowercase word.now) }
+{
+    if text == word.as_bytes() {
+        return true;
+    }
+    text.eq_ignore_ascii_case(word.as_bytes())
 }
