@@ -1,5 +1,5 @@
 -- Texts of digits: they are their own cells, and the number grows by a digit at a time.
-use Rattle.std.proofs.Common.{◌≡◌, ◌≤◌, ◌<◌, ◌+◌, ◌-◌, ◌*◌, ◌^◌, ◌∙◌, ℕ, false, List, length, get_or, Option, Some, None, IfSome, Result, Ok, Err, refl, ap, subst, sym, arith, add-one}
+use Rattle.std.proofs.Common.{◌≡◌, ◌≤◌, ◌<◌, ◌+◌, ◌-◌, ◌*◌, ◌^◌, ◌∙◌, ℕ, false, List, length, get_or, Option, Some, None, IfSome, refl, ap, subst, sym, arith, add-one}
 use Rattle.std.proofs.Math.Nat.{pow-le-pow_right, pow-suc}
 use Rattle.std.proofs.lemmas.Bool.{ne_eqb}
 use Rattle.std.proofs.lemmas.List.{drop_all, take_all}
@@ -9,11 +9,9 @@ use Rattle.std.specs.List.{suffix_len}
 use Rattle.dm_base.specs.Numbers.{IsDigits, IsMilliText, milli_value, whole_value}
 use Rattle.dm_base.proofs.NumberLemmas.{milli_form, milli_value_is}
 use Rattle.dm_lintim.specs.Pieces.{cell_of, is_blank, is_quoted, unquoted, without_end_blanks, without_front_blanks}
-use Rattle.dm_lintim.specs.Files.{IsNumber, RefusesNumber, largest_of}
+use Rattle.dm_lintim.specs.Files.{IsNoWord, TakesBy, TakesField, Use, largest_of, passed_over, thousandths, use_of, whole, word}
+use Rattle.dm_lintim.specs.Inside.Values.{HoldsNumber, IsNumberUse, IsUsualUnder, number_by, units_by, units_of}
 use Rattle.dm_lintim.specs.declared.columns.Column.{Column}
-use Rattle.dm_lintim.specs.declared.fault.FileKind.{FileKind}
-use Rattle.dm_lintim.specs.declared.fault.FileKind.TheVariants as kind
-use Rattle.std.specs.Prelude.{IfErr, IfOk, MatchResult, OnOk}
 
 no_blank : (c : ℕ) → IsAsciiDigit c → is_blank c ≡ false
 no_blank c digit = grind (arith, digit)
@@ -67,22 +65,28 @@ usual field text (Some n) is gives =
     let same : text ≡ cell_of field = is ∙ digits_are_cell field (subst IsDigits is gives.0) in
     (subst IsDigits same gives.0, gives.1 ∙ ap whole_value same)
 
--- the thousandths of a text of digits, under a column
-module _ (column : Column) (text : List ℕ) (number : ℕ) (digits : IsDigits text) (is : number ≡ whole_value text) where
-  as_milli : 1000 * number ≡ milli_value text
-  as_milli = ap (λ n. 1000 * n) is ∙ sym (milli_of_digits text digits)
+-- a text of digits under a column that holds numbers
+usual_by : (u : Use) (column : Column) (text : List ℕ) (digits number : ℕ) → IsNumberUse u → IsDigits text → digits ≡ whole_value text
+    → number ≡ units_by u * digits → number ≤ largest_of column → TakesBy u IsNoWord column text × (number ≡ number_by u text)
+usual_by whole column text digits number holds form value is fits = ((form, omega (arith, value, is, fits)), omega (arith, value, is))
+usual_by thousandths column text digits number holds form value is fits =
+    let same = milli_of_digits text form in
+    ((digits_are_milli text form, omega (arith, value, is, fits, same)), omega (arith, value, is, same))
+usual_by word column text digits number holds form value is fits = absurd holds
+usual_by passed_over column text digits number holds form value is fits = absurd holds
 
-  pub milli_takes : (r : Result ℕ FileKind) → MatchResult r (λ n. (n ≡ 1000 * number) × (1000 * number ≤ largest_of column)) (λ why. (largest_of column < 1000 * number) × (why ≡ kind.TooLarge column))
-      → OnOk r (IsNumber (IsMilliText text) (milli_value text) (largest_of column))
-  milli_takes (Ok n) found = (digits_are_milli text digits, rw as_milli at found.1)
-  milli_takes (Err why) found = tt
+pub usual_is : (column : Column) (text : List ℕ) (digits number : ℕ) → HoldsNumber column → IsDigits text → digits ≡ whole_value text
+    → number ≡ units_of column * digits → number ≤ largest_of column → IsUsualUnder column text number
+usual_is column text digits number holds form value is fits =
+    let both = usual_by (use_of column) column text digits number holds form value is fits in
+    record { holds = holds; takes = both.0; value = both.1; fits = fits }
 
-  pub milli_gives : (r : Result ℕ FileKind) → MatchResult r (λ n. (n ≡ 1000 * number) × (1000 * number ≤ largest_of column)) (λ why. (largest_of column < 1000 * number) × (why ≡ kind.TooLarge column))
-      → IfOk r (λ n. n ≡ milli_value text)
-  milli_gives (Ok n) found = found.0 ∙ as_milli
-  milli_gives (Err why) found = tt
+-- no type word matters to a column that holds numbers
+takes_by : (u : Use) (IsKnown : List ℕ → Type 0) (column : Column) (text : List ℕ) → IsNumberUse u → TakesBy u IsNoWord column text → TakesBy u IsKnown column text
+takes_by whole IsKnown column text holds takes = takes
+takes_by thousandths IsKnown column text holds takes = takes
+takes_by word IsKnown column text holds takes = absurd holds
+takes_by passed_over IsKnown column text holds takes = absurd holds
 
-  pub milli_refuses : (r : Result ℕ FileKind) → MatchResult r (λ n. (n ≡ 1000 * number) × (1000 * number ≤ largest_of column)) (λ why. (largest_of column < 1000 * number) × (why ≡ kind.TooLarge column))
-      → IfErr r (RefusesNumber (IsMilliText text) (milli_value text) column)
-  milli_refuses (Ok n) found = tt
-  milli_refuses (Err why) found = rw found.1 (refl, digits_are_milli text digits, rw as_milli at found.0)
+pub usual_takes : (IsKnown : List ℕ → Type 0) (column : Column) (text : List ℕ) (number : ℕ) → IsUsualUnder column text number → TakesField IsKnown (Some column) text
+usual_takes IsKnown column text number usual = takes_by (use_of column) IsKnown column text usual.holds usual.takes

@@ -1,5 +1,5 @@
 -- The values of a record, cell by cell.
-use Rattle.std.proofs.Common.{◌≡◌, ◌≤◌, ◌<◌, ℕ, true, false, List, [], ◌∷◌, ◌+◌, suc, add-one, drop, drop-cons, length, set, get_or, Option, Some, None, refl, sym, ap, ◌∙◌, inl, inr, arith, unwrap_or, get_or-set_same, get_or-set_other}
+use Rattle.std.proofs.Common.{◌≡◌, ◌≤◌, ◌<◌, ℕ, Bool, true, false, List, [], ◌∷◌, ◌+◌, suc, add-one, drop, drop-cons, length, set, get_or, Option, Some, None, refl, sym, ap, ◌∙◌, inl, inr, arith, unwrap_or, get_or-set_same, get_or-set_other}
 use Rattle.std.specs.List.{list_any}
 use Rattle.std.specs.Prelude.{is_some}
 use Rattle.std.proofs.Math.ListN.{drop_of_length-le}
@@ -8,7 +8,7 @@ use Rattle.dm_lintim.specs.declared.columns.Column.{Column}
 use Rattle.dm_lintim.specs.declared.columns.Column.TheVariants as col
 use Rattle.dm_lintim.specs.Columns.{HasAll, column_number, has_column, is_column, same_column}
 use Rattle.dm_lintim.specs.Files.{text_under}
-use Rattle.dm_lintim.specs.Inside.Values.{AreValuesOf, HasKind, HoldsNumber, IsKindOf, KindFrom, LeadsTo, PutsCell, PutsKind, number_from, number_of, put_slot, slot}
+use Rattle.dm_lintim.specs.Inside.Values.{AreValuesOf, HasKind, HoldsNumber, IsKindOf, IsUsualUnder, KindFrom, LeadsTo, PutsCell, PutsKind, number_from, number_of, put_slot, slot}
 use Rattle.dm_lintim.proofs.ColumnLemmas.{same_is}
 
 put_other : (o : Option ℕ) (n : ℕ) → put_slot o false n ≡ o
@@ -118,3 +118,35 @@ module _ {K : Type 0} (Names : K → List ℕ → Type 0) where
   pub has_kind : (cs : List (Option Column)) (fs : List (List ℕ)) (required : List Column) (kind : Option K) → HasAll cs required → IsKindOf Names kind cs fs → HasKind required kind
   has_kind cs fs required None all is any = absurd (true≢false (sym (types_required cs required all any) ∙ is))
   has_kind cs fs required (Some k) all is any = refl
+
+put_alike : (o : Option ℕ) (here : Bool) (n m : ℕ) → (here ≡ true → n ≡ m) → put_slot o here n ≡ put_slot o here m
+put_alike (Some k) here n m same = refl
+put_alike None true n m same = ap Some (same refl)
+put_alike None false n m same = refl
+
+no_kind_column : (column : Column) → HoldsNumber column → same_column col.Kind column ≡ false
+no_kind_column col.Id h = refl
+no_kind_column col.PeriodicId h = refl
+no_kind_column col.Kind h = absurd h
+no_kind_column col.Time h = refl
+no_kind_column col.Weight h = refl
+no_kind_column col.Stop h = refl
+no_kind_column col.Tail h = refl
+no_kind_column col.Head h = refl
+no_kind_column col.Lower h = refl
+no_kind_column col.Upper h = refl
+no_kind_column col.Delay h = refl
+
+kind_stays : {K : Type 0} (Names : K → List ℕ → Type 0) (old : Option K) (text : List ℕ) → PutsKind Names old false text old
+kind_stays Names None text = refl
+kind_stays Names (Some k) text = refl
+
+-- the number of a cell under its column is put
+pub usual_puts : {K : Type 0} (Names : K → List ℕ → Type 0) (column : Column) (text : List ℕ) (number : ℕ) (old new : List (Option ℕ)) (old_kind new_kind : Option K)
+    → IsUsualUnder column text number → ((c : Column) → slot new c ≡ put_slot (slot old c) (same_column c column) number) → new_kind ≡ old_kind
+    → PutsCell Names (Some column) text old old_kind new new_kind
+usual_puts Names column text number old new old_kind new_kind usual put stays = record {
+  numbers = λ c h. put c ∙ put_alike (slot old c) (same_column c column) number (number_of c text)
+      (λ same. usual.value ∙ ap (λ k. number_of k text) (sym (same_is c column same)));
+  kind = rw (no_kind_column column usual.holds, stays) (kind_stays Names old_kind text);
+}

@@ -1,9 +1,10 @@
 //! The cells of a record, and the numbers that they give.
-ghost use Rattle.std.specs.Prelude.{◌≡◌, ◌≤◌, ◌<◌, [], slice_index_or, OnOk, IfOk, IfErr, MatchResult};
+ghost use Rattle.std.specs.Prelude.{◌≡◌, ◌≤◌, ◌<◌, ◌*◌, ◌^◌, [], slice_index_or, IsTrue, OnOk, IfOk, IfErr, IfSome, MatchResult};
 ghost use Rattle.dm_base.specs.Numbers.{IsDigits, IsMilliText, milli_value, whole_value};
 ghost use Rattle.dm_lintim.specs.Files.{IsNumber, RefusesNumber, largest_of};
 ghost use Rattle.dm_lintim.specs.Pieces.{cell_of, is_passed_over};
 ghost use Rattle.dm_lintim.specs.Inside.Reader.{cells_of};
+ghost use Rattle.dm_lintim.specs.Inside.Values.{HoldsNumber, IsUsualUnder, units_of};
 
 use crate::columns::{Column, LARGEST_ID};
 use crate::digits::usual_number;
@@ -60,8 +61,7 @@ fn number_under(column: Column, number: u64) -> Result<u64, FileKind>
     }
 }
 
-// The whole number that a text gives under a column. It stays a call, so that what is inlined above it is small.
-#[inline(never)]
+// The whole number that a text gives under a column.
 fn whole_of_text(column: Column, text: &[u8]) -> Result<u64, FileKind>
     ensures takes { OnOk result (IsNumber (IsDigits text.now) (whole_value text.now) (largest_of column)) }
     ensures value { IfOk result (λ number. number ≡ whole_value text.now) }
@@ -85,28 +85,74 @@ fn milli_of_text(column: Column, text: &[u8]) -> Result<u64, FileKind>
     }
 }
 
-/// The whole number that the cell of a field gives under a column.
-#[inline(always)]
+/// The whole number that the cell of any field gives under a column.
 pub(crate) fn whole_under(column: Column, field: &[u8]) -> Result<u64, FileKind>
     ensures takes { let text = cell_of field.now in OnOk result (IsNumber (IsDigits text) (whole_value text) (largest_of column)) }
     ensures value { IfOk result (λ number. number ≡ whole_value (cell_of field.now)) }
     ensures refuses { let text = cell_of field.now in IfErr result (RefusesNumber (IsDigits text) (whole_value text) column) }
 {
-    match usual_number(field) {
-        Some(number) => number_under(column, number),
-        None => whole_of_text(column, cell_of(field)),
-    }
+    whole_of_text(column, cell_of(field))
 }
 
-/// The number of thousandths that the cell of a field gives under a column.
+/// The number of thousandths that the cell of any field gives under a column.
 pub(crate) fn milli_under(column: Column, field: &[u8]) -> Result<u64, FileKind>
     ensures takes { let text = cell_of field.now in OnOk result (IsNumber (IsMilliText text) (milli_value text) (largest_of column)) }
     ensures value { IfOk result (λ number. number ≡ milli_value (cell_of field.now)) }
     ensures refuses { let text = cell_of field.now in IfErr result (RefusesNumber (IsMilliText text) (milli_value text) column) }
 {
-    match usual_number(field) {
-        Some(number) => number_under(column, 1000 * number),
-        None => milli_of_text(column, cell_of(field)),
+    milli_of_text(column, cell_of(field))
+}
+
+// The number of a text of digits, in the units of the column.
+fn in_units(column: Column, number: u64) -> u64
+    requires { number < 10 ^ 15 }
+    ensures { result ≡ units_of column * number }
+{
+    match column {
+        Column::Weight => 1000 * number,
+        Column::Id
+        | Column::PeriodicId
+        | Column::Kind
+        | Column::Time
+        | Column::Stop
+        | Column::Tail
+        | Column::Head
+        | Column::Lower
+        | Column::Upper
+        | Column::Delay => number,
+    }
+}
+
+// The number that the cell of a field gives under a column of numbers, where it is one of a few digits that the column takes.
+fn usual_number_under(column: Column, field: &[u8]) -> Option<u64>
+    requires { HoldsNumber column }
+    ensures { IfSome result (IsUsualUnder column (cell_of field.now)) }
+{
+    let Some(digits) = usual_number(field) else {
+        return None;
+    };
+    let number = in_units(column, digits);
+    if number > largest(column) {
+        return None;
+    }
+    Some(number)
+}
+
+/// The number that the cell of a field gives under a column, where it is one of a few digits that the column takes: most fields of
+/// numbers are read so. Others give none, whatever they hold.
+pub(crate) fn usual_under(column: Column, field: &[u8]) -> Option<u64>
+    ensures { IfSome result (IsUsualUnder column (cell_of field.now)) }
+{
+    match column {
+        Column::PeriodicId | Column::Kind | Column::Upper => None,
+        Column::Id
+        | Column::Time
+        | Column::Weight
+        | Column::Stop
+        | Column::Tail
+        | Column::Head
+        | Column::Lower
+        | Column::Delay => usual_number_under(column, field),
     }
 }
 

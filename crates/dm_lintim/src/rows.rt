@@ -9,7 +9,7 @@ ghost use Rattle.dm_lintim.specs.Inside.Values.{AreValuesOf, AreWithin, HasKind,
 ghost use Rattle.dm_lintim.specs.Pieces.{cell_of, has_byte_order_mark};
 ghost use Rattle.dm_lintim.specs.Inside.Reader.{cells_of};
 
-use crate::cells::{field_at, is_passed_over, milli_under, whole_under};
+use crate::cells::{field_at, is_passed_over, milli_under, usual_under, whole_under};
 use crate::columns::Column;
 use crate::fault::{FileFault, FileKind};
 use crate::field::cell_of;
@@ -67,8 +67,8 @@ fn read_kind<R: Row>(values: &mut Values<R::Kind>, text: &[u8]) -> Result<(), Fi
     }
 }
 
-// Reads the cell of a field under a column. Where the column is passed over, its cell is not looked for.
-fn read_cell<R: Row>(
+// Reads the cell of any field under a column. Where the column is passed over, its cell is not looked for.
+fn read_any<R: Row>(
     values: &mut Values<R::Kind>,
     column: Option<Column>,
     field: &[u8],
@@ -103,6 +103,28 @@ fn read_cell<R: Row>(
             Ok(())
         }
     }
+}
+
+// Reads the cell of a field under a column.
+fn read_cell<R: Row>(
+    values: &mut Values<R::Kind>,
+    column: Option<Column>,
+    field: &[u8],
+) -> Result<(), FileKind>
+    requires { AreWithin values.old.numbers }
+    ensures takes { OnOk result (TakesField R.is_known column (cell_of field.now)) }
+    ensures puts { OnOk result (PutsCell R.names column (cell_of field.now) values.old.numbers values.old.kind values.new.numbers
+        values.new.kind) }
+    ensures within { OnOk result (AreWithin values.new.numbers) }
+    ensures refuses { IfErr result (RefusesField R.is_known column (cell_of field.now)) }
+{
+    if let Some(column) = column {
+        if let Some(number) = usual_under(column, field) {
+            values.put(column, number);
+            return Ok(());
+        }
+    }
+    read_any::<R>(values, column, field)
 }
 
 // The values of a record, its cells read in the order of the columns.

@@ -5,7 +5,7 @@ use Rattle.dm_base.specs.Numbers.{milli_value, whole_value}
 use Rattle.dm_lintim.specs.declared.columns.Column.{Column}
 use Rattle.dm_lintim.specs.declared.columns.Column.TheVariants as col
 use Rattle.dm_lintim.specs.Columns.{column_number, has_column, is_column, same_column}
-use Rattle.dm_lintim.specs.Files.{Use, largest_of, passed_over, text_under, thousandths, use_of, whole, word}
+use Rattle.dm_lintim.specs.Files.{IsNoWord, TakesField, Use, largest_of, passed_over, text_under, thousandths, use_of, whole, word}
 
 -- the number that a text stands for under a column; a column that holds no number has 0
 abbrev pub number_by : Use → List ℕ → ℕ
@@ -25,6 +25,23 @@ IsNumberUse passed_over = ⊥
 
 abbrev pub HoldsNumber : Column → Type 0
 HoldsNumber column = IsNumberUse (use_of column)
+
+-- how many units of a column a number of digits counts
+abbrev pub units_by : Use → ℕ
+units_by whole = 1
+units_by thousandths = 1000
+units_by word = 1
+units_by passed_over = 1
+
+abbrev pub units_of : Column → ℕ
+units_of column = units_by (use_of column)
+
+-- the column holds numbers, and takes the text, which is one of digits, for this one
+pub record IsUsualUnder (column : Column) (text : List ℕ) (number : ℕ) : Type 0 where
+  pub holds : HoldsNumber column
+  pub takes : TakesField IsNoWord (Some column) text
+  pub value : number ≡ number_of column text
+  pub fits : number ≤ largest_of column
 
 -- the number that was put under a column, if any
 abbrev pub slot : List (Option ℕ) → Column → Option ℕ
