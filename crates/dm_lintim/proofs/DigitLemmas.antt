@@ -1,14 +1,15 @@
 -- Texts of digits: they are their own cells, and the number grows by a digit at a time.
-use Rattle.std.proofs.Common.{◌≡◌, ◌≤◌, ◌<◌, ◌+◌, ◌-◌, ◌*◌, ◌^◌, ◌∙◌, ℕ, false, List, length, get_or, Option, Some, None, IfSome, refl, ap, subst, sym, arith, add-one}
+use Rattle.std.proofs.Common.{◌≡◌, ◌≤◌, ◌<◌, ◌+◌, ◌-◌, ◌*◌, ◌^◌, ◌∙◌, ℕ, suc, true, false, eqb, List, [], ◌∷◌, ◌++◌, length, take, reverse, get_or, inl, inr, Option, Some, None, IfSome, refl, ap, subst, sym, arith, add-one}
 use Rattle.std.proofs.Math.Nat.{pow-le-pow_right, pow-suc}
-use Rattle.std.proofs.lemmas.Bool.{ne_eqb}
-use Rattle.std.proofs.lemmas.List.{drop_all, take_all}
+use Rattle.std.proofs.lemmas.Bool.{cases_Bool, ne_eqb}
+use Rattle.std.proofs.lemmas.List.{drop_all, length-reverse, reverse-append, take_all}
 use Rattle.std.proofs.lemmas.List.Sums.{suffix_len_is}
 use Rattle.std.specs.Char.{IsAsciiDigit}
-use Rattle.std.specs.List.{suffix_len}
+use Rattle.std.specs.List.{prefix_len, suffix_len}
 use Rattle.dm_base.specs.Numbers.{IsDigits, IsMilliText, milli_value, whole_value}
 use Rattle.dm_base.proofs.NumberLemmas.{milli_form, milli_value_is}
-use Rattle.dm_lintim.specs.Pieces.{cell_of, is_blank, is_quoted, unquoted, without_end_blanks, without_front_blanks}
+use Rattle.dm_lintim.specs.Inside.Reader.{begins_with_digit}
+use Rattle.dm_lintim.specs.Pieces.{cell_of, is_blank, is_passed_over, is_quoted, unquoted, without_end_blanks, without_front_blanks}
 use Rattle.dm_lintim.specs.Files.{IsNoWord, TakesBy, TakesField, Use, largest_of, passed_over, thousandths, use_of, whole, word}
 use Rattle.dm_lintim.specs.Inside.Values.{HoldsNumber, IsNumberUse, IsUsualUnder, number_by, units_by, units_of}
 use Rattle.dm_lintim.specs.declared.columns.Column.{Column}
@@ -64,6 +65,52 @@ usual field text None is gives = gives
 usual field text (Some n) is gives =
     let same : text ≡ cell_of field = is ∙ digits_are_cell field (subst IsDigits is gives.0) in
     (subst IsDigits same gives.0, gives.1 ∙ ap whole_value same)
+
+stops_within : (xs : List ℕ) (c : ℕ) → is_blank c ≡ false → prefix_len is_blank (xs ++ c ∷ []) ≤ length xs
+stops_within [] c e = rw e (omega arith)
+stops_within (x ∷ xs) c e =
+    let more = stops_within xs c e in
+    elim (cases_Bool (is_blank x)) [ inl on ↦ rw on (omega (arith, more)) | inr off ↦ rw off (omega arith) ]
+
+-- a field that begins with a digit has a cell that begins with it
+cell_begins : (c : ℕ) (cs : List ℕ) → IsAsciiDigit c → (rest : List ℕ) × (cell_of (c ∷ cs) ≡ c ∷ rest)
+cell_begins c cs digit = (take kept cs, whole)
+  where
+    bare : is_blank c ≡ false
+    bare = no_blank c digit
+
+    few : suffix_len is_blank (c ∷ cs) ≤ length cs
+    few = rw (reverse-append (c ∷ []) cs) (omega (arith, stops_within (reverse cs) c bare, length-reverse cs))
+
+    kept : ℕ
+    kept = length cs - suffix_len is_blank (c ∷ cs)
+
+    front : without_front_blanks (c ∷ cs) ≡ c ∷ cs
+    front = rw bare refl
+
+    trimmed : without_end_blanks (c ∷ cs) ≡ c ∷ take kept cs
+    trimmed = let more : length (c ∷ cs) - suffix_len is_blank (c ∷ cs) ≡ suc kept = omega (arith, few) in rw more refl
+
+    unquoted_is : unquoted (c ∷ take kept cs) ≡ c ∷ take kept cs
+    unquoted_is =
+        let other = ne_eqb c 34 (no_quote c digit) in
+        let no : is_quoted (c ∷ take kept cs) ≡ false = grind (arith, other) in
+        rw no refl
+
+    whole : cell_of (c ∷ cs) ≡ c ∷ take kept cs
+    whole = ap (λ t. unquoted (without_end_blanks t)) front ∙ ap unquoted trimmed ∙ unquoted_is
+
+no_comment : (c : ℕ) (rest : List ℕ) (cells : List (List ℕ)) → IsAsciiDigit c → is_passed_over ((c ∷ rest) ∷ cells) ≡ false
+no_comment c rest cells digit = ne_eqb c 35 (λ e. omega (arith, digit, e))
+
+-- a record whose first field begins with a digit counts
+pub counts_by_digit : (cells : List (List ℕ)) (field : List ℕ) → cell_of field ≡ get_or cells 0 [] → begins_with_digit field ≡ true → is_passed_over cells ≡ false
+counts_by_digit [] field is begins = refl
+counts_by_digit (cell ∷ cells) [] is begins = cc begins
+counts_by_digit (cell ∷ cells) (c ∷ cs) is begins =
+    let digit : IsAsciiDigit c = grind (arith, begins) in
+    let first = cell_begins c cs digit in
+    rw (sym is ∙ first.1) (no_comment c first.0 cells digit)
 
 -- a text of digits under a column that holds numbers
 usual_by : (u : Use) (column : Column) (text : List ℕ) (digits number : ℕ) → IsNumberUse u → IsDigits text → digits ≡ whole_value text

@@ -3,7 +3,7 @@ ghost use Rattle.std.specs.Prelude.{◌≡◌, ◌≤◌, ◌<◌, ◌*◌, ◌^
 ghost use Rattle.dm_base.specs.Numbers.{IsDigits, IsMilliText, milli_value, whole_value};
 ghost use Rattle.dm_lintim.specs.Files.{IsNumber, RefusesNumber, largest_of};
 ghost use Rattle.dm_lintim.specs.Pieces.{cell_of, is_passed_over};
-ghost use Rattle.dm_lintim.specs.Inside.Reader.{cells_of};
+ghost use Rattle.dm_lintim.specs.Inside.Reader.{begins_with_digit, cells_of};
 ghost use Rattle.dm_lintim.specs.Inside.Values.{HoldsNumber, IsUsualUnder, units_of};
 
 use crate::columns::{Column, LARGEST_ID};
@@ -156,6 +156,13 @@ pub(crate) fn usual_under(column: Column, field: &[u8]) -> Option<u64>
     }
 }
 
+// Whether a field begins with a digit, as the first one of most records does: so does its cell.
+fn begins_with_digit(field: &[u8]) -> bool
+    ensures { result ≡ begins_with_digit field.now }
+{
+    0 < field.len() && field[0].is_ascii_digit()
+}
+
 /// Whether a record is passed over: a comment, or one empty field.
 pub(crate) fn is_passed_over(fields: &ByteRecord) -> bool
     ensures { result ≡ is_passed_over (cells_of fields.now) }
@@ -163,7 +170,11 @@ pub(crate) fn is_passed_over(fields: &ByteRecord) -> bool
     if fields.is_empty() {
         return false;
     }
-    match cell_of(field_at(fields, 0)) {
+    let field = field_at(fields, 0);
+    if begins_with_digit(field) {
+        return false;
+    }
+    match cell_of(field) {
         [] => fields.len() == 1,
         [first, ..] => *first == b'#',
     }

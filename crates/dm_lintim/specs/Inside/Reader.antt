@@ -1,6 +1,7 @@
 -- What `csv`'s reader has left of a file.
-use Rattle.std.specs.Prelude.{ℕ, ⊤, ◌≡◌, ◌⊎◌, Bool, true, false, List, [], ◌∷◌, map, Option, Some, IsSome, unwrap_or, if◌then◌else◌}
+use Rattle.std.specs.Prelude.{ℕ, ⊤, ◌≡◌, ◌⊎◌, Bool, true, false, List, [], ◌∷◌, map, length, nat_lt, slice_index, ◌&&◌, Option, Some, IsSome, unwrap_or, if◌then◌else◌}
 use Rattle.std.specs.Bool.{MatchBool}
+use Rattle.std.specs.Char.{is_ascii_digit}
 use Rattle.std.specs.Borrow.{Bor}
 use Rattle.csv.specs.Reading.{Ready, reader_config, reader_state, reader_trim, source_of}
 use Rattle.csv.specs.declared.parser.State.{State}
@@ -48,3 +49,7 @@ records_left a = if a.done then [] else records_of a.reader
 -- until the end was met
 abbrev pub IsSplitting : Inside → Type 0
 IsSplitting a = MatchBool a.done ⊤ (SplitsPlainly a.reader)
+
+-- whether a text begins with a digit
+abbrev pub begins_with_digit : List ℕ → Bool
+begins_with_digit text = nat_lt 0 (length text) && is_ascii_digit (slice_index text 0)
