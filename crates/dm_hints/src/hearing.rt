@@ -173,16 +173,31 @@ impl Heard {
 
     /// Hears a line of a run's text behind the first.
     fn hear_later(&mut self, line: &[u8]) {
+        match line {
+            [b'0'..=b'9', .., b' ', b'o', b'k'] => {}
+            [b'0'..=b'9', ..] => self.hear_numbered(line),
+            [b'f', ..] => self.hear_feed(line),
+            [b'l', ..] if is_same(line, "long") => self.end_feed(Stop::Long),
+            _ => {}
+        }
+    }
+
+    /// Hears a line that begins as that of a feed does, or as that of a failed read.
+    fn hear_feed(&mut self, line: &[u8]) {
         let (front, rest) = cut(line, b' ');
         if is_same(front, "feed") {
             self.feed = feed_number(word_at(rest, 0));
         } else if is_same(line, "fault") {
             self.end_feed(Stop::Fault);
-        } else if is_same(line, "long") {
-            self.end_feed(Stop::Long);
-        } else if is_same(rest, "malformed") {
+        }
+    }
+
+    /// Hears a line that begins with a number: a time, a malformed line, or a line and its answer.
+    fn hear_numbered(&mut self, line: &[u8]) {
+        let (front, rest) = cut(line, b' ');
+        if is_same(rest, "malformed") {
             self.hear_malformed(number(front).unwrap_or(0));
-        } else {
+        } else if !matches!(front, [.., b';']) {
             self.hear_answer(rest);
         }
     }
