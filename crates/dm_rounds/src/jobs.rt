@@ -55,8 +55,16 @@ pub fn answer_job<
         return Ok(());
     };
     match answer_batch(reader, desk, planner, gate, feed, batch, &mut job.log)? {
-        Some(stop) => job.progress = Progress::Ended(stop),
+        Some(stop) => end_job(job, stop),
         None => {}
     }
     Ok(())
+}
+
+// Reads the feed no further. It stays a call: an end takes the room of a reader, which is cleared where the end is made.
+#[inline(never)]
+fn end_job<S>(job: &mut Job<S>, stop: FeedStop)
+    ensures { job.new ≡ record job.old { progress = Progress.Ended stop } }
+{
+    job.progress = Progress::Ended(stop);
 }
