@@ -77,6 +77,54 @@ first_of_word words from within fits some =
       none_between = λ k at lt. bit_behind words from k at (omega (arith, near)) ∙ lowest.2 (k - from) (omega arith);
     }
 
+-- a bit is the first one from before a stretch without bits
+pub first_past : (words : List ℕ) (from start place : ℕ) → from ≤ start → NoBitBetween words from start → IsFirstBit words start place → IsFirstBit words from place
+first_past words from start place le none first = record {
+  not_before = let b = first.not_before in omega arith;
+  within = first.within;
+  set = first.set;
+  none_between = λ k at lt. elim (cases_lt k start) [
+    | inl under ↦ none k at under
+    | inr over ↦ first.none_between k over lt
+  ];
+}
+
+-- a stretch without bits, and then a word without
+pub none_with : (words : List ℕ) (from word : ℕ) → NoBitBetween words from (word * 64) → NoBitBetween words (word * 64) (word * 64 / 64 * 64 + 64) → NoBitBetween words from ((word + 1) * 64)
+none_with words from word before here k at lt = elim (cases_lt k (word * 64)) [
+  | inl under ↦ before k at under
+  | inr over ↦ here k over (omega arith)
+]
+
+-- behind the last word there is no bit
+none_past : (words : List ℕ) (k : ℕ) → length words ≤ k / 64 → bit_of words k ≡ 0
+none_past words k past = ap (λ n. bit_at n (k % 64)) (get_or_past words (k / 64) 0 past) ∙ bit_at-zero (k % 64)
+
+pub none_from : (words : List ℕ) (from n : ℕ) → length words ≤ n → NoBitBetween words from (n * 64) → NoBitFrom words from
+none_from words from n all before k at = elim (cases_lt k (n * 64)) [
+  | inl under ↦ before k at under
+  | inr over ↦ none_past words k (omega arith)
+]
+
+-- a word that has a bit is told in its group already
+pub told : (words groups : List ℕ) (word : ℕ) → slice_index words word < 2 ^ 64 → slice_index words word ≢ 0 → AreCovered words groups → Turns groups groups word 1
+told words groups word fits some are =
+    let n = slice_index words word in
+    let lowest = bit_at-trailing_zeros w64 n (omega (arith, some)) fits in
+    let bit : ℕ = trailing_zeros w64 n in
+    let near : bit < 64 = elim (cases_lt bit 64) [
+      | inl under ↦ under
+      | inr over ↦ absurd (omega (arith, lowest.1, bit_above n bit fits over))
+    ] in
+    let at : (word * 64 + bit) / 64 ≡ word = omega (arith, near) in
+    let index : (word * 64 + bit) % 64 ≡ bit = omega (arith, near) in
+    let set : bit_of words (word * 64 + bit) ≡ 1 = rw (at, index) lowest.1 in
+    record {
+      as_many = refl;
+      here = subst (λ (w : ℕ). bit_of groups w ≡ 1) at (are.covers (word * 64 + bit) set);
+      others = λ k ne. refl;
+    }
+
 -- ---- marks and their bits
 
 pub bits_turned : (marks : List Bool) (words after : List ℕ) (place : ℕ) (b : Bool) (bit : ℕ) → (b ≡ true → bit ≡ 1) → (bit ≡ 1 → b ≡ true) → place < length marks →

@@ -87,8 +87,8 @@ impl Marks {
         ensures { self.new ≡ slice_set self.old place true }
     {
         self.flags[place] = true;
+        tell_word(&self.words, &mut self.groups, place / WORD);
         set_bit(&mut self.words, place);
-        set_bit(&mut self.groups, place / WORD);
     }
 
     /// Takes the mark at a place away.
@@ -166,6 +166,17 @@ fn clear_bit(words: &mut [u64], place: usize)
     words[place / WORD] &= !(1 << (place % WORD));
 }
 
+/// Tells of a word in its group. One that has bits is told already.
+fn tell_word(words: &[u64], groups: &mut [u64], word: usize)
+    requires covered { AreCovered words.now groups.old }
+    requires within { word < length words.now }
+    ensures { Turns groups.old groups.new word 1 }
+{
+    if words[word] == 0 {
+        set_bit(groups, word);
+    }
+}
+
 /// The first bit that is set, from a word on. A word without bits is told as such, and not looked at again.
 #[tactic(auto, using(crate::proofs::Words::none_behind, crate::proofs::Words::none_until, crate::proofs::Words::covered_told))]
 fn first_behind(words: &[u64], groups: &mut [u64], word: usize) -> Option<usize>
@@ -192,13 +203,25 @@ fn first_bit(words: &[u64], from: usize) -> Option<usize>
     ensures first { IfSome result (IsFirstBit words.now from) }
     ensures none { IfNone result (NoBitFrom words.now from) }
 {
-    let mut start = from;
-    while start / WORD < words.len() {
-        let found = first_in_word(words, start);
-        if found.is_some() {
-            return found;
+    if from / WORD >= words.len() {
+        return None;
+    }
+    match first_in_word(words, from) {
+        Some(place) => Some(place),
+        None => first_in_words(words, from / WORD + 1),
+    }
+}
+
+/// The first bit that is set, from a word on.
+fn first_in_words(words: &[u64], word: usize) -> Option<usize>
+    requires few { AreFew words.now }
+    ensures first { IfSome result (IsFirstBit words.now (word * WORD)) }
+    ensures none { IfNone result (NoBitFrom words.now (word * WORD)) }
+{
+    for k in word..words.len() {
+        if let Some(place) = first_in_word(words, k * WORD) {
+            return Some(place);
         }
-        start = start / WORD * WORD + WORD;
     }
     None
 }
