@@ -6,9 +6,9 @@ use Rattle.std.proofs.lemmas.Bool.{cases_lt, lt-ltb, le-ltb, and_right}
 use Rattle.dm_network.specs.Net.{Net, activity_at, is_change, places_into, places_out_of}
 use Rattle.dm_rows.specs.Cost.{event_cost, charged_weight}
 use Rattle.dm_priced.specs.Priced.{is_flagged, comes_too_early, missed_weight, lateness_of, charged_of, missed_of}
-use Rattle.dm_priced.specs.Inside.Adding.{cost_at, missed_at}
+use Rattle.dm_priced.specs.Inside.Adding.{cost_at, missed_at, LeadToNonePassed}
 use Rattle.dm_rows.proofs.Totals.{sum_moves}
-use Rattle.dm_priced.proofs.Sums.{sum_none, sum_none_along, sum_moves_row, sum_moves_rows}
+use Rattle.dm_priced.proofs.Sums.{sum_none, sum_none_on, sum_none_along, sum_moves_row, sum_moves_rows}
 
 differs : (j i : ℕ) → (j == i) ≡ false → j ≢ i
 differs j i not is = let yes = eq-eqb j i is in absurd cc
@@ -140,3 +140,8 @@ unpassed_into net passed spans x e row is not =
     sym (unmissable net passed spans x a
     (not_passed (is_change (activity_at net a).kind) (is_flagged passed (activity_at net a).head) (ap (is_flagged passed) head ∙ not))))
     (range_with_len 0 (length net.activities)))
+
+-- a row on which no change leads to an event that has passed
+pub none_missed_along : (net : Net) (passed : List Bool) (spans x row : List ℕ) → LeadToNonePassed net passed row → 0 ≡ sum_by (missed_weight net passed spans x) row
+none_missed_along net passed spans x row none =
+    sym (sum_none_on (missed_weight net passed spans x) row (λ k lt. sym (unmissable net passed spans x (slice_index row k) (none k lt))))

@@ -1,5 +1,5 @@
 -- A watcher's sums through one write, and what a priced timetable costs beside rows.
-use Rattle.std.proofs.Common.{◌≡◌, ℕ, ◌+◌, ◌-◌, ◌*◌, ◌<◌, ◌≤◌, Bool, List, length, sum_by, ap, ◌∙◌, ◌&&◌, if◌then◌else◌, nat_lt, arith, slice_index}
+use Rattle.std.proofs.Common.{◌≡◌, ℕ, ◌+◌, ◌-◌, ◌*◌, ◌<◌, ◌≤◌, Bool, false, List, length, sum_by, ap, ◌∙◌, ◌&&◌, if◌then◌else◌, nat_lt, arith, slice_index}
 use Rattle.std.specs.Prelude.{slice_set}
 use Rattle.std.specs.List.{range_with_len}
 use Rattle.dm_network.specs.Net.{Net, activity_at, is_change, places_into, places_out_of, EndsAreKnown}
@@ -8,8 +8,8 @@ use Rattle.dm_rows.specs.Cost.{charged_weight, cost_charging}
 use Rattle.dm_rows.specs.Cost.{missed_weight as rows_missed_weight}
 use Rattle.dm_rows.specs.Rows.{RowsValue}
 use Rattle.dm_priced.specs.Priced.{PricedValue, FollowsPrice, is_flagged, missed_weight, comes_too_early, lateness_of, charged_of, missed_of, priced_cost}
-use Rattle.dm_priced.specs.Inside.Adding.{AreKnown, AreActivities, cost_at}
-use Rattle.dm_priced.proofs.Changing.{lateness_moves, missed_moves}
+use Rattle.dm_priced.specs.Inside.Adding.{AreKnown, AreActivities, LeadToNonePassed, cost_at}
+use Rattle.dm_priced.proofs.Changing.{lateness_moves, missed_moves, unpassed_into, none_missed_along}
 use Rattle.dm_rows.proofs.Totals.{sum_alike}
 use Rattle.dm_network.proofs.EventRows.{leads_into}
 use Rattle.dm_network.proofs.EventRows.{leads_out}
@@ -32,22 +32,31 @@ module _ (net : Net) (passed : List Bool) (spans x : List ℕ) (e t lateness mis
     pub lateness_now : lateness + cost - was ≡ lateness_of net (slice_set x e t)
     lateness_now = let b = lateness_balance in omega (arith, b)
 
-  module _ (into out_of : List ℕ) (into_is : into ≡ places_into net e) (out_is : out_of ≡ places_out_of net e) (new_into new_out was_into was_out : ℕ)
-      (new_into_is : new_into ≡ sum_by (missed_weight net passed spans (slice_set x e t)) into)
-      (new_out_is : new_out ≡ sum_by (missed_weight net passed spans (slice_set x e t)) out_of)
-      (was_into_is : was_into ≡ sum_by (missed_weight net passed spans x) into)
-      (was_out_is : was_out ≡ sum_by (missed_weight net passed spans x) out_of) where
-    missed_balance : missed_of net passed spans (slice_set x e t) + (was_into + was_out) ≡ missed + (new_into + new_out)
-    missed_balance =
-        let moved = missed_moves net passed spans x e t (omega arith) into out_of into_is out_is in
-        let is = knew.is_missed in
-        omega (arith, moved, is, new_into_is, new_out_is, was_into_is, was_out_is)
+  module _ (into out_of : List ℕ) (into_is : into ≡ places_into net e) (out_is : out_of ≡ places_out_of net e) where
+    module _ (now was : ℕ)
+        (now_is : now ≡ sum_by (missed_weight net passed spans (slice_set x e t)) into + sum_by (missed_weight net passed spans (slice_set x e t)) out_of)
+        (was_is : was ≡ sum_by (missed_weight net passed spans x) into + sum_by (missed_weight net passed spans x) out_of) where
+      missed_balance : missed_of net passed spans (slice_set x e t) + was ≡ missed + now
+      missed_balance =
+          let moved = missed_moves net passed spans x e t (omega arith) into out_of into_is out_is in
+          let is = knew.is_missed in
+          omega (arith, moved, is, now_is, was_is)
 
-    pub missed_holds : was_into + was_out ≤ missed + (new_into + new_out)
-    missed_holds = let b = missed_balance in omega (arith, b)
+      pub missed_holds : was ≤ missed + now
+      missed_holds = let b = missed_balance in omega (arith, b)
 
-    pub missed_now : missed + (new_into + new_out) - (was_into + was_out) ≡ missed_of net passed spans (slice_set x e t)
-    missed_now = let b = missed_balance in omega (arith, b)
+      pub missed_now : missed + now - was ≡ missed_of net passed spans (slice_set x e t)
+      missed_now = let b = missed_balance in omega (arith, b)
+
+    -- where the event has not passed, and no change out of it leads to one that has
+    pub missed_still : is_flagged passed e ≡ false → LeadToNonePassed net passed out_of → missed ≡ missed_of net passed spans (slice_set x e t)
+    missed_still not none =
+        let into_now = unpassed_into net passed spans (slice_set x e t) e into into_is not in
+        let into_was = unpassed_into net passed spans x e into into_is not in
+        let out_now = none_missed_along net passed spans (slice_set x e t) out_of none in
+        let out_was = none_missed_along net passed spans x out_of none in
+        let now = missed_now 0 0 (omega (arith, into_now, out_now)) (omega (arith, into_was, out_was)) in
+        omega (arith, now)
 
 -- beside rows
 module _ (net : Net) (rows : RowsValue) (charges : ℕ → Bool) (priced : PricedValue) (known : EndsAreKnown net) (follows : FollowsPrice net rows charges priced) where

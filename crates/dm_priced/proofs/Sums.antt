@@ -1,5 +1,5 @@
 -- Sums over places, and how they change where a function changes at one place or along rows.
-use Rattle.std.proofs.Common.{◌≡◌, ℕ, zero, suc, ◌+◌, ◌*◌, ◌≤◌, Bool, true, false, cond, List, [], ◌∷◌, filter, sum_by, refl, ap, ◌∙◌, inl, inr, arith}
+use Rattle.std.proofs.Common.{◌≡◌, ℕ, zero, suc, ◌+◌, ◌*◌, ◌<◌, ◌≤◌, Bool, true, false, cond, List, [], ◌∷◌, length, slice_index, filter, sum_by, refl, ap, ◌∙◌, inl, inr, arith}
 use Rattle.std.specs.List.{range_with_len}
 use Rattle.std.proofs.lemmas.Bool.{cases_Bool}
 use Rattle.std.proofs.lemmas.List.Sums.{sum_by-cons}
@@ -8,6 +8,15 @@ use Rattle.dm_priced.specs.Inside.Adding.{IsTotalBelow}
 pub sum_none : (f : ℕ → ℕ) (xs : List ℕ) → ((k : ℕ) → f k ≡ 0) → sum_by f xs ≡ 0
 sum_none f [] none = refl
 sum_none f (x ∷ xs) none = let here = none x in let rest = sum_none f xs none in let all = sum_by-cons f x xs in all ∙ omega (arith, here, rest)
+
+-- a function that is 0 at each place of a row
+pub sum_none_on : (f : ℕ → ℕ) (xs : List ℕ) → ((k : ℕ) → k < length xs → f (slice_index xs k) ≡ 0) → sum_by f xs ≡ 0
+sum_none_on f [] none = refl
+sum_none_on f (x ∷ xs) none =
+    let here = none zero (omega arith) in
+    let rest = sum_none_on f xs (λ k lt. none (suc k) (omega arith)) in
+    let all = sum_by-cons f x xs in
+    all ∙ omega (arith, here, rest)
 
 -- what an element adds where it passes a test
 added : (f : ℕ → ℕ) (p : ℕ → Bool) (x : ℕ) (xs : List ℕ) (b : Bool) → p x ≡ b → sum_by f (filter p (x ∷ xs)) ≡ cond b (f x) 0 + sum_by f (filter p xs)

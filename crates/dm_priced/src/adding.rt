@@ -1,11 +1,11 @@
 //! What one event and one activity add to the sums.
-ghost use Rattle.std.specs.Prelude.{◌≡◌, ◌&&◌, ◌+◌, ◌*◌, ◌^◌, ◌<◌, ◌≤◌, length, slice_index, sum_by, if◌then◌else◌};
+ghost use Rattle.std.specs.Prelude.{◌≡◌, false, ◌&&◌, ◌+◌, ◌*◌, ◌^◌, ◌<◌, ◌≤◌, length, slice_index, sum_by, if◌then◌else◌};
 ghost use Rattle.dm_network.specs.Net.{activity_at, is_change};
 ghost use Rattle.dm_base.specs.declared.limits.TheConstants.{BOUND, DELAY, WEIGHT};
 ghost use Rattle.dm_settle.specs.Constraints.{IsSizedFor};
 ghost use Rattle.dm_settle.specs.Moving.{IsMove, times_after};
 ghost use Rattle.dm_priced.specs.Priced.{is_flagged, missed_weight};
-ghost use Rattle.dm_priced.specs.Inside.Adding.{cost_at, missed_at, AreActivities};
+ghost use Rattle.dm_priced.specs.Inside.Adding.{cost_at, missed_at, AreActivities, LeadToNonePassed};
 
 use dm_base::{ActKind, Cost, EventKind, Milli, Secs};
 use dm_network::Network;
@@ -122,8 +122,52 @@ fn missed_by(net: &Network, passed: &[bool], to: &Move<'_>, a: usize) -> Missed
     }
 }
 
+/// Whether an activity of a row is a change whose head has passed.
+fn leads_to_passed(net: &Network, passed: &[bool], row: &[usize]) -> bool
+    requires as_many { length passed.now ≡ length net.now.events }
+    requires activities { AreActivities net.now row.now }
+    ensures { result ≡ false → LeadToNonePassed net.now passed.now row.now }
+{
+    for a in row {
+        if is_change_to_passed(net, passed, *a) {
+            return true;
+        }
+    }
+    false
+}
+
+/// Whether a change that an event moves may be missed, before it moves or from then on: the event has passed, or a change out of
+/// it leads to one that has.
+pub fn may_be_missed(net: &Network, passed: &[bool], to: &Move<'_>) -> bool
+    requires is_move { IsMove net.now to.now }
+    requires as_many { length passed.now ≡ length net.now.events }
+    ensures passed { result ≡ false → is_flagged passed.now to.now.event ≡ false }
+    ensures out_of { result ≡ false → LeadToNonePassed net.now passed.now to.now.out_of.now }
+{
+    has_passed(passed, to.event) || leads_to_passed(net, passed, to.out_of)
+}
+
+/// What the activities into an event that moves and out of it add to these.
+#[inline(never)]
+pub fn missed_around(net: &Network, passed: &[bool], to: Move<'_>) -> Missed
+    requires is_move { IsMove net.now to }
+    requires as_many { length passed.now ≡ length net.now.events }
+    ensures was { result.was ≡ sum_by (missed_weight net.now passed.now to.entry.constraints.now.spans to.entry.times.now) to.entry.into.now
+        + sum_by (missed_weight net.now passed.now to.entry.constraints.now.spans to.entry.times.now) to.entry.out_of.now }
+    ensures now { result.now ≡ sum_by (missed_weight net.now passed.now to.entry.constraints.now.spans (times_after to.entry)) to.entry.into.now
+        + sum_by (missed_weight net.now passed.now to.entry.constraints.now.spans (times_after to.entry)) to.entry.out_of.now }
+    ensures now_limit { result.now < 2 ^ 97 }
+{
+    let along_into = missed_into(net, passed, &to);
+    let along_out = missed_between(net, passed, &to, to.out_of);
+    Missed {
+        was: along_into.was + along_out.was,
+        now: along_into.now + along_out.now,
+    }
+}
+
 /// What the activities of a row add to these.
-pub fn missed_between(net: &Network, passed: &[bool], to: &Move<'_>, row: &[usize]) -> Missed
+fn missed_between(net: &Network, passed: &[bool], to: &Move<'_>, row: &[usize]) -> Missed
     requires is_move { IsMove net.now to.now }
     requires as_many { length passed.now ≡ length net.now.events }
     requires activities { AreActivities net.now row.now }
@@ -143,7 +187,7 @@ pub fn missed_between(net: &Network, passed: &[bool], to: &Move<'_>, row: &[usiz
 }
 
 /// What the activities into the event add to these: nothing unless it has passed.
-pub fn missed_into(net: &Network, passed: &[bool], to: &Move<'_>) -> Missed
+fn missed_into(net: &Network, passed: &[bool], to: &Move<'_>) -> Missed
     requires is_move { IsMove net.now to.now }
     requires as_many { length passed.now ≡ length net.now.events }
     ensures was { result.was ≡ sum_by (missed_weight net.now passed.now to.now.constraints.now.spans to.now.times.now) to.now.into.now }

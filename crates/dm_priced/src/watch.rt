@@ -1,7 +1,7 @@
 //! The sums of the times, kept through a sweep.
 ghost use Rattle.dm_priced.specs.Inside.Adding.{AreKnown};
 
-use crate::adding::{cost_at, missed_between, missed_into};
+use crate::adding::{cost_at, may_be_missed, missed_around};
 use dm_base::Cost;
 use dm_network::Network;
 use dm_settle::{Move, Watcher};
@@ -21,6 +21,8 @@ impl Watcher for Watch<'_> {
 
     ghost flags = { λ w. w.passed.now };
 
+    // Nearly all moves are of events beside which nothing can be missed, so this part is short.
+    #[inline(always)]
     fn moves(&mut self, net: &Network, to: &Move<'_>) {
         net.reveal();
         to.times.is_early();
@@ -28,9 +30,9 @@ impl Watcher for Watch<'_> {
         let cost = cost_at(net, to.event, to.time);
         let was = cost_at(net, to.event, earlier);
         self.lateness = self.lateness + cost - was;
-        let along_into = missed_into(net, self.passed, to);
-        let along_out = missed_between(net, self.passed, to, to.out_of);
-        self.missed = self.missed + (along_into.now + along_out.now)
-            - (along_into.was + along_out.was);
+        if may_be_missed(net, self.passed, to) {
+            let missed = missed_around(net, self.passed, *to);
+            self.missed = self.missed + missed.now - missed.was;
+        }
     }
 }

@@ -1,5 +1,5 @@
 -- What one event and one activity add to the sums, and the limits of these.
-use Rattle.std.specs.Prelude.{ℕ, ◌≡◌, ◌+◌, ◌-◌, ◌*◌, ◌^◌, ◌&&◌, ◌<◌, ◌≤◌, nat_lt, Bool, List, length, take, slice_index, sum_by, if◌then◌else◌}
+use Rattle.std.specs.Prelude.{ℕ, ◌≡◌, ◌+◌, ◌-◌, ◌*◌, ◌^◌, ◌&&◌, ◌<◌, ◌≤◌, nat_lt, Bool, false, List, length, take, slice_index, sum_by, if◌then◌else◌}
 use Rattle.std.specs.List.{range_with_len}
 use Rattle.dm_base.specs.declared.limits.TheConstants.{EVENTS, ACTIVITIES, WEIGHT}
 use Rattle.dm_network.specs.Net.{Net, event_at, activity_at, is_change}
@@ -25,6 +25,15 @@ pub record AreKnown (net : Net) (passed : List Bool) (spans x : List ℕ) (laten
 -- the places are those of activities
 abbrev pub AreActivities : Net → List ℕ → Type 0
 AreActivities net places = (k : ℕ) → k < length places → slice_index places k < length net.activities
+
+-- no activity of the first n of a row is a change whose head has passed
+abbrev pub LeadToNonePassedBefore : Net → List Bool → List ℕ → ℕ → Type 0
+LeadToNonePassedBefore net passed row n =
+    (k : ℕ) → k < n → (is_change (activity_at net (slice_index row k)).kind && is_flagged passed (activity_at net (slice_index row k)).head) ≡ false
+
+-- none of a row is
+abbrev pub LeadToNonePassed : Net → List Bool → List ℕ → Type 0
+LeadToNonePassed net passed row = LeadToNonePassedBefore net passed row (length row)
 
 -- the total of a function over the first n places of a row, where each adds at most so much
 pub record IsTotalOf (f : ℕ → ℕ) (row : List ℕ) (n most total : ℕ) : Type 0 where

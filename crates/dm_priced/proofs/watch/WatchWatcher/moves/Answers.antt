@@ -18,39 +18,16 @@ overflow_sub-self c =
     c.cost_at-cost.result c.cost_at-was.result c.cost_at-cost.ensures.cost
     (c.cost_at-was.ensures.cost ∙ ap (cost_at c.args.net.now c.args.to.now.event) c.time-earlier.ensures.value)
 
-pub missed_between-along_out-requires-clause-activities : goal.missed_between-along_out-requires-clause-activities
-missed_between-along_out-requires-clause-activities c = out_are_activities c.args.net.now c.args.to.now.event c.args.to.now.out_of.now c.requires.is_move.out_of
-
 pub overflow_add-self-3 : goal.overflow_add-self-3
 overflow_add-self-3 c =
     let bound = missed_within c.args.net.now c.reveal.ensures.within c.args.self.now.passed.now c.args.to.now.constraints.now.spans c.args.to.now.times.now in
     let is = c.requires.knows.is_missed in
-    let into = c.missed_into-along_into.ensures.now_limit in
-    let out_of = c.missed_between-along_out.ensures.now_limit in
-    omega (arith, bound, is, into, out_of)
+    let limit = c.missed_around-missed.ensures.now_limit in
+    omega (arith, bound, is, limit)
 
 pub overflow_sub-self-2 : goal.overflow_sub-self-2
 overflow_sub-self-2 c =
     missed_holds c.args.net.now c.args.self.now.passed.now c.args.to.now.constraints.now.spans c.args.to.now.times.now c.args.to.now.event c.args.to.now.time
     c.args.self.now.lateness c.args.self.now.missed c.requires.knows c.requires.is_move.is_event c.requires.is_move.as_many
     c.args.to.now.into.now c.args.to.now.out_of.now c.requires.is_move.into c.requires.is_move.out_of
-    c.missed_into-along_into.result.now c.missed_between-along_out.result.now c.missed_into-along_into.result.was c.missed_between-along_out.result.was
-    c.missed_into-along_into.ensures.now c.missed_between-along_out.ensures.now
-    c.missed_into-along_into.ensures.was c.missed_between-along_out.ensures.was
-
-pub returns-clause-knows : goal.returns-clause-knows
-returns-clause-knows c = record {
-  as_many = c.requires.knows.as_many;
-  is_lateness =
-      lateness_now c.args.net.now c.args.self.now.passed.now c.args.to.now.constraints.now.spans c.args.to.now.times.now c.args.to.now.event c.args.to.now.time
-      c.args.self.now.lateness c.args.self.now.missed c.requires.knows c.requires.is_move.is_event c.requires.is_move.as_many
-      c.cost_at-cost.result c.cost_at-was.result c.cost_at-cost.ensures.cost
-      (c.cost_at-was.ensures.cost ∙ ap (cost_at c.args.net.now c.args.to.now.event) c.time-earlier.ensures.value);
-  is_missed =
-      missed_now c.args.net.now c.args.self.now.passed.now c.args.to.now.constraints.now.spans c.args.to.now.times.now c.args.to.now.event c.args.to.now.time
-      c.args.self.now.lateness c.args.self.now.missed c.requires.knows c.requires.is_move.is_event c.requires.is_move.as_many
-      c.args.to.now.into.now c.args.to.now.out_of.now c.requires.is_move.into c.requires.is_move.out_of
-      c.missed_into-along_into.result.now c.missed_between-along_out.result.now c.missed_into-along_into.result.was c.missed_between-along_out.result.was
-      c.missed_into-along_into.ensures.now c.missed_between-along_out.ensures.now
-      c.missed_into-along_into.ensures.was c.missed_between-along_out.ensures.was;
-}
+    c.missed_around-missed.result.now c.missed_around-missed.result.was c.missed_around-missed.ensures.now c.missed_around-missed.ensures.was
