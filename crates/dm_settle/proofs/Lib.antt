@@ -5,5 +5,6 @@ pub mod Held
 pub mod Joining
 pub mod Least
 pub mod Marking
+pub mod Pulling
 pub mod Reading
 pub mod Sweeping

@@ -10,6 +10,7 @@ use Rattle.dm_graph.specs.Graph.{Graph}
 use Rattle.dm_marks.specs.Marked.{is_marked}
 use Rattle.dm_settle.specs.Settling.{State, Follows}
 use Rattle.dm_settle.specs.Inside.Sweep.{Stays, Moves, HasRead}
+use Rattle.dm_settle.proofs.Pulling.{binds_still}
 use Rattle.dm_settle.proofs.Sweeping.{one_of_rank, marked_else}
 
 -- what a list with one more in front contains
@@ -126,7 +127,7 @@ module _ (g : Graph) (order ranks : List ℕ) (ranked : AreRanks g.shape.events 
             among = in_front had.moved e;
             leads = record {
               arc = leads.arc;
-              binds = leads.binds;
+              binds = binds_still g now.times e m.time leads.arc leads.binds;
               leaves = leads.leaves;
               enters = one_of_rank g.shape.events order ranks ranked (g.shape.head leads.arc) f leads.binds.to_event lt leads.there;
             };

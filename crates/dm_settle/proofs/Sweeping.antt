@@ -8,7 +8,8 @@ use Rattle.dm_graph.specs.Graph.{Graph, IsJoin}
 use Rattle.dm_graph.proofs.Joins.{IsJoin-congr, joins_are_least}
 use Rattle.dm_marks.specs.Marked.{is_marked, IsFirstFrom, NoneFrom}
 use Rattle.dm_settle.specs.Settling.{AreLeast, IsSettled, MayMove, GoesForward, State}
-use Rattle.dm_settle.specs.Inside.Sweep.{IsSweeping, MarksHeads, Stays, Moves}
+use Rattle.dm_settle.specs.Inside.Sweep.{IsSweeping, MarksHeads, Stays, Moves, pulls, pulling}
+use Rattle.dm_settle.proofs.Pulling.{pulls_too, binds_still, late_unless, late_stays}
 use Rattle.dm_settle.proofs.Early.{moving_rank, moving_rank-rises}
 
 -- events of one rank are one
@@ -95,7 +96,7 @@ module _ (g : Graph) (order ranks : List ℕ) (ranked : AreRanks g.shape.events 
         omega arith
 
     module _ (marks1 : List Bool) (time : ℕ) (join : IsJoin g (slice_index times) e time)
-        (heads : MarksHeads g.shape (slice_index ranks) e (slice_set marks (slice_index ranks e) false) marks1) where
+        (heads : MarksHeads (pulling g times e time) (slice_index ranks) e (slice_set marks (slice_index ranks e) false) marks1) where
       at_event : slice_index (slice_set times e time) e ≡ time
       at_event = get_or-set_same times e time 0 (let t = sweeping.unsettled.as_many_times in omega arith)
 
@@ -120,13 +121,23 @@ module _ (g : Graph) (order ranks : List ℕ) (ranked : AreRanks g.shape.events 
             ]
           ] in
           subst (λ (t : ℕ). IsJoin g (slice_index (slice_set times e time)) f t) (sym (elsewhere f ne))
-          (IsJoin-congr g (slice_index times) (slice_index (slice_set times e time)) f (slice_index times f)
-          (λ a b head. sym (elsewhere (g.shape.tail a) (λ tail.
-          let now = heads.heads a b tail in
-          let same : slice_index ranks (g.shape.head a) ≡ slice_index ranks f = ap (slice_index ranks) head in
-          let here : is_marked marks1 (slice_index ranks f) ≡ true = subst (λ (k : ℕ). is_marked marks1 k ≡ true) same now in
-          absurd cc)))
-          (sweeping.unsettled.settled f lt was))
+          (late_stays g (slice_index times) (slice_index (slice_set times e time)) f (sweeping.unsettled.settled f lt was)
+          (λ a b head. elim (cases_eq (g.shape.tail a) e) [
+            | inr other ↦ inl (sym (elsewhere (g.shape.tail a) other))
+            | inl tail ↦ elim (cases_Bool (pulls g times e time a)) [
+              | inl pulled ↦
+                  let now = heads.heads a (pulls_too g times e time a b pulled) tail in
+                  let same : slice_index ranks (g.shape.head a) ≡ slice_index ranks f = ap (slice_index ranks) head in
+                  let here : is_marked marks1 (slice_index ranks f) ≡ true = subst (λ (k : ℕ). is_marked marks1 k ≡ true) same now in
+                  absurd cc
+              | inr late ↦
+                  let above = late_unless g times e time a b late in
+                  let same : slice_index times (g.shape.head a) ≡ slice_index times f = ap (slice_index times) head in
+                  let was_then : slice_index times (g.shape.tail a) ≡ slice_index times e = ap (slice_index times) tail in
+                  let is_then : slice_index (slice_set times e time) (g.shape.tail a) ≡ time = ap (slice_index (slice_set times e time)) tail ∙ at_event in
+                  inr (omega (arith, above.0, same, was_then), omega (arith, above.1, same, is_then))
+            ]
+          ]))
 
       moved_on : IsSweeping g ranks marks0 marks1 (slice_set times e time) (slice_index ranks e + 1)
       moved_on = record {
@@ -146,7 +157,7 @@ module _ (g : Graph) (order ranks : List ℕ) (ranked : AreRanks g.shape.events 
               omega arith
           | inr leads ↦
               let may = sweeping.may_move e is_event marked in
-              let up = forward leads.arc leads.binds (subst (λ (f : ℕ). MayMove g.shape ranks marks0 f) (sym leads.leaves) may) in
+              let up = forward leads.arc (binds_still g times e time leads.arc leads.binds) (subst (λ (f : ℕ). MayMove g.shape ranks marks0 f) (sym leads.leaves) may) in
               let low : slice_index ranks (g.shape.tail leads.arc) ≡ slice_index ranks e = ap (slice_index ranks) leads.leaves in
               let high = leads.there in
               omega arith
@@ -155,7 +166,7 @@ module _ (g : Graph) (order ranks : List ℕ) (ranked : AreRanks g.shape.events 
           | inl was ↦ sweeping.may_move f lt (marked_else marks (slice_index ranks e) (slice_index ranks f) within was).1
           | inr leads ↦ inr (record {
             arc = leads.arc;
-            binds = leads.binds;
+            binds = binds_still g times e time leads.arc leads.binds;
             enters = one (g.shape.head leads.arc) f leads.binds.to_event lt leads.there;
           })
         ];

@@ -1,17 +1,18 @@
 //! The sweep along an order that computes the marked events anew.
-ghost use Rattle.std.specs.Prelude.{ℕ, ◌≡◌, ◌<◌, true, length, slice_index, slice_set};
-ghost use Rattle.dm_network.specs.Net.{activity_at, places_out_of};
+ghost use Rattle.std.specs.Prelude.{ℕ, ◌≡◌, ◌^◌, ◌<◌, true, max, length, slice_index, slice_set};
+ghost use Rattle.dm_network.specs.Net.{activity_at};
 ghost use Rattle.dm_marks.specs.Marked.{NoneFrom};
-ghost use Rattle.dm_settle.specs.Constraints.{IsSizedFor};
+ghost use Rattle.dm_settle.specs.Constraints.{IsSizedFor, graph_given};
 ghost use Rattle.dm_settle.specs.Settling.{AreLeast, AreEarly, MayBegin, ReadsFew, arcs_swept, graph_swept};
-ghost use Rattle.dm_settle.specs.Inside.Sweep.{TailsAreEarly, MarksHeads, Renews};
+ghost use Rattle.dm_settle.specs.Moving.{IsMove};
+ghost use Rattle.dm_settle.specs.Inside.Sweep.{TailsAreEarly, MarksHeads, Renews, pulls, pulling};
 
 use crate::constraints::Constraints;
 use crate::moving::Move;
 use crate::time::time_of;
 use crate::times::Times;
 use crate::watching::Watcher;
-use dm_base::Steps;
+use dm_base::{Secs, Steps};
 use dm_marks::Marks;
 use dm_network::Network;
 use std::sync::ledger::Ledger;
@@ -31,7 +32,8 @@ pub struct Sweep<'s> {
 
 impl Sweep<'_> {
     /// Computes the marked events anew, in the order, and goes on along the held activities out of every event whose time
-    /// has changed. What comes out is the least timetable of the constraints, and no mark is left. Marks are by rank.
+    /// has changed, to the heads that it may move. What comes out is the least timetable of the constraints, and no mark is left.
+    /// Marks are by rank.
     ///
     /// Every event that is not marked has its time already. Each held activity goes forward in the order if it leaves an
     /// event that is marked or that a held activity enters; the others leave events whose times stay. Two watchers are told of
@@ -68,8 +70,8 @@ impl Sweep<'_> {
         times.is_early();
     }
 
-    /// Computes a marked event anew and takes its mark away. If its time changes, the watchers are told, and the heads of the
-    /// held activities out of it are marked. Answers whether it does.
+    /// Computes a marked event anew and takes its mark away. If its time changes, the watchers are told, and the heads that it
+    /// may move are marked. Answers whether it does.
     fn renew<L: Ledger, W: Watcher, V: Watcher>(
         &self,
         event: usize,
@@ -111,25 +113,24 @@ impl Sweep<'_> {
         };
         watcher.moves(self.net, &to);
         other.moves(self.net, &to);
+        self.mark_heads(&to, marks);
         times.set(event, time);
-        self.mark_heads(event, out_of, marks);
         true
     }
 
-    /// Marks the heads of the held activities out of an event, whose row this is.
-    #[tactic(auto, using(crate::proofs::Held::out_may_be_held))]
-    fn mark_heads(&self, event: usize, out_of: &[usize], marks: &mut Marks)
-        requires sized { IsSizedFor self.now.net.now self.now.constraints.now }
-        requires is_event { event < length self.now.net.now.events }
-        requires row { out_of.now ≡ places_out_of self.now.net.now event }
+    /// Marks the heads of the held activities out of an event that moves, but for those that stay, whatever the event does: those
+    /// that are later than the activity allows.
+    fn mark_heads(&self, to: &Move<'_>, marks: &mut Marks)
+        requires is_move { IsMove self.now.net.now to.now }
         requires as_many_ranks { length self.now.ranks.now ≡ length self.now.net.now.events }
         requires ranks { (e : ℕ) → e < length self.now.net.now.events → slice_index self.now.ranks.now e < length marks.old }
-        ensures { MarksHeads (arcs_swept self.now) (slice_index self.now.ranks.now) event marks.old marks.new }
+        ensures { MarksHeads (pulling (graph_given self.now.net.now to.now.constraints.now) to.now.times.now to.now.event to.now.time)
+            (slice_index self.now.ranks.now) to.now.event marks.old marks.new }
     {
         self.net.reveal();
-        let _event = event;
-        for a in out_of {
-            if self.constraints.is_held(*a) {
+        let latest = to.times.time(to.event).max(to.time);
+        for a in to.out_of {
+            if pulls(self.net, to, latest, *a) {
                 self.mark_head(*a, marks);
             }
         }
@@ -145,4 +146,18 @@ impl Sweep<'_> {
         self.net.reveal();
         marks.mark(self.ranks[self.net.activity(a).head]);
     }
+}
+
+/// Whether an activity out of an event that moves is held, and its head is no later than it allows beside the later one of the
+/// event's two times.
+fn pulls(net: &Network, to: &Move<'_>, latest: Secs, a: usize) -> bool
+    requires is_move { IsMove net.now to.now }
+    requires is_activity { a < length net.now.activities }
+    requires latest { latest ≡ max (slice_index to.now.times.now to.now.event) to.now.time }
+    requires early { latest < 2 ^ 38 }
+    ensures { result ≡ pulls (graph_given net.now to.now.constraints.now) to.now.times.now to.now.event to.now.time a }
+{
+    net.reveal();
+    let constraints = to.constraints;
+    constraints.is_held(a) && to.times.time(net.activity(a).head) <= latest + constraints.span(a)
 }

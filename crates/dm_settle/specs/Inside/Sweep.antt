@@ -1,5 +1,5 @@
 -- How far a sweep along an order has come.
-use Rattle.std.specs.Prelude.{ℕ, ◌≡◌, ◌≢◌, slice_set, ◌+◌, ◌*◌, ◌^◌, ◌<◌, ◌≤◌, ◌⊎◌, Bool, true, false, IsTrue, List, length, slice_index}
+use Rattle.std.specs.Prelude.{ℕ, ◌≡◌, ◌≢◌, slice_set, nat_le, max, ◌&&◌, ◌+◌, ◌*◌, ◌^◌, ◌<◌, ◌≤◌, ◌⊎◌, Bool, true, false, IsTrue, List, length, slice_index}
 use Rattle.std.specs.List.{Contains}
 use Rattle.dm_base.specs.declared.limits.TheConstants.{PASSED_TIME, BOUND, DELAY}
 use Rattle.dm_graph.specs.Arcs.{Arcs, Binds}
@@ -62,13 +62,23 @@ pub record Stays (g : Graph) (ranks : List ℕ) (event : ℕ) (before after : St
   pub marks : after.marks ≡ slice_set before.marks (slice_index ranks event) false
   pub counted : after.steps ≡ before.steps + 1
 
--- the event was computed anew and has another time; its mark is gone, and the heads of the arcs that bind out of it are marked
+-- an arc out of an event that moves may move its head: it is held, and the head is no later than it allows beside the later one
+-- of the event's two times
+abbrev pub pulls : Graph → List ℕ → ℕ → ℕ → ℕ → Bool
+pulls g times event time a =
+    g.shape.held a && nat_le (slice_index times (g.shape.head a)) (max (slice_index times event) time + g.span a)
+
+-- these arcs alone are held
+abbrev pub pulling : Graph → List ℕ → ℕ → ℕ → Arcs
+pulling g times event time = record g.shape { held = pulls g times event time }
+
+-- the event was computed anew and has another time; its mark is gone, and the heads that it may move are marked
 pub record Moves (g : Graph) (ranks : List ℕ) (event : ℕ) (before after : State) : Type 0 where
   pub time : ℕ
   pub join : IsJoin g (slice_index before.times) event time
   pub differs : slice_index before.times event ≢ time
   pub times : after.times ≡ slice_set before.times event time
-  pub marks : MarksHeads g.shape (slice_index ranks) event (slice_set before.marks (slice_index ranks event) false) after.marks
+  pub marks : MarksHeads (pulling g before.times event time) (slice_index ranks) event (slice_set before.marks (slice_index ranks event) false) after.marks
   pub counted : after.steps ≡ before.steps + 2
 
 -- the event was computed anew, and it has moved or not
