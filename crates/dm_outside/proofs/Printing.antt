@@ -40,6 +40,10 @@ texts_at f xs i x d lt is =
     ∙ (ap (λ l. flat_map f (take i xs) ++ flat_map f l) (drop-cons xs i d lt)
     ∙ ap (λ y. flat_map f (take i xs) ++ (f y ++ flat_map f (drop (suc i) xs))) (sym is)))
 
+-- words and a number, and then more
+pub number_then : (words digits more : List ℕ) → words ++ (digits ++ more) ≡ (words ++ (digits ++ [])) ++ more
+number_then words digits more = ap (λ l. words ++ l) (sym (append_assoc digits [] more)) ∙ sym (append_assoc words (digits ++ []) more)
+
 module _ {K : Type 0} {taken : K → Option (List ℕ)} {faults : K → ℕ} where
   -- nothing was put
   pub takes_none : (s : K) → TakesAll taken faults s s []

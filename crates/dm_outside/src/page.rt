@@ -94,6 +94,15 @@ impl Page {
             self.hold(text);
             return Ok(());
         }
+        self.put_past(sink, text)
+    }
+
+    // Prints bytes behind all that was printed before, through a page that is emptied first. It stays a
+    // call, so that what is inlined above it is small.
+    #[inline(never)]
+    fn put_past<K: Sink>(&mut self, sink: &mut K, text: &[u8]) -> Result<(), WriteFault>
+        ensures { Prints K.taken K.faults sink.old sink.new self.old self.new result text.now }
+    {
         let Ok(()) = self.turn(sink) else {
             return Err(WriteFault);
         };
@@ -114,11 +123,16 @@ impl Page {
     {
         match piece {
             Piece::Text(text) => self.put_bytes(sink, text.as_bytes()),
-            Piece::Number(number) => {
-                let mut digits = Buffer::new();
-                self.put_bytes(sink, digits.format(number).as_bytes())
-            }
+            Piece::Number(number) => self.put_digits(sink, number),
         }
+    }
+
+    // Prints a number behind all that was printed before. A write fault comes only where a write failed.
+    fn put_digits<K: Sink>(&mut self, sink: &mut K, number: u128) -> Result<(), WriteFault>
+        ensures { Prints K.taken K.faults sink.old sink.new self.old self.new result (decimal number) }
+    {
+        let mut digits = Buffer::new();
+        self.put_bytes(sink, digits.format(number).as_bytes())
     }
 
     /// Prints the pieces, one after another, behind all that was printed before. A write fault comes
@@ -144,7 +158,10 @@ impl Page {
     ) -> Result<(), WriteFault>
         ensures { Prints K.taken K.faults sink.old sink.new self.old self.new result (joined (words.now ∷ decimal number ∷ [])) }
     {
-        self.put(sink, &[Piece::Text(words), Piece::Number(number)])
+        let Ok(()) = self.put_bytes(sink, words.as_bytes()) else {
+            return Err(WriteFault);
+        };
+        self.put_digits(sink, number)
     }
 
     /// Prints words and two numbers with a space between, behind all that was printed before. A write
@@ -158,13 +175,10 @@ impl Page {
         ensures { Prints K.taken K.faults sink.old sink.new self.old self.new result
             (joined (words.now ∷ decimal pair.0 ∷ codes " " ∷ decimal pair.1 ∷ [])) }
     {
-        let pieces = [
-            Piece::Text(words),
-            Piece::Number(pair.0),
-            Piece::Text(" "),
-            Piece::Number(pair.1),
-        ];
-        self.put(sink, &pieces)
+        let Ok(()) = self.put_number(sink, words, pair.0) else {
+            return Err(WriteFault);
+        };
+        self.put_number(sink, " ", pair.1)
     }
 
     /// Hands the rest of the text to the sink: the end of a text. A write fault comes only where a

@@ -4,7 +4,7 @@ ghost use Rattle.std.specs.Fmt.{decimal};
 ghost use Rattle.dm_outside.specs.Printing.{Prints, joined};
 ghost use Rattle.dm_report.specs.Printed.{labelled};
 
-use dm_outside::{Page, Piece, Sink, WriteFault};
+use dm_outside::{Page, Sink, WriteFault};
 
 /// Prints words, a number, and more words.
 pub fn put_number<'w, K: Sink>(
@@ -16,12 +16,10 @@ pub fn put_number<'w, K: Sink>(
 ) -> Result<(), WriteFault>
     ensures { Prints K.taken K.faults sink.old sink.new page.old page.new result (joined (before.now ∷ decimal number ∷ after.now ∷ [])) }
 {
-    let pieces = [
-        Piece::Text(before),
-        Piece::Number(number),
-        Piece::Text(after),
-    ];
-    page.put(sink, &pieces)
+    let Ok(()) = page.put_number(sink, before, number) else {
+        return Err(WriteFault);
+    };
+    page.put_bytes(sink, after.as_bytes())
 }
 
 /// Prints numbers, each behind its words, and then a last text, behind all that was printed through the page before. A write fault

@@ -1,7 +1,7 @@
 use Rattle.std.proofs.Common.{subst, sym}
 use Rattle.dm_outside.specs.Printing.{Gathers}
 use Rattle.dm_outside.proofs.Printing.{prints_past, takes_then}
-use Rattle.dm_outside.proofs.page.Page.put_bytes.Goals as goal
+use Rattle.dm_outside.proofs.page.Page.put_past.Goals as goal
 
 pub returns : goal.returns
 returns g c =
