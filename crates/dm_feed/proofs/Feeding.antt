@@ -7,7 +7,8 @@ use Rattle.std.proofs.Math.Seq.{drop-cons, take-append-add, take-append_seam}
 use Rattle.std.proofs.lemmas.List.{length-take-le, get_or-take, take_all}
 use Rattle.std.proofs.lemmas.List.Elements.{All-nil, All-append, All-push}
 use Rattle.std.proofs.lemmas.List.Sums.{fails_before_first, passes_at_first}
-use Rattle.std.proofs.lemmas.Bool.{ltb-true, ltb-false, eqb-true, eqb-false, ne_eqb}
+use Rattle.std.proofs.lemmas.Bool.{cases_lt, true≢false, lt-ltb, le-ltb, ltb-true, ltb-false, eqb-true, eqb-false, ne_eqb}
+use Rattle.memchr.specs.Find.{IsFirstByte}
 use Rattle.std.proofs.lemmas.Grind.{flat_map-append}
 use Rattle.dm_outside.specs.Taking.{TakesPiece}
 use Rattle.dm_outside.proofs.Printing.{risen_since}
@@ -56,6 +57,28 @@ some_place false p place e = absurd cc
 no_place : (b : Bool) (p : ℕ) → None ≡ cond b (Some p) None → b ≡ false
 no_place true p e = absurd cc
 no_place false p e = refl
+
+-- the first byte that a search finds stands at its position, and where it finds none there is none
+pub first_is_position : (test : ℕ → Bool) (bytes : List ℕ) (found : Option ℕ) → IsFirstByte test bytes found → found ≡ position test bytes
+first_is_position test bytes None none =
+    let place : ℕ = position_or_len test bytes in
+    elim (cases_lt place (length bytes)) [
+      | inl within ↦ absurd (none place (omega arith) within (passes_at_first test bytes 0 within))
+      | inr past ↦ sym (ap (λ (b : Bool). cond b (Some place) None) (le-ltb place (length bytes) past))
+    ]
+first_is_position test bytes (Some at) found =
+    let place : ℕ = position_or_len test bytes in
+    let low = found.0.high in
+    elim (cases_lt place at) [
+      | inl before ↦ absurd (found.0.before place (omega arith) before (passes_at_first test bytes 0 (omega (arith, before, low))))
+      | inr not_before ↦ elim (cases_lt at place) [
+        | inl behind ↦ let fails = fails_before_first test bytes at 0 behind in absurd (true≢false (sym found.1 ∙ fails))
+        | inr not_behind ↦
+            let same : place ≡ at = omega (arith, not_before, not_behind) in
+            let within : place < length bytes = omega (arith, same, low) in
+            sym (ap (λ (b : Bool). cond b (Some place) None) (lt-ltb place (length bytes) within) ∙ ap Some same)
+      ]
+    ]
 
 pub rest_of : (from : ℕ) (bytes : List ℕ) → take (length bytes - from) (drop from bytes) ≡ drop from bytes
 rest_of from bytes = take_all (length bytes - from) (drop from bytes) (omega (arith, length-drop from bytes))

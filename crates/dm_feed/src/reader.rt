@@ -9,9 +9,9 @@ use crate::buffer::Buffer;
 use crate::feed::{FeedStop, Next};
 use crate::grammar::Heard;
 use crate::reading::read_line;
-use crate::words::first_place;
 use dm_base::limits::{FEED, LINE};
 use dm_outside::Source;
+use memchr::memchr;
 use std::marker::Model;
 
 /// Reads the lines of a feed from a source, and takes no memory. It takes at most 262,145 bytes.
@@ -68,7 +68,7 @@ pub(crate) fn line_feed(bytes: &[u8], from: usize) -> Option<usize>
     requires unended { IsUnended (take from bytes.now) }
     ensures { MatchOption result (IsUnended bytes.now) (EndsAt bytes.now) }
 {
-    let Some(place) = first_place(&bytes[from..], b'\n') else {
+    let Some(place) = memchr(b'\n', &bytes[from..]) else {
         return None;
     };
     Some(from + place)

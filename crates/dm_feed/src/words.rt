@@ -5,7 +5,7 @@ ghost use Rattle.dm_feed.specs.Words.{words_of};
 ghost use Rattle.dm_feed.specs.Inside.Cuts.{cut_at, BeginsWord};
 
 /// The place of the first byte that is `at`.
-pub(crate) fn first_place(bytes: &[u8], at: u8) -> Option<usize>
+fn first_place(bytes: &[u8], at: u8) -> Option<usize>
     ensures { result ≡ position (λ b. b == at) bytes.now }
 {
     bytes.iter().position(|b| *b == at)
