@@ -177,7 +177,9 @@ fn tell_word(words: &[u64], groups: &mut [u64], word: usize)
     }
 }
 
-/// The first bit that is set, from a word on. A word without bits is told as such, and not looked at again.
+/// The first bit that is set, from a word on. A word without bits is told as such, and not looked at again. It stays a call, so
+/// that what is inlined above it is small.
+#[inline(never)]
 #[tactic(auto, using(crate::proofs::Words::none_behind, crate::proofs::Words::none_until, crate::proofs::Words::covered_told))]
 fn first_behind(words: &[u64], groups: &mut [u64], word: usize) -> Option<usize>
     requires covered { AreCovered words.now groups.old }
