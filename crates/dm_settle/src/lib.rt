@@ -4,9 +4,9 @@
 //!
 //! [`Constraints`] say which activities of a network are held, with the floor of each event and the span of each activity.
 //! Together they are a graph. A sweep computes the marked events anew, in the order. It goes on along the held activities out of
-//! every event whose time has changed, so it serves raises and falls alike. [`Sweep::settle_watched`] sweeps from the marked
-//! events, and reads the rows of few events. With every event marked the sweep is the computation from scratch
-//! ([`least_times`]).
+//! every event whose time has changed, but not to heads that are later than these allow beside both times of the event. So it
+//! serves raises and falls alike. [`Sweep::settle_watched`] sweeps from the marked events, and reads the rows of few events. With
+//! every event marked the sweep is the computation from scratch ([`least_times`]).
 //!
 //! # What is promised
 //!
