@@ -63,7 +63,7 @@ pub fn answer_job<
 
 // Reads the feed no further. It stays a call: an end takes the room of a reader, which is cleared where the end is made.
 #[inline(never)]
-fn end_job<S>(job: &mut Job<S>, stop: FeedStop)
+fn end_job<S: Drop>(job: &mut Job<S>, stop: FeedStop)
     ensures { job.new ≡ record job.old { progress = Progress.Ended stop } }
 {
     job.progress = Progress::Ended(stop);
