@@ -32,31 +32,32 @@ module _ (net : Net) (passed : List Bool) (spans x : List ℕ) (e t lateness mis
     pub lateness_now : lateness + cost - was ≡ lateness_of net (slice_set x e t)
     lateness_now = let b = lateness_balance in omega (arith, b)
 
-  module _ (into out_of : List ℕ) (into_is : into ≡ places_into net e) (out_is : out_of ≡ places_out_of net e) where
-    module _ (now was : ℕ)
-        (now_is : now ≡ sum_by (missed_weight net passed spans (slice_set x e t)) into + sum_by (missed_weight net passed spans (slice_set x e t)) out_of)
-        (was_is : was ≡ sum_by (missed_weight net passed spans x) into + sum_by (missed_weight net passed spans x) out_of) where
-      missed_balance : missed_of net passed spans (slice_set x e t) + was ≡ missed + now
-      missed_balance =
-          let moved = missed_moves net passed spans x e t (omega arith) into out_of into_is out_is in
-          let is = knew.is_missed in
-          omega (arith, moved, is, now_is, was_is)
+module _ (net : Net) (passed : List Bool) (spans x : List ℕ) (e t missed : ℕ) (known : missed ≡ missed_of net passed spans x)
+    (is_event : e < length net.events) (many : length x ≡ length net.events)
+    (into out_of : List ℕ) (into_is : into ≡ places_into net e) (out_is : out_of ≡ places_out_of net e) where
+  module _ (now was : ℕ)
+      (now_is : now ≡ sum_by (missed_weight net passed spans (slice_set x e t)) into + sum_by (missed_weight net passed spans (slice_set x e t)) out_of)
+      (was_is : was ≡ sum_by (missed_weight net passed spans x) into + sum_by (missed_weight net passed spans x) out_of) where
+    missed_balance : missed_of net passed spans (slice_set x e t) + was ≡ missed + now
+    missed_balance =
+        let moved = missed_moves net passed spans x e t (omega arith) into out_of into_is out_is in
+        omega (arith, moved, known, now_is, was_is)
 
-      pub missed_holds : was ≤ missed + now
-      missed_holds = let b = missed_balance in omega (arith, b)
+    pub missed_holds : was ≤ missed + now
+    missed_holds = let b = missed_balance in omega (arith, b)
 
-      pub missed_now : missed + now - was ≡ missed_of net passed spans (slice_set x e t)
-      missed_now = let b = missed_balance in omega (arith, b)
+    pub missed_now : missed + now - was ≡ missed_of net passed spans (slice_set x e t)
+    missed_now = let b = missed_balance in omega (arith, b)
 
-    -- where the event has not passed, and no change out of it leads to one that has
-    pub missed_still : is_flagged passed e ≡ false → LeadToNonePassed net passed out_of → missed ≡ missed_of net passed spans (slice_set x e t)
-    missed_still not none =
-        let into_now = unpassed_into net passed spans (slice_set x e t) e into into_is not in
-        let into_was = unpassed_into net passed spans x e into into_is not in
-        let out_now = none_missed_along net passed spans (slice_set x e t) out_of none in
-        let out_was = none_missed_along net passed spans x out_of none in
-        let now = missed_now 0 0 (omega (arith, into_now, out_now)) (omega (arith, into_was, out_was)) in
-        omega (arith, now)
+  -- where the event has not passed, and no change out of it leads to one that has
+  pub missed_still : is_flagged passed e ≡ false → LeadToNonePassed net passed out_of → missed ≡ missed_of net passed spans (slice_set x e t)
+  missed_still not none =
+      let into_now = unpassed_into net passed spans (slice_set x e t) e into into_is not in
+      let into_was = unpassed_into net passed spans x e into into_is not in
+      let out_now = none_missed_along net passed spans (slice_set x e t) out_of none in
+      let out_was = none_missed_along net passed spans x out_of none in
+      let now = missed_now 0 0 (omega (arith, into_now, out_now)) (omega (arith, into_was, out_was)) in
+      omega (arith, now)
 
 -- beside rows
 module _ (net : Net) (rows : RowsValue) (charges : ℕ → Bool) (priced : PricedValue) (known : EndsAreKnown net) (follows : FollowsPrice net rows charges priced) where

@@ -4,7 +4,7 @@ ghost use Rattle.dm_network.specs.Net.{activity_at, is_change};
 ghost use Rattle.dm_base.specs.declared.limits.TheConstants.{BOUND, DELAY, WEIGHT};
 ghost use Rattle.dm_settle.specs.Constraints.{IsSizedFor};
 ghost use Rattle.dm_settle.specs.Moving.{IsMove, times_after};
-ghost use Rattle.dm_priced.specs.Priced.{is_flagged, missed_weight};
+ghost use Rattle.dm_priced.specs.Priced.{is_flagged, missed_of, missed_weight};
 ghost use Rattle.dm_priced.specs.Inside.Adding.{cost_at, missed_at, AreActivities, LeadToNonePassed};
 
 use dm_base::{ActKind, Cost, EventKind, Milli, Secs};
@@ -138,7 +138,7 @@ fn leads_to_passed(net: &Network, passed: &[bool], row: &[usize]) -> bool
 
 /// Whether a change that an event moves may be missed, before it moves or from then on: the event has passed, or a change out of
 /// it leads to one that has.
-pub fn may_be_missed(net: &Network, passed: &[bool], to: &Move<'_>) -> bool
+fn may_be_missed(net: &Network, passed: &[bool], to: &Move<'_>) -> bool
     requires is_move { IsMove net.now to.now }
     requires as_many { length passed.now ≡ length net.now.events }
     ensures passed { result ≡ false → is_flagged passed.now to.now.event ≡ false }
@@ -149,7 +149,7 @@ pub fn may_be_missed(net: &Network, passed: &[bool], to: &Move<'_>) -> bool
 
 /// What the activities into an event that moves and out of it add to these.
 #[inline(never)]
-pub fn missed_around(net: &Network, passed: &[bool], to: Move<'_>) -> Missed
+fn missed_around(net: &Network, passed: &[bool], to: Move<'_>) -> Missed
     requires is_move { IsMove net.now to }
     requires as_many { length passed.now ≡ length net.now.events }
     ensures was { result.was ≡ sum_by (missed_weight net.now passed.now to.entry.constraints.now.spans to.entry.times.now) to.entry.into.now
@@ -164,6 +164,21 @@ pub fn missed_around(net: &Network, passed: &[bool], to: Move<'_>) -> Missed
         was: along_into.was + along_out.was,
         now: along_into.now + along_out.now,
     }
+}
+
+/// The weight of the changes that are missed once an event has moved, where this is the weight before.
+pub fn missed_then(net: &Network, passed: &[bool], to: &Move<'_>, missed: Cost) -> Cost
+    requires is_move { IsMove net.now to.now }
+    requires as_many { length passed.now ≡ length net.now.events }
+    requires known { missed ≡ missed_of net.now passed.now to.now.constraints.now.spans to.now.times.now }
+    ensures { result ≡ missed_of net.now passed.now to.now.constraints.now.spans (times_after to.now) }
+{
+    net.reveal();
+    if !may_be_missed(net, passed, to) {
+        return missed;
+    }
+    let around = missed_around(net, passed, *to);
+    missed + around.now - around.was
 }
 
 /// What the activities of a row add to these.

@@ -1,7 +1,7 @@
 //! The sums of the times, kept through a sweep.
 ghost use Rattle.dm_priced.specs.Inside.Adding.{AreKnown};
 
-use crate::adding::{cost_at, may_be_missed, missed_around};
+use crate::adding::{cost_at, missed_then};
 use dm_base::Cost;
 use dm_network::Network;
 use dm_settle::{Move, Watcher};
@@ -30,9 +30,6 @@ impl Watcher for Watch<'_> {
         let cost = cost_at(net, to.event, to.time);
         let was = cost_at(net, to.event, earlier);
         self.lateness = self.lateness + cost - was;
-        if may_be_missed(net, self.passed, to) {
-            let missed = missed_around(net, self.passed, *to);
-            self.missed = self.missed + missed.now - missed.was;
-        }
+        self.missed = missed_then(net, self.passed, to, self.missed);
     }
 }

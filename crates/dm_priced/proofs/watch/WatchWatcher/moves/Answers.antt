@@ -1,7 +1,7 @@
 use Rattle.std.proofs.Common.{◌∙◌, ap, arith}
 use Rattle.dm_priced.specs.Inside.Adding.{cost_at}
-use Rattle.dm_priced.proofs.Limits.{lateness_within, missed_within}
-use Rattle.dm_priced.proofs.Pricing.{out_are_activities, lateness_holds, lateness_now, missed_holds, missed_now}
+use Rattle.dm_priced.proofs.Limits.{lateness_within}
+use Rattle.dm_priced.proofs.Pricing.{lateness_holds, lateness_now}
 use Rattle.dm_priced.proofs.watch.WatchWatcher.moves.Goals as goal
 
 pub overflow_add-self : goal.overflow_add-self
@@ -18,16 +18,13 @@ overflow_sub-self c =
     c.cost_at-cost.result c.cost_at-was.result c.cost_at-cost.ensures.cost
     (c.cost_at-was.ensures.cost ∙ ap (cost_at c.args.net.now c.args.to.now.event) c.time-earlier.ensures.value)
 
-pub overflow_add-self-3 : goal.overflow_add-self-3
-overflow_add-self-3 c =
-    let bound = missed_within c.args.net.now c.reveal.ensures.within c.args.self.now.passed.now c.args.to.now.constraints.now.spans c.args.to.now.times.now in
-    let is = c.requires.knows.is_missed in
-    let limit = c.missed_around-missed.ensures.now_limit in
-    omega (arith, bound, is, limit)
-
-pub overflow_sub-self-2 : goal.overflow_sub-self-2
-overflow_sub-self-2 c =
-    missed_holds c.args.net.now c.args.self.now.passed.now c.args.to.now.constraints.now.spans c.args.to.now.times.now c.args.to.now.event c.args.to.now.time
-    c.args.self.now.lateness c.args.self.now.missed c.requires.knows c.requires.is_move.is_event c.requires.is_move.as_many
-    c.args.to.now.into.now c.args.to.now.out_of.now c.requires.is_move.into c.requires.is_move.out_of
-    c.missed_around-missed.result.now c.missed_around-missed.result.was c.missed_around-missed.ensures.now c.missed_around-missed.ensures.was
+pub returns-clause-knows : goal.returns-clause-knows
+returns-clause-knows c = record {
+  as_many = c.requires.knows.as_many;
+  is_lateness =
+      lateness_now c.args.net.now c.args.self.now.passed.now c.args.to.now.constraints.now.spans c.args.to.now.times.now c.args.to.now.event c.args.to.now.time
+      c.args.self.now.lateness c.args.self.now.missed c.requires.knows c.requires.is_move.is_event c.requires.is_move.as_many
+      c.cost_at-cost.result c.cost_at-was.result c.cost_at-cost.ensures.cost
+      (c.cost_at-was.ensures.cost ∙ ap (cost_at c.args.net.now c.args.to.now.event) c.time-earlier.ensures.value);
+  is_missed = c.missed_then.ensures;
+}
