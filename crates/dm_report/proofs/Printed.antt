@@ -7,7 +7,7 @@ use Rattle.dm_cert.specs.RunTexts.{Run, entries_text, logs_text, note_text, time
 use Rattle.std.specs.Fmt.{decimal}
 use Rattle.dm_outside.specs.Printing.{joined, Gathers, Breaks, Prints}
 use Rattle.dm_report.specs.Printed.{labelled}
-use Rattle.dm_outside.proofs.Printing.{prints_none, prints_then, prints_then_fault, prints_fault_at}
+use Rattle.dm_outside.proofs.Printing.{number_then, prints_none, prints_then, prints_then_fault, prints_fault_at}
 
 -- a front of the whole is printed, and this is still to come
 pub record PrintedTo {K : Type 0} (taken : K → Option (List ℕ)) (faults : K → ℕ) (before now : K) (held_before held_now whole later : List ℕ) : Type 0 where
@@ -56,6 +56,10 @@ labelled_is words number [] last = refl
 labelled_is words number (x ∷ xs) last = rw (labelled_is words number xs last) (simp (append_assoc, append-nil))
 
 -- ---- how parts make a whole
+
+pub number_parts : (before digits after : List ℕ) → joined (before ∷ digits ∷ after ∷ []) ≡ joined (before ∷ digits ∷ []) ++ after
+number_parts before digits after =
+    number_then before digits (after ++ []) ∙ ap (λ (l : List ℕ). joined (before ∷ digits ∷ []) ++ l) (append-nil after)
 
 pub plan_parts : (n text : List ℕ) → joined (n ∷ codes " " ∷ text ∷ []) ≡ (n ++ codes " ") ++ text
 plan_parts n text = simp (append_assoc, append-nil)
