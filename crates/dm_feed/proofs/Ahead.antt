@@ -250,7 +250,7 @@ module _ {S : Type 0} where
   first_ended : (left : S → Option (List ℕ)) (before now : ReaderValue S) (rest : List ℕ) (line : ℕ) (h : Heard) (a : GivesDue left before now line h) (b : IsLeft (left now.source) rest a.given) (bytes : List ℕ) → IsUnended bytes → a.front ≡ ended bytes → a.text ≡ without_return bytes
       → GivesFirst left before now rest line h
   first_ended left before now rest line h a b bytes unended front text =
-      let passed : before.pending ++ a.given ≡ flat_map ended a.quiet ++ (ended bytes ++ now.pending) = a.passed ∙ ap (λ (l : List ℕ). flat_map ended a.quiet ++ (l ++ now.pending)) front in
+      let passed : before.pending ++ a.given ≡ flat_map ended a.quiet ++ (ended bytes ++ now.pending) = a.consumed ∙ ap (λ (l : List ℕ). flat_map ended a.quiet ++ (l ++ now.pending)) front in
       let ahead = ahead_ended before now rest a.given b.behind a.quiet bytes a.are_quiet unended b.is passed a.takes.counted a.within in
       let has = items_of now.lines (lines_ahead now b.behind) in
       record {
@@ -273,7 +273,7 @@ module _ {S : Type 0} where
       → 0 < length bytes → now.pending ≡ [] → IsAtEnd (left now.source) → GivesFirst left before now rest line h
   first_last left before now rest line h a b bytes unended front text some none at_end =
       let passed : before.pending ++ a.given ≡ flat_map ended a.quiet ++ bytes =
-      a.passed ∙ (ap (λ (l : List ℕ). flat_map ended a.quiet ++ (l ++ now.pending)) front ∙ ap (λ (l : List ℕ). flat_map ended a.quiet ++ l) (ap (λ (l : List ℕ). bytes ++ l) none ∙ append-nil bytes)) in
+      a.consumed ∙ (ap (λ (l : List ℕ). flat_map ended a.quiet ++ (l ++ now.pending)) front ∙ ap (λ (l : List ℕ). flat_map ended a.quiet ++ l) (ap (λ (l : List ℕ). bytes ++ l) none ∙ append-nil bytes)) in
       let nothing = nothing_behind (left now.source) b.behind b.is_left at_end in
       let ahead =
       ahead_last before rest a.given b.behind a.quiet bytes a.are_quiet unended b.is nothing passed (omega (arith, a.takes.counted, a.within))
@@ -303,14 +303,14 @@ module _ {S : Type 0} where
   in_order left faults is_sound before now (Stop End) rest small known a =
       let b = left_behind (left before.source) (left now.source) rest a.given known a.takes.consumed in
       let nothing = nothing_behind (left now.source) b.behind b.is_left a.at_end in
-      let ahead = ahead_last before rest a.given b.behind a.quiet a.last a.are_quiet a.unended b.is nothing a.passed (omega (arith, a.takes.counted, a.within)) in (
+      let ahead = ahead_last before rest a.given b.behind a.quiet a.last a.are_quiet a.unended b.is nothing a.consumed (omega (arith, a.takes.counted, a.within)) in (
         subst (λ (ls : List (List ℕ)). AreDueItems before.lines ls []) (sym ahead)
             (over_quiet before.lines a.quiet (last_line a.last) [] a.are_quiet (quiet_last (before.lines + length a.quiet) a.last a.is_quiet)),
         omega (arith, a.takes.counted, a.within, ap length b.is, ap length nothing, length-append a.given b.behind),
       )
   in_order left faults is_sound before now (Stop Long) rest small known a =
       let b = left_behind (left before.source) (left now.source) rest a.given known a.takes.consumed in
-      let ahead = ahead_long before rest a.given b.behind a.quiet a.front a.next a.are_quiet a.unended b.is a.passed small (omega (arith, a.takes.counted, a.over)) in (
+      let ahead = ahead_long before rest a.given b.behind a.quiet a.front a.next a.are_quiet a.unended b.is a.consumed small (omega (arith, a.takes.counted, a.over)) in (
         subst (λ (ls : List (List ℕ)). AreDueItems before.lines ls []) (sym ahead) (over_quiet before.lines a.quiet [] [] a.are_quiet tt),
         omega (arith, a.takes.counted, a.over, ap length b.is, length-append a.given b.behind),
       )

@@ -55,7 +55,7 @@ module _ {S : Type 0} (left : S → Option (List ℕ)) where
     quiet = a.quiet;
     are_quiet = a.are_quiet;
     front = a.front;
-    passed = a.passed;
+    consumed = a.consumed;
     text = a.text;
     is_line = imagine_cut a.text a.front now.pending rest a.is_line.bytes (left now.source) a.is_line.unended (λ none. last (a.last none)) a.is_line;
     hears = a.hears;
@@ -98,7 +98,7 @@ module _ {S : Type 0} (left : S → Option (List ℕ)) where
         last = a.last;
         unended = a.unended;
         is_quiet = a.is_quiet;
-        passed = a.passed;
+        consumed = a.consumed;
         at_end = refl;
         within = a.within;
       })
@@ -112,7 +112,7 @@ module _ {S : Type 0} (left : S → Option (List ℕ)) where
         front = a.front;
         unended = a.unended;
         next = a.next;
-        passed = a.passed;
+        consumed = a.consumed;
         over = a.over;
       })
   ends_first now later Fault small is_open a again = record {

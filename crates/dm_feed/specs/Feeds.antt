@@ -67,7 +67,7 @@ pub record GivesDue {S : Type 0} (left : S → Option (List ℕ)) (before now : 
   pub quiet : List (List ℕ)
   pub are_quiet : AreQuiet quiet
   pub front : List ℕ
-  pub passed : before.pending ++ given ≡ flat_map ended quiet ++ (front ++ now.pending)
+  pub consumed : before.pending ++ given ≡ flat_map ended quiet ++ (front ++ now.pending)
   pub text : List ℕ
   pub is_line : IsFrontLine text front now.pending (left now.source)
   pub hears : Hears text heard
@@ -87,7 +87,7 @@ pub record ReachesEnd {S : Type 0} (left : S → Option (List ℕ)) (before now 
   pub last : List ℕ
   pub unended : IsUnended last
   pub is_quiet : IsQuiet last
-  pub passed : before.pending ++ given ≡ flat_map ended quiet ++ last
+  pub consumed : before.pending ++ given ≡ flat_map ended quiet ++ last
   pub at_end : IsAtEnd (left now.source)
   pub within : now.taken ≤ FEED
 
@@ -101,7 +101,7 @@ pub record IsTooLong {S : Type 0} (left : S → Option (List ℕ)) (before now :
   pub front : List ℕ
   pub unended : IsUnended front
   pub next : ℕ
-  pub passed : before.pending ++ given ≡ flat_map ended quiet ++ (front ++ next ∷ [])
+  pub consumed : before.pending ++ given ≡ flat_map ended quiet ++ (front ++ next ∷ [])
   pub over : now.taken ≡ FEED + 1
 
 -- A read failed. What was taken since the last due line is blank lines, comments and the front of one line.
@@ -114,7 +114,7 @@ pub record IsCutOff {S : Type 0} (left : S → Option (List ℕ)) (faults : S �
   pub are_quiet : AreQuiet quiet
   pub front : List ℕ
   pub unended : IsUnended front
-  pub passed : before.pending ++ given ≡ flat_map ended quiet ++ front
+  pub consumed : before.pending ++ given ≡ flat_map ended quiet ++ front
   pub risen : HasRisen (faults before.source) (faults now.source)
   pub not_sound : is_sound before.source → ⊥
 
