@@ -1,6 +1,6 @@
 -- An arc out of an event that moves, which may move its head or does not.
-use Rattle.std.proofs.Common.{◌≡◌, ℕ, ◌+◌, ◌-◌, ◌<◌, ◌≤◌, max, Bool, true, false, ◌&&◌, nat_le, List, refl, inl, inr, ◌⊎◌, arith, slice_index}
-use Rattle.std.proofs.lemmas.Bool.{cases_Bool, cases_lt, and_parts, leb-false}
+use Rattle.std.proofs.Common.{◌≡◌, ℕ, ◌+◌, ◌-◌, ◌<◌, max, Bool, true, false, ◌&&◌, nat_le, List, inl, inr, ◌⊎◌, arith, slice_index}
+use Rattle.std.proofs.lemmas.Bool.{cases_lt, and_parts, leb-false}
 use Rattle.dm_graph.specs.Arcs.{Binds}
 use Rattle.dm_graph.specs.Graph.{Graph, IsJoin}
 use Rattle.dm_settle.specs.Inside.Sweep.{pulls, pulling}
