@@ -1,5 +1,5 @@
 -- What an order takes up and lets go out of an event.
-use Rattle.std.proofs.Common.{◌≡◌, ◌≢◌, ℕ, ◌+◌, ◌<◌, Bool, true, false, List, [], ◌∷◌, length, refl, sym, ap, subst, ◌∙◌, if◌then◌else◌, inl, inr, arith, eq-eqb, eqb-true, slice_index}
+use Rattle.std.proofs.Common.{◌≡◌, ◌≢◌, ℕ, ◌+◌, ◌<◌, Bool, true, false, List, [], ◌∷◌, length, refl, sym, ap, ◌∙◌, if◌then◌else◌, inl, inr, arith, eq-eqb, slice_index}
 use Rattle.std.specs.Prelude.{◌==◌, All, slice_set}
 use Rattle.std.proofs.lemmas.Bool.{cases_eq, cases_lt, cases_Bool, ne_eqb}
 use Rattle.std.proofs.lemmas.List.{get_or_default}
@@ -12,7 +12,7 @@ use Rattle.dm_order.specs.Value.{OrderValue}
 use Rattle.dm_order.specs.Orders.{IsOrderOf, is_among, held_with, held_without}
 use Rattle.dm_settle.specs.Constraints.{ConstraintsValue}
 use Rattle.dm_settle.proofs.Held.{with_one_free}
-use Rattle.dm_live.specs.Live.{is_fixed, is_held_on, HoldsUnfixed}
+use Rattle.dm_live.specs.Live.{is_fixed, HoldsUnfixed}
 use Rattle.dm_live.specs.Inside.Taking.{HasTaken}
 use Rattle.dm_live.proofs.Ordering.{one_with, others_with}
 use Rattle.dm_live.proofs.Standing.{flag_here, flag_there}

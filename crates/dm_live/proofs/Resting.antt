@@ -1,5 +1,5 @@
 -- What holds of a timetable at any time, and of one at rest.
-use Rattle.std.proofs.Common.{◌≡◌, ◌∙◌, ◌<◌, ℕ, List, Bool, true, false, ap, sym, if◌then◌else◌, replicate, length, inl, inr, arith, slice_index}
+use Rattle.std.proofs.Common.{◌≡◌, ◌∙◌, ℕ, List, Bool, true, false, ap, sym, if◌then◌else◌, replicate, length, inl, inr, arith, slice_index}
 use Rattle.std.proofs.lemmas.Bool.{cases_lt}
 use Rattle.std.proofs.lemmas.List.{get_or-replicate, get_or_past, length-replicate}
 use Rattle.dm_graph.proofs.Joins.{joins_are_least}

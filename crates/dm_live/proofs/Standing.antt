@@ -1,7 +1,7 @@
 -- Fixed events, ranks by which every held activity rises, and what a sweep is given.
 use Rattle.std.proofs.Common.{◌≡◌, ◌≢◌, ℕ, ◌+◌, ◌<◌, Bool, true, false, List, length, refl, sym, ap, ◌∙◌, if◌then◌else◌, inl, inr, arith, slice_index, get_or-set_same, get_or-set_other}
 use Rattle.std.specs.Prelude.{slice_set}
-use Rattle.std.proofs.lemmas.Bool.{cases_Bool, cases_eq, cases_lt}
+use Rattle.std.proofs.lemmas.Bool.{cases_Bool, cases_lt}
 use Rattle.std.proofs.lemmas.List.{get_or_past}
 use Rattle.dm_graph.specs.Arcs.{Binds}
 use Rattle.dm_graph.proofs.Chains.{no_cycle_where_rank_rises}
@@ -9,12 +9,12 @@ use Rattle.dm_network.specs.Net.{Net, activity_at}
 use Rattle.dm_network.specs.Held.{arcs_of, is_held, HasNoCycleOf}
 use Rattle.dm_order.specs.Value.{OrderValue}
 use Rattle.dm_order.specs.Orders.{IsOrderOf}
-use Rattle.dm_settle.specs.Constraints.{ConstraintsValue, IsSizedFor, arcs_given, graph_given}
+use Rattle.dm_settle.specs.Constraints.{ConstraintsValue, arcs_given, graph_given}
 use Rattle.dm_settle.specs.Settling.{AreLeast, IsSettled, GoesForward, MarksUnsettled, MayMove}
 use Rattle.dm_settle.proofs.Least.{least_is_settled}
 use Rattle.dm_marks.specs.Marked.{is_marked}
-use Rattle.dm_live.specs.Live.{is_fixed, is_held_on, HoldsUnfixed, IsEnteredByNone, Stands, FixedStand, AreMarked}
-use Rattle.dm_live.specs.Inside.Placing.{IsLoose, ArePlaced}
+use Rattle.dm_live.specs.Live.{is_fixed, HoldsUnfixed, Stands, FixedStand, AreMarked}
+use Rattle.dm_live.specs.Inside.Placing.{ArePlaced}
 
 -- one flag that is set
 pub flag_here : (fixed : List Bool) (i : ℕ) (flag : Bool) → i < length fixed → is_fixed (slice_set fixed i flag) i ≡ flag

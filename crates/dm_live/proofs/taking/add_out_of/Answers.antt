@@ -1,4 +1,4 @@
-use Rattle.std.proofs.Common.{◌≡◌, ◌∙◌, ◌+◌, true, false, refl, sym, ap, subst, arith}
+use Rattle.std.proofs.Common.{◌∙◌, ◌+◌, sym, subst, arith}
 use Rattle.dm_order.specs.Value.{OrderValue}
 use Rattle.dm_settle.proofs.Held.{out_may_be_held}
 use Rattle.dm_live.specs.Inside.Taking.{HasTaken}

@@ -1,4 +1,4 @@
-use Rattle.std.proofs.Common.{◌≡◌, Bool, false, [], ◌∷◌, sym, ap, subst, ◌∙◌, true, arith, length, ◌<◌}
+use Rattle.std.proofs.Common.{◌≡◌, false, [], ◌∷◌, sym, ap, subst, ◌∙◌, true, arith}
 use Rattle.std.specs.Prelude.{slice_set}
 use Rattle.dm_network.specs.Net.{activity_at}
 use Rattle.dm_network.specs.declared.parts.Activity.{Activity}
