@@ -7,12 +7,12 @@ use Rattle.dm_outside.proofs.page.Page.put_pair.Goals as goal
 
 pub returns-in_default : goal.returns-in_default
 returns-in_default g c =
-    subst (Breaks g.K.Sink.taken g.K.Sink.faults c.args.sink.now c.in_default.new.sink c.args.self.now)
+    subst (Breaks g.K.Sink.taken g.K.Sink.faults c.args.sink.now c.put_number.new.sink c.args.self.now)
     (sym (number_then c.args.words.now (decimal c.args.pair.0) (codes " " ++ (decimal c.args.pair.1 ++ []))))
     (prints_fault (codes " " ++ (decimal c.args.pair.1 ++ [])) c.in_default.ensures)
 
 pub returns : goal.returns
 returns g c =
-    subst (λ text. Prints g.K.Sink.taken g.K.Sink.faults c.args.sink.now c.put_number.new.sink c.args.self.now c.put_number.new.self c.put_number.result text)
+    subst (λ text. Prints g.K.Sink.taken g.K.Sink.faults c.args.sink.now c.put_number-2.new.sink c.args.self.now c.put_number-2.new.self c.put_number-2.result text)
     (sym (number_then c.args.words.now (decimal c.args.pair.0) (codes " " ++ (decimal c.args.pair.1 ++ []))))
-    (prints_last c.put_number.new.sink c.put_number.new.self (codes " " ++ (decimal c.args.pair.1 ++ [])) c.put_number.result c.in-Ok.ensures c.put_number.ensures)
+    (prints_last c.put_number-2.new.sink c.put_number-2.new.self (codes " " ++ (decimal c.args.pair.1 ++ [])) c.put_number-2.result c.in-Ok.ensures c.put_number-2.ensures)
