@@ -1,5 +1,5 @@
 -- Texts of digits: they are their own cells, and the number grows by a digit at a time.
-use Rattle.std.proofs.Common.{◌≡◌, ◌≤◌, ◌<◌, ◌+◌, ◌-◌, ◌*◌, ◌^◌, ◌∙◌, ℕ, suc, true, false, eqb, List, [], ◌∷◌, ◌++◌, length, take, reverse, get_or, inl, inr, Option, Some, None, IfSome, refl, ap, subst, sym, arith, add-one}
+use Rattle.std.proofs.Common.{◌≡◌, ◌≤◌, ◌<◌, ◌+◌, ◌-◌, ◌*◌, ◌^◌, ◌∙◌, ℕ, suc, true, false, List, [], ◌∷◌, ◌++◌, length, take, reverse, get_or, inl, inr, Option, Some, None, IfSome, refl, ap, subst, sym, arith, add-one}
 use Rattle.std.proofs.Math.Nat.{pow-le-pow_right, pow-suc}
 use Rattle.std.proofs.lemmas.Bool.{cases_Bool, ne_eqb}
 use Rattle.std.proofs.lemmas.List.{drop_all, length-reverse, reverse-append, take_all}
