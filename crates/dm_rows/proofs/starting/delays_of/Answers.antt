@@ -1,13 +1,19 @@
-use Rattle.std.proofs.Common.{arith, sym}
+use Rattle.std.proofs.Common.{ℕ, ◌<◌, ◌^◌, List, length, get_or, arith, sym}
 use Rattle.std.proofs.lemmas.List.{get_or_default}
 use Rattle.std.proofs.lemmas.Option.{slice_get-get_or}
+use Rattle.dm_base.specs.declared.rows.DelayRow.{DelayRow}
+use Rattle.dm_rows.specs.StartFaults.{DelaysAreWithin}
 use Rattle.dm_rows.proofs.StartDelays.{one_more_delay, all_delays, all_known, delayed_alone, first_unknown}
 use Rattle.dm_rows.proofs.starting.delays_of.Goals as goal
 
+is_narrow : (records : List DelayRow) (k : ℕ) (d : DelayRow) → DelaysAreWithin records → k < length records → (get_or records k d).delay < 2 ^ 32
+is_narrow records k d within lt =
+    let small = within k (get_or records k d) (slice_get-get_or records k d lt) in
+    omega (arith, small)
+
 pub narrow-requires : goal.narrow-requires
 narrow-requires c =
-    let small = c.requires c.loop-record.record-index _ (slice_get-get_or c.args.records.now c.loop-record.record-index _ c.loop-record-test.true) in
-    omega (arith, small)
+    is_narrow c.args.records.now c.loop-record.record-index (record { id = 0; delay = 0 }) c.requires c.loop-record-test.true
 
 pub loop-record-preserved : goal.loop-record-preserved
 loop-record-preserved c =
