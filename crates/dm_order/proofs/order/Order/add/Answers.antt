@@ -1,5 +1,4 @@
-use Rattle.std.proofs.Common.{◌≡◌, ◌<◌, Bool, true, List, length, ap, sym, subst, ◌∙◌, arith}
-use Rattle.std.specs.List.{All}
+use Rattle.std.proofs.Common.{◌≡◌, Bool, true, List, length, ap, sym, subst, ◌∙◌, arith}
 use Rattle.dm_network.specs.Held.{is_held, HasNoCycleOf, IsCycleOf}
 use Rattle.dm_order.specs.Value.{OrderValue}
 use Rattle.dm_order.specs.Orders.{IsOrderOf, GoForward, held_with}
