@@ -1,5 +1,5 @@
 -- How the sums change where one event has another time, where an event passes, and where a span or a charge changes.
-use Rattle.std.proofs.Common.{◌≡◌, ◌≢◌, ℕ, zero, suc, ◌+◌, ◌<◌, Bool, true, false, List, [], ◌∷◌, length, sum_by, replicate, refl, sym, ap, ◌∙◌, ◌&&◌, if◌then◌else◌, inl, inr, arith, nat_lt, eq-eqb, eqb-true, slice_index, get_or-set_same, get_or-set_other}
+use Rattle.std.proofs.Common.{◌≡◌, ◌≢◌, ℕ, zero, suc, ◌+◌, ◌<◌, Bool, true, false, List, length, sum_by, replicate, refl, sym, ap, ◌∙◌, ◌&&◌, if◌then◌else◌, inl, inr, arith, nat_lt, eq-eqb, eqb-true, slice_index, get_or-set_same, get_or-set_other}
 use Rattle.std.specs.Prelude.{◌==◌, slice_set}
 use Rattle.std.specs.List.{range_with_len}
 use Rattle.std.proofs.lemmas.Bool.{cases_lt, lt-ltb, le-ltb, and_right}

@@ -26,5 +26,5 @@ returns-clause-knows c = record {
       c.args.self.now.lateness c.args.self.now.missed c.requires.knows c.requires.is_move.is_event c.requires.is_move.as_many
       c.cost_at-cost.result c.cost_at-was.result c.cost_at-cost.ensures.cost
       (c.cost_at-was.ensures.cost ∙ ap (cost_at c.args.net.now c.args.to.now.event) c.time-earlier.ensures.value);
-  is_missed = c.missed_then.ensures;
+  is_missed = c.missed_then-self.ensures;
 }
