@@ -1,6 +1,6 @@
 //! A feed that is being answered.
 
-ghost use Rattle.std.specs.Prelude.{OnOk};
+ghost use Rattle.std.specs.Prelude.{◌≡◌, OnOk};
 ghost use Rattle.dm_rounds.specs.Inside.Jobs.{CanRead, StepsFrom};
 ghost use Rattle.dm_desk.specs.Answered.{HasSeenLegal, AreTrueOf};
 ghost use Rattle.dm_desk.specs.Planning.{PlansUnder};
