@@ -1,7 +1,7 @@
 -- The headways of a pair out of an event, flagged or no longer.
 use Rattle.std.proofs.Common.{◌≡◌, ℕ, ◌+◌, ◌<◌, Bool, true, false, List, length, Some, refl, sym, ap, subst, ◌∙◌, ◌⊎◌, inl, inr, arith, slice_index, length-set, get_or-set_same, get_or-set_other}
 use Rattle.std.specs.Prelude.{slice_set, ◌==◌, MatchBool}
-use Rattle.std.proofs.lemmas.Bool.{cases_Bool, cases_eq, and_parts, and_from, cond-true, cond-false, eqb-true, both_ways, eq-eqb, ne_eqb}
+use Rattle.std.proofs.lemmas.Bool.{cases_Bool, cases_eq, and_parts, and_from, cond-true, cond-false, eqb-true, both_ways, eq-eqb}
 use Rattle.dm_network.specs.Net.{Net, activity_at, places_out_of}
 use Rattle.dm_rows.specs.Relax.{is_of_pair}
 use Rattle.dm_check_plans.specs.Inside.Flags.{AreSetWhere}

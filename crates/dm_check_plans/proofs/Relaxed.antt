@@ -1,6 +1,6 @@
 -- The relaxed problem of a path has the floors, the spans and the passed events of the rows themselves.
 use Rattle.std.proofs.Common.{◌≡◌, ℕ, ◌+◌, ◌*◌, Bool, List, length, Option, None, sym, ap, subst, ◌∙◌, inl, inr, arith}
-use Rattle.std.specs.Prelude.{◌&&◌, nat_lt, is_some, slice_index_or, sum_by, if◌then◌else◌, Result, Ok, Err, OnOk}
+use Rattle.std.specs.Prelude.{◌&&◌, nat_lt, is_some, slice_index_or, sum_by, if◌then◌else◌}
 use Rattle.std.specs.List.{range_with_len}
 use Rattle.dm_network.specs.Net.{Net, activity_at, is_change}
 use Rattle.dm_network.specs.Held.{arcs_of}

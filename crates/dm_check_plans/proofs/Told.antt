@@ -17,7 +17,7 @@ use Rattle.dm_rows.proofs.Holding.{held_is_met_exactly_without_cycle}
 use Rattle.dm_tree.specs.declared.forms.Node.{Node}
 use Rattle.dm_tree.specs.declared.forms.Node.TheVariants.{Inner, Cycle, Bound, Open, Hole}
 use Rattle.dm_tree.specs.Relaxed.{IsRelaxedLeast, RelaxedCosts, relaxed_cost_of, HasNoRelaxedCycle, IsViolated}
-use Rattle.dm_tree.specs.Plans.{Task, whole_task, IsViolatedThere, IsTrueInner, IsTrueBound, IsTrueOpen}
+use Rattle.dm_tree.specs.Plans.{whole_task, IsViolatedThere, IsTrueInner, IsTrueBound, IsTrueOpen}
 use Rattle.dm_rows.specs.Sides.{IsOrdered}
 use Rattle.dm_check_rows.specs.Claims.{Tells}
 use Rattle.dm_check_plans.specs.Inside.RelaxedProblems.{HasRelaxedCycle}

@@ -9,7 +9,7 @@ use Rattle.dm_network.specs.Start.{IsNetwork}
 use Rattle.dm_rows.specs.declared.messages.Decision.{Decision}
 use Rattle.dm_rows.specs.declared.messages.Flip.{Flip}
 use Rattle.dm_rows.specs.Active.{has_passed}
-use Rattle.dm_rows.specs.Decide.{IsChoiceList, choice_of, free_choices_of, with_decisions}
+use Rattle.dm_rows.specs.Decide.{IsChoiceList, choice_of, free_choices_of}
 use Rattle.dm_rows.specs.Relax.{is_undecided_change, is_undecided_pair, is_relaxed_active, is_relaxed_dropped}
 use Rattle.dm_rows.specs.Rows.{RowsValue, IsSized, kept_at}
 use Rattle.dm_check_plans.specs.Inside.Flags.{AreSetWhere}

@@ -4,7 +4,6 @@ use Rattle.std.proofs.lemmas.List.{length-replicate}
 use Rattle.dm_marks.specs.Places.{PlaceSetValue}
 use Rattle.dm_rows.specs.Relax.{is_relaxed_active}
 use Rattle.dm_check_times.specs.KeptCosts.{IsPricedFor}
-use Rattle.dm_check_plans.specs.Inside.RelaxedProblems.{IsRelaxedProblemOf}
 use Rattle.dm_paths.specs.Flags.{AreFlags, is_flagged}
 use Rattle.dm_check_plans.proofs.Turned.{begins}
 use Rattle.dm_check_plans.proofs.relaxed_problem.RelaxedProblem.new.Goals as goal
