@@ -1,11 +1,13 @@
 #!/usr/bin/env python3
 """Plays the day of this folder on the desk's page: python3 examples/day/play.py DISPATCHER [FOLDER] [--pace=60] [--port=8080]
 
-It starts a server over the day's network and a new store, and the desk's page beside it, and fills two feeds minute by minute: the
-control room north tells the clock, what has left and arrived, and delays, the control room south delays and decisions. Trains run
-as the journal says, so what is decided on the page counts. The desk is the server's third feed. Open the address that it prints, type
-the token that it prints too, and tell, plan and adopt. A minute of the day takes a second where --pace is 60. Ctrl-C ends the server
-and leaves the text of the run in FOLDER, where one is given.
+DISPATCHER is the built program. The script starts a server over the day's network with a new store, and the desk beside it. It fills
+two feeds minute by minute. The control room north reports the clock, what has left and arrived, and delays. The control room south
+reports delays and decisions. The desk has the third feed. Trains run as the journal says, so what is decided on the page counts.
+
+Open the address that is printed, type the token that is printed too, and report delays, plan and adopt. With --pace=60 a minute of
+the day takes a second. Ctrl-C ends the server. With a FOLDER, which must be new or empty, the store, the feeds and the text of the
+run stay there.
 """
 from __future__ import annotations
 
@@ -32,12 +34,12 @@ from runtext import heard  # noqa: E402
 from serving import Server  # noqa: E402
 from words import add_program, command_line, whole_between  # noqa: E402
 
-# The day begins at 6:00, a room tells at most one thing in so many seconds of it, and so long before a train leaves late it is known.
+# The day begins at 6:00. A room reports at most one thing in APART seconds, and a delay is known AHEAD seconds before the train leaves.
 BEGIN, APART, AHEAD = 21_600, 120, 60
 
 
 def time_of(network: Network, message: Message) -> int:
-    """The scheduled time of what a message is about."""
+    """The scheduled time of the event that a message names, or of the one from which its activity leads."""
     kind, number = message[:2]
     if kind in ('delay event', 'first'):
         return network.events[network.event_place[number]].time
@@ -45,7 +47,7 @@ def time_of(network: Network, message: Message) -> int:
 
 
 def told_by(network: Network, name: str) -> list[tuple[int, Message]]:
-    """What a room tells of itself, and when: its delays and decisions. The clock, passed events and questions are left out."""
+    """The delays and decisions of a room's file, each with the time at which it is reported. All other lines are left out."""
     with open(os.path.join(HERE, name), encoding='ascii') as file:
         said = [heard(line.rstrip('\n')) for line in file]
     told = [one for one in said if one is not None and one[0] in ('delay event', 'delay activity', 'keep', 'drop', 'first')]
@@ -53,19 +55,19 @@ def told_by(network: Network, name: str) -> list[tuple[int, Message]]:
 
 
 class Tracks:
-    """What happens out there: trains run as the journal of the store says that they do."""
+    """What trains do: they run as the journal of the store says."""
 
     def __init__(self, network: Network, store: str) -> None:
         self.network, self.rows = network, Rows(network)
         self.journal = Journal(store)
 
     def read(self) -> None:
-        """Takes up what has been entered, whoever told it."""
+        """Applies the entries that are new in the journal, whichever feed they are of."""
         for entry in self.journal.read():
             apply(self.network, self.rows, entry.message)
 
     def happened(self, now: int) -> list[Message]:
-        """What has left and arrived by now and was not told yet, and the clock."""
+        """What has left and arrived by now and was not reported yet, and the clock."""
         times = sound_times(self.network, self.rows)
         return [*Played(self.network, self.rows).passing(now, times, 0), ('now', now)]
 
@@ -88,7 +90,7 @@ def fill(network: Network, server: Server, pace: int) -> None:
 
 
 def play(program: str, folder: str, pace: int, port: int) -> None:
-    """Plays the day in a folder; BadFile where the server ends otherwise than it was told to."""
+    """Plays the day in a folder; BadFile if the server ends with an unexpected status."""
     net = os.path.join(HERE, 'net')
     token = os.path.join(folder, 'token')
     with open(os.open(token, os.O_WRONLY | os.O_CREAT | os.O_TRUNC, 0o600), 'w', encoding='ascii') as file:
@@ -119,9 +121,9 @@ def play(program: str, folder: str, pace: int, port: int) -> None:
 def main() -> int:
     words = command_line(__doc__)
     add_program(words)
-    words.add_argument('folder', nargs='?', metavar='FOLDER', help='where the store, the feeds and the text stay; it is to be empty')
-    words.add_argument('--pace', type=whole_between(1, 3_600), default=60, metavar='N', help='seconds of the day in a second (60)')
-    words.add_argument('--port', type=whole_between(0, 65_535), default=8080, metavar='N', help='(8080)')
+    words.add_argument('folder', nargs='?', metavar='FOLDER', help='where the store, the feeds and the text stay; new or empty')
+    words.add_argument('--pace', type=whole_between(1, 3_600), default=60, metavar='N', help='how many seconds of the day go by in one (60)')
+    words.add_argument('--port', type=whole_between(0, 65_535), default=8080, metavar='N', help='the port of the desk (8080)')
     given = words.parse_args()
     with tempfile.TemporaryDirectory() as other:
         folder = given.folder or other

@@ -1,15 +1,15 @@
 #!/usr/bin/env python3
 """Plays a morning into a live server: python3 play.py DISPATCHER [FOLDER] [--pace=120]
 
-The railway is that of ../day: forty trains, whose delays two control rooms tell when their events are scheduled. Each minute of the
-morning, from 6:00 to 7:40, the rooms tell what has passed and what time it is; trains run as the server says. A third feed asks for a
-plan each twenty minutes and adopts it. At 7:00 the server is killed, and started again. A minute of the morning takes half a second;
---pace says how many seconds of the morning go by in one.
+DISPATCHER is the built program. The railway is that of ../day: forty trains, whose delays two control rooms report when their events
+are scheduled. Each minute of the morning, from 6:00 to 7:40, the rooms report the clock and what has passed. Trains run as the server
+says. Every twenty minutes a third feed asks for a plan, and adopts it. At 7:00 the script kills the server, and starts it again. A
+minute of the morning takes half a second; --pace says how many seconds of the morning go by in one.
 
-Printed is what the server is told, but for what passes, with its answer. At the end the server is told to end, its text is judged by
-`check`, each line must have been answered once, whatever a reply file showed when the server was killed must stand there still, and
-the times are compared with those of a second reading of the rules. The status is 1 where something differs. With a FOLDER, which must
-not be there yet, all files stay there: look into FOLDER/store while the morning goes on.
+The script prints each line with its answer, but for the clock and what has passed. At the end it tells the server to end. Then `check`
+judges the text, each line must have been answered once, and what a reply file showed when the server was killed must still stand there.
+The times are compared with those of a second reading of the rules. The status is 1 if something differs. With a FOLDER all files stay
+there; it must be new or empty. Look into FOLDER/store while the morning goes on.
 """
 from __future__ import annotations
 
@@ -46,13 +46,13 @@ NODES = 4096
 
 
 def event_of(network: Network, message: Message) -> int:
-    """The place of the event that a delay is told of: of an activity that at which it begins."""
+    """The place of the event that a delay names, or of the one from which its activity leads."""
     kind, number = message[:2]
     return network.event_place[number] if kind == 'delay event' else network.tails[network.activity_place[number]]
 
 
 def delays_told(network: Network) -> list[Told]:
-    """The delays of the two rooms, each when its event is scheduled."""
+    """The delays of the two rooms, each with the scheduled time of its event."""
     told = []
     for room in ROOMS[:2]:
         for line in read(os.path.join(DAY, room)).decode().splitlines():
@@ -78,7 +78,7 @@ class Morning:
         self.took: list[float] = []
 
     def room_of(self, line: str) -> int:
-        """Which room tells a line: that of the event's stop; the north has the clock."""
+        """Which room reports a line: the one that has the event's stop. The north has the clock."""
         message = heard(line)
         assert message is not None, line
         if message[0] == 'now':
@@ -87,7 +87,7 @@ class Morning:
         return NORTH if self.network.events[self.network.event_place[event]].stop <= LAST_STOP_OF_NORTH else SOUTH
 
     def told(self, now: int) -> list[list[str]]:
-        """What is told at a time, by feed."""
+        """The lines that are reported or asked at a time, for each feed."""
         count, told = len(self.played.lines), [[], [], []]  # type: tuple[int, list[list[str]]]
         self.played.tell(now)
         for line in self.played.lines[count:]:
@@ -97,7 +97,7 @@ class Morning:
         return told
 
     def step(self, now: int) -> None:
-        """Tells what is known at a time, and waits for the answers. The trains follow what was adopted."""
+        """Appends the lines of a time to the feeds, and waits for the answers. The trains follow what was adopted."""
         begun = time.perf_counter()
         for feed, lines in enumerate(self.told(now)):
             self.lines[feed] += lines
@@ -112,7 +112,7 @@ class Morning:
         self.show(now, before)
 
     def show(self, now: int, before: list[int]) -> None:
-        """Prints the answers behind so many of each feed, but for those to what passes."""
+        """Prints the answers behind so many of each feed, but for those to `pass` and `now`."""
         for room, log, count in zip(ROOMS, self.journal.logs, before):
             for item in log[count:]:
                 if item.said and item.answer and item.said[0] not in ('pass', 'now'):
@@ -128,7 +128,7 @@ class Morning:
         print(f'{clock_time(now)} the server was killed, and started again', flush=True)
 
     def faults(self) -> Iterator[str]:
-        """What is not as it should be, once the morning has ended."""
+        """Ends the server; what is not as it should be."""
         text = self.server.stop()
         checked = subprocess.run([self.server.program, 'check', self.server.net, self.server.text], capture_output=True, text=True)
         print(f'check: {checked.stdout.strip()}')
@@ -138,7 +138,7 @@ class Morning:
         for feed, room in enumerate(ROOMS):
             due = due_items(read(self.server.feeds[feed]).decode())
             if [(item.line, item.said) for item in run.logs[feed].items] != due:
-                yield f'{room}: {len(due)} lines were told, and {len(run.logs[feed].items)} are answered'
+                yield f'{room}: {len(due)} lines were due, and {len(run.logs[feed].items)} were answered'
             if not read(self.server.reply(feed)).startswith(self.shown[feed]):
                 yield f'{room}: a reply that was shown is no longer there'
         times = dict(zip((event.id for event in self.network.events), sound_times(self.network, self.played.rows)))
@@ -149,7 +149,7 @@ class Morning:
 
 
 def played(morning: Morning, pace: int) -> list[str]:
-    """Plays the morning, so many seconds of it in one; what is not as it should be."""
+    """Plays the morning, `pace` seconds of it in one; what is not as it should be."""
     morning.server.start()
     begun = time.monotonic()
     for now in range(BEGIN, END + 1, STEP):
@@ -158,7 +158,7 @@ def played(morning: Morning, pace: int) -> list[str]:
             morning.restart(now)
         morning.step(now)
     faults = list(morning.faults())
-    print(f'what a minute told was answered in {1000 * statistics.median(morning.took):.0f} ms in the middle, '
+    print(f'the lines of a minute were answered in {1000 * statistics.median(morning.took):.0f} ms in the middle, '
           f'{1000 * max(morning.took):.0f} at the worst')
     return faults
 
@@ -166,8 +166,8 @@ def played(morning: Morning, pace: int) -> list[str]:
 def main() -> int:
     words = command_line(__doc__)
     add_program(words)
-    words.add_argument('folder', metavar='FOLDER', nargs='?', help='where files go; by default a folder that is taken away at the end')
-    words.add_argument('--pace', type=whole_between(1, 1_000_000), default=120, metavar='N', help='seconds of the morning in one (120)')
+    words.add_argument('folder', metavar='FOLDER', nargs='?', help='where files stay (a folder that is removed at the end)')
+    words.add_argument('--pace', type=whole_between(1, 1_000_000), default=120, metavar='N', help='how many seconds of the morning go by in one (120)')
     given = words.parse_args()
     folder = os.path.abspath(given.folder or tempfile.mkdtemp(prefix='live-'))
     morning = None

@@ -1,15 +1,17 @@
 #!/usr/bin/env python3
-"""Plays a day over regions that tell each other their boundary times: play.py DISPATCHER FOLDER [--regions N] [--port P]
+"""Plays a day over regions that tell each other their boundary times: play.py DISPATCHER [FOLDER] [--regions N] [--port P]
 
-It cuts the day of ../day at the middle stops of its lines into N regions (2, or 4), starts a Mosquitto broker (mosquitto.conf, with
-a password for each user of `access`) and a dispatcher for each region on this machine, tells the control rooms' delays, waits until
-nothing is told any more, ends the feeds, and compares: the times of all regions together with those of one dispatcher over the whole
-network. In the middle of the day region 1 hears nothing for a while. Then the text of region 1 goes to a second site, which follows
-its journal: when half of it has come, and when all has, the times there are compared with those after the same entries of the region.
-It needs `mosquitto` and `mosquitto-clients`.
+DISPATCHER is the built program. The script cuts the day of ../day at the middle stops of its lines into N regions (2 or 4). It starts
+a Mosquitto broker (mosquitto.conf, with a password for each user of `access`) and a server for each region on this machine. It sends
+the control rooms' delays, waits until the relays are at rest, and ends the feeds. In the middle of the day region 1 gets nothing for a
+while. Then the times of all regions are compared with those of one server over the whole network.
 
-Topics: `feed/N` are the lines of control room N, `board/N/S` the boards of region N, all times of stop S in one line, of which the
-last is retained, and `text/N` are the lines of the text of its run.
+At the end the text of region 1 goes to a second site, which follows its journal. When half of the text has come, and when all has, the
+times there are compared with those of the region after the same entries. The status is 1 if times differ. With a FOLDER the files
+stay there. The script needs Debian's `mosquitto` and `mosquitto-clients`.
+
+Topics: `feed/N` has the lines of control room N. `board/N/S` has the board of stop S in region N, with all its times in one line; the
+broker keeps the last one. `text/N` has the lines of the text of the region's run.
 """
 from __future__ import annotations
 
@@ -39,8 +41,8 @@ from words import command_line, whole_path  # noqa: E402
 NET = os.path.join(HERE, '..', 'day', 'net')
 MIDDLES = [11 * line + 6 for line in range(8)]
 
-# The delays of the day, an event and how late it is, with corrections down. Those of trains whose passengers change to a train of
-# another region go across.
+# The delays of the day: an event and its seconds, some of them corrected down later. Those of trains whose passengers change to a
+# train of another region cross the boundary.
 DELAYS = [(5, 420), (69, 700), (149, 640), (107, 600), (229, 500), (245, 500), (311, 420), (469, 540), (69, 100), (107, 120),
           (591, 660), (5, 60), (629, 800), (149, 0)]
 
@@ -53,7 +55,7 @@ HEADER = 4
 
 
 class Broker:
-    """A Mosquitto with the users and the access list that ship, and a password for each that nobody else has."""
+    """A Mosquitto with the users of `access` and what they may do, and a new password for each of them."""
 
     def __init__(self, folder: str, port: int) -> None:
         self.folder, self.port = folder, port
@@ -80,11 +82,11 @@ class Broker:
             file.write(text)
 
     def client(self, user: str, program: str, *words: str) -> list[str]:
-        """A command of a user's client, who finds his name and password in a file, and not in the list of processes."""
+        """The command of a user's client. It finds name and password in a file, so that they are not in the list of processes."""
         return ['env', f'XDG_CONFIG_HOME={os.path.join(self.folder, f"of-{user}")}', program, *words]
 
     def start(self) -> subprocess.Popen[bytes]:
-        """Starts the broker, and waits until it hears."""
+        """Starts the broker, and waits until it accepts connections."""
         with open(os.path.join(self.folder, 'broker-said'), 'ab') as said:
             process = subprocess.Popen(['mosquitto', '-c', 'mosquitto.conf'], cwd=self.folder, stdout=said, stderr=said)
         for _ in range(1200):
@@ -98,7 +100,7 @@ class Broker:
 
 
 class Play:
-    """The processes of a play, which all end with it."""
+    """The processes of a play. They all end with it."""
 
     def __init__(self, folder: str, port: int) -> None:
         self.folder = folder
@@ -112,7 +114,7 @@ class Play:
         return process
 
     def pipe(self, *commands: list[str], said: Any = subprocess.DEVNULL) -> list[subprocess.Popen[bytes]]:
-        """Processes each of which reads what the one before it writes; the last says what it has to say to a file."""
+        """Processes, each of which reads what the one before it writes. The last one's standard error goes to a file."""
         source: Any = None
         processes: list[subprocess.Popen[bytes]] = []
         for command in commands:
@@ -125,7 +127,7 @@ class Play:
         return processes
 
     def listen(self) -> None:
-        """Notes when the last line was told on any topic."""
+        """Notes when the last line came on any topic."""
         listener = self.start(self.broker.client('watch', 'mosquitto_sub', '-q', '1', '-t', '#'), stdout=subprocess.PIPE)
 
         def note() -> None:
@@ -135,7 +137,7 @@ class Play:
         threading.Thread(target=note, daemon=True).start()
 
     def settle(self) -> None:
-        """Waits until nothing has been told for a while."""
+        """Waits until no line has come for a while."""
         self.last = begun = time.monotonic()
         while time.monotonic() - self.last < SILENCE:
             if time.monotonic() - begun > PATIENCE:
@@ -154,13 +156,13 @@ def stop(processes: Iterable[subprocess.Popen[bytes]]) -> None:
 
 
 class Region:
-    """A region's folder, its dispatcher, the file of lines that feeds it, and what puts lines there: its control room and its relay."""
+    """A region's folder, its server, the file of lines that fills its feed, and what appends to it: the control room and the relay."""
 
     def __init__(self, play: Play, number: int, boundaries: list[str]) -> None:
         self.play, self.number, self.boundaries = play, number, boundaries
         self.folder = os.path.join(play.folder, f'region-{number}')
         self.network = read_network(os.path.join(self.folder, 'net'))
-        # Its own boards lead to no event of its own, so that they are heard in vain where it has no neighbour.
+        # A region without a neighbour gets its own boards, which change none of its events.
         self.neighbours = [
             other for other, name in enumerate(boundaries, 1) if any(cut.region == number for cut in read_boundary(name))
         ] or [number]
@@ -172,7 +174,7 @@ class Region:
         return self.play.broker.client(f'region-{self.number}', program, '-i', f'{name}-{self.number}', '-q', '1', *words)
 
     def begin(self, program: str) -> None:
-        """Starts the dispatcher over a pipe, its boards on the broker, and what feeds it."""
+        """Starts the server over a pipe, what sends its boards to the broker, and what fills its feed."""
         feed = os.path.join(self.folder, 'feed')
         os.mkfifo(feed)
         open(self.lines, 'ab').close()
@@ -190,7 +192,7 @@ class Region:
         self.hear()
 
     def hear(self) -> None:
-        """Starts what puts lines into the feed: those of the control room, and the relay that tells the neighbours' times."""
+        """Starts what appends to the lines: the control room, and the relay of the neighbours' times."""
         with open(self.lines, 'ab', buffering=0) as lines:
             room = self.play.start(self.client('mosquitto_sub', 'feed', '-c', '-t', f'feed/{self.number}'), stdout=lines)
         words = [sys.executable, os.path.join(TOOLS, 'relay.py'), *self.boundaries, '--region', str(self.number)]
@@ -203,12 +205,12 @@ class Region:
         stop(self.hearing)
 
     def say(self, line: str) -> None:
-        """Says a line of the control room."""
+        """Sends a line of the control room."""
         room = self.play.broker.client(f'room-{self.number}', 'mosquitto_pub', '-q', '1', '-t', f'feed/{self.number}', '-m', line)
         subprocess.run(room, check=True)
 
     def end(self) -> None:
-        """Ends the feed, reads the text of the run, and passes on what the relay has to say."""
+        """Ends the feed, reads the text of the run, and prints what the relay said on standard error."""
         self.hear_no_more()
         stop([self.tail])
         self.dispatcher.wait()
@@ -225,7 +227,7 @@ class Region:
 
 
 class Followed(NamedTuple):
-    """What `follow` tells of the text that has come: how many entries it has, its tail, and the times by event."""
+    """What `follow` prints of the text that has come: how many entries it has, its tail, and the times by event."""
     entries: int
     tail: str
     times: dict[int, int]
@@ -237,7 +239,7 @@ def times_in(line: str) -> tuple[int, int]:
 
 
 def read_followed(text: str) -> Followed:
-    """What `follow` prints."""
+    """Reads what `follow` prints."""
     entries, tail, *times, _ = text.splitlines()
     return Followed(int(entries.split()[1]), tail, dict(times_in(line) for line in times))
 
@@ -260,7 +262,7 @@ class SecondSite:
         self.play.settle()
 
     def differing(self, program: str, entries: int, tail: str) -> int:
-        """How many times it has otherwise than the region after so many entries; it must have these, and such a tail."""
+        """How many of its times differ from those of the region after so many entries. It must have these entries, and this tail."""
         words = [program, 'follow', os.path.join(self.region.folder, 'net'), self.text]
         followed = read_followed(subprocess.run(words, stdout=subprocess.PIPE, check=True, text=True).stdout)
         if (followed.entries, followed.tail) != (entries, tail):
@@ -270,7 +272,7 @@ class SecondSite:
 
 
 def times_of_the_whole(program: str, folder: str) -> dict[int, int]:
-    """The times of one dispatcher that hears all delays."""
+    """The times of one server that gets all delays."""
     feed = os.path.join(folder, 'feed')
     with open(feed, 'w', encoding='ascii') as file:
         file.writelines(f'delay event {event} {delay}\n' for event, delay in DELAYS)
@@ -279,7 +281,7 @@ def times_of_the_whole(program: str, folder: str) -> dict[int, int]:
 
 
 def followed_otherwise(play: Play, program: str, region: Region) -> int:
-    """How many times a second site has otherwise than the region, when half of the journal has come and when all has."""
+    """How many times of a second site differ from the region's, when half of the journal has come, and when all has."""
     site = SecondSite(play, region)
     with open(region.text, 'rb') as file:
         lines = file.readlines()
@@ -292,7 +294,7 @@ def followed_otherwise(play: Play, program: str, region: Region) -> int:
 
 
 def played(play: Play, program: str, count: int) -> list[Region]:
-    """The regions after the day was told and their feeds have ended."""
+    """The regions, once the day was reported and their feeds have ended."""
     middles = ','.join(map(str, MIDDLES))
     subprocess.run([sys.executable, os.path.join(TOOLS, 'split.py'), NET, middles, play.folder, '--regions', str(count)], check=True)
     boundaries = [os.path.join(play.folder, f'region-{number}', 'Boundary.csv') for number in range(1, count + 1)]
@@ -317,10 +319,10 @@ def played(play: Play, program: str, count: int) -> list[Region]:
 
 def main() -> None:
     words = command_line(__doc__)
-    words.add_argument('dispatcher', metavar='DISPATCHER', type=whole_path)
-    words.add_argument('folder', metavar='FOLDER', nargs='?', help='where files go; by default a folder that is taken away at the end')
-    words.add_argument('--regions', type=int, default=2, choices=(2, 4), metavar='N')
-    words.add_argument('--port', type=int, default=18830, metavar='P')
+    words.add_argument('dispatcher', metavar='DISPATCHER', type=whole_path, help='the built program')
+    words.add_argument('folder', metavar='FOLDER', nargs='?', help='where files stay (a folder that is removed at the end)')
+    words.add_argument('--regions', type=int, default=2, choices=(2, 4), metavar='N', help='how many regions, 2 or 4 (2)')
+    words.add_argument('--port', type=int, default=18830, metavar='P', help='the port of the broker (18830)')
     given = words.parse_args()
     folder = os.path.abspath(given.folder) if given.folder else tempfile.mkdtemp()
     os.makedirs(folder, exist_ok=True)

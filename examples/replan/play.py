@@ -1,10 +1,11 @@
 #!/usr/bin/env python3
-"""Plays a day that is replanned: python3 play.py DISPATCHER [--trains=2000] [--number=7] [--every=10] [--ahead=40] [FOLDER]
+"""Plays a day that is planned anew every few minutes: python3 play.py DISPATCHER [--trains=2000] [--number=7] [--every=10] [--ahead=40] [FOLDER]
 
-The network and the 500 delays are those of bench/day.py. A delay is told at the scheduled time of its event. Each --every minutes the
-program plans a window of the next --ahead minutes; its choices are entered, and all else is left as it was decided before. At the end
-the cost of the day stands beside that of no plan, of one plan of all that is told in the first two hours, and of one plan of all that
-the whole day told, with the bound below which no choices of that day cost. Each text is judged by `check`.
+DISPATCHER is the built program. The network and the 500 delays are those of bench/day.py. A delay is reported at the scheduled time
+of its event. Every --every minutes the program plans a window of the next --ahead minutes. The choices of that plan are entered, and
+all others stay as they are. Then the cost of the day is printed beside that of no plan, of one plan of what was reported in the first
+two hours, and of one plan of all that was reported. The bound is that of the last one: no choices of that day cost less. `check`
+judges each text.
 
 With a FOLDER the files stay there: the network, the feed of the day (`text.feed`) and its text.
 """
@@ -33,7 +34,7 @@ MORNING = 7_200
 
 
 def told_of(network: Network, name: str) -> list[Told]:
-    """The delays of a feed, each at the scheduled time of its event; of two of one event the later one stays behind the other."""
+    """The delays of a feed, each with the scheduled time of its event. Two of one event stay in their order."""
     with open(name, encoding='ascii') as file:
         messages = [heard(line.rstrip('\n')) for line in file]
     told = [Told(network.events[network.event_place[message[1]]].time, message) for message in messages]
@@ -82,11 +83,11 @@ def played(program: Program, network: Network, told: list[Told], how: Replanning
 def main() -> int:
     words = command_line(__doc__)
     words.add_argument('dispatcher', metavar='DISPATCHER', help='the built program')
-    words.add_argument('folder', nargs='?', metavar='FOLDER', help='where the files stay')
-    words.add_argument('--trains', type=whole_between(1, 2_000), default=2_000, metavar='N', help='(2000)')
-    words.add_argument('--number', type=whole_between(0, 999_999_999), default=7, metavar='S', help='from which delays are drawn (7)')
-    words.add_argument('--every', type=whole_between(1, 1440), default=10, metavar='MINUTES', help='(10)')
-    words.add_argument('--ahead', type=whole_between(1, 1440), default=40, metavar='MINUTES', help='(40)')
+    words.add_argument('folder', nargs='?', metavar='FOLDER', help='where files stay (a folder that is removed at the end)')
+    words.add_argument('--trains', type=whole_between(1, 2_000), default=2_000, metavar='N', help='how many trains (2000)')
+    words.add_argument('--number', type=whole_between(0, 999_999_999), default=7, metavar='S', help='what the day is drawn from (7)')
+    words.add_argument('--every', type=whole_between(1, 1440), default=10, metavar='MINUTES', help='how often a window is planned (10)')
+    words.add_argument('--ahead', type=whole_between(1, 1440), default=40, metavar='MINUTES', help='how long a window is (40)')
     given = words.parse_args()
     with tempfile.TemporaryDirectory() as other:
         folder = given.folder or other
