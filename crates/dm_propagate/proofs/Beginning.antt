@@ -1,8 +1,7 @@
 -- Flags that are set one after another, where none was.
 use Rattle.std.proofs.Common.{◌≡◌, ℕ, ◌+◌, ◌<◌, Bool, true, false, List, length, Option, Some, None, refl, sym, ap, ◌∙◌, inl, inr, arith, slice_index, get_or-set_same, get_or-set_other}
 use Rattle.std.specs.Prelude.{slice_set, is_some, unwrap_or, max}
-use Rattle.std.proofs.lemmas.Bool.{cases_eq, cases_lt}
-use Rattle.std.proofs.lemmas.List.{get_or_past}
+use Rattle.std.proofs.lemmas.Bool.{cases_eq}
 use Rattle.dm_graph.proofs.Transfers.{cycle_carries}
 use Rattle.dm_network.specs.Net.{Net}
 use Rattle.dm_network.specs.Held.{is_held, arcs_of}
@@ -18,7 +17,6 @@ use Rattle.dm_settle.specs.Constraints.{ConstraintsValue}
 use Rattle.dm_times.specs.Constraints.{AreConstraintsOf}
 use Rattle.dm_propagate.specs.Engine.{FollowsRows}
 use Rattle.dm_propagate.specs.Inside.Beginning.{AreFlaggedBefore, IsFixedBefore, NoneFlagged}
-use Rattle.dm_propagate.specs.Inside.Flags.{FixesPassed}
 use Rattle.dm_propagate.proofs.HeldLemmas.{set_on, set_off}
 
 pub none_flagged : (p : ℕ → Bool) (flags : List Bool) → NoneFlagged flags → AreFlaggedBefore p 0 flags

@@ -15,7 +15,7 @@ use Rattle.dm_live.specs.Live.{is_fixed}
 use Rattle.dm_priced.specs.Priced.{PricedValue, is_flagged}
 use Rattle.dm_propagate.specs.Inside.Concern.{IsOfOneBefore}
 use Rattle.dm_propagate.specs.Inside.Turning.{IsAmong, IsOnly}
-use Rattle.dm_propagate.specs.Inside.Flags.{FlagsValue, flags_of, AreFlagsOf, FixesPassed, FixesNoOther, FixesNoOtherBut, MovesPass, IsNamed, LeadsInto, MovesCharge, AreFlagsBut, Charges, SetsFlagsAt, SetsFlagsBy}
+use Rattle.dm_propagate.specs.Inside.Flags.{FlagsValue, flags_of, AreFlagsOf, FixesNoOther, FixesNoOtherBut, MovesPass, IsNamed, LeadsInto, MovesCharge, AreFlagsBut, Charges, SetsFlagsAt, SetsFlagsBy}
 use Rattle.dm_propagate.proofs.HeldLemmas.{among_next, set_on, set_off}
 use Rattle.dm_propagate.proofs.Around.{by_flips, into_is_listed}
 use Rattle.dm_propagate.proofs.Concerning.{decided_later}
