@@ -1,5 +1,5 @@
 -- What a follower tells of the bytes that it has taken, and how the text of a name is asked.
-use Rattle.std.proofs.Common.{◌≡◌, ℕ, ◌<◌, ◌⊎◌, inl, inr, Bool, List, [], ◌∷◌, length, Option, refl, ap, subst, ◌∙◌, Some, ◌≤◌}
+use Rattle.std.proofs.Common.{◌≡◌, ℕ, ◌<◌, inl, inr, Bool, List, [], ◌∷◌, length, Option, refl, ap, subst, ◌∙◌, Some, ◌≤◌}
 use Rattle.std.specs.Prelude.{IfSome}
 use Rattle.std.proofs.lemmas.List.Elements.{All-nil, All-cons, All-weaker}
 use Rattle.dm_base.specs.declared.limits.TheConstants.{TEXT}

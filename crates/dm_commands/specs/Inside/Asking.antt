@@ -1,5 +1,5 @@
 -- Stages of what is asked of a journal.
-use Rattle.std.specs.Prelude.{ℕ, ◌≡◌, ◌<◌, ◌≤◌, ◌⊎◌, List, [], ◌∷◌, length, Option, Some, Ok, IfSome}
+use Rattle.std.specs.Prelude.{ℕ, ◌≡◌, ◌<◌, ◌≤◌, ◌⊎◌, List, length, Option, Some, Ok, IfSome}
 use Rattle.std.specs.List.{All}
 use Rattle.dm_base.specs.declared.limits.TheConstants.{TEXT}
 use Rattle.dm_network.specs.Net.{Net}

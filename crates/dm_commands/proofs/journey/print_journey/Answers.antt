@@ -2,7 +2,7 @@ use Rattle.std.proofs.Common.{ℕ, List, refl, sym, subst, ◌++◌}
 use Rattle.std.proofs.lemmas.List.{take_all}
 use Rattle.std.specs.List.{flat_map}
 use Rattle.dm_input.specs.Lines.{line_end}
-use Rattle.dm_outside.proofs.Printing.{prints_next, prints_fault_next, prints_fault, prints_fault_at, prints_last, prints_then_fault}
+use Rattle.dm_outside.proofs.Printing.{prints_next, prints_fault_next, prints_fault, prints_last, prints_then_fault}
 use Rattle.dm_commands.specs.Inside.Asking.{IsWalkIn}
 use Rattle.dm_commands.specs.Travelled.{journey_text, step_text}
 use Rattle.dm_commands.proofs.journey.print_journey.Goals as goal
