@@ -50,7 +50,7 @@ impl<
     /// Answers feeds over the server until each has ended, each round's feeds at once. Boards are shown the times before the first
     /// round, and after each round those that have moved. It may answer want of memory at any point up to the end of the last round,
     /// and then says nothing of the passes.
-    pub fn answer_feeds<'n, P: Seat + Send + Sync, S: Source + Send + Drop>(
+    pub(crate) fn answer_feeds<'n, P: Seat + Send + Sync, S: Source + Send + Drop>(
         &self,
         server: &Server<'n>,
         main: &mut Pass<Kept<'n>>,
