@@ -55,7 +55,7 @@ SOLVERS = ('CBC', 'GLPK')
 
 
 class Found(NamedTuple):
-    """What one of the three found: a cost, where it found one, and a bound, in thousandths, and whether it calls the cost the least."""
+    """What one of the three found: its cost, if it found one, and its bound, in thousandths; whether it says that nothing costs less."""
     cost: Optional[int]
     bound: Optional[int]
     is_least: bool
@@ -108,7 +108,7 @@ class Server:
         return self.path(name)
 
     def cost(self, lines: Sequence[str]) -> int:
-        """What the rows after lines cost, none of which may be refused."""
+        """What the rows cost after these lines, none of which may be refused."""
         text = self.run(lines, 'costs').printed
         if ' refused ' in text:
             raise Fault('a choice is refused')
@@ -132,7 +132,7 @@ def planned(server: Server, delays: Sequence[str]) -> Found:
 
 
 def windowed(server: Server, delays: Sequence[str], window: Window, network: Network, rows: Rows) -> Found:
-    """The plan of a window, its cost told by a run in which its choices are entered."""
+    """The plan of a window. Its cost is that of a run in which its choices are entered."""
     words = [server.program, 'window', server.net, server.path('text'), str(window.start), str(window.end), str(BUDGET)]
     done = measured([*words, f'--penalty={PENALTY}'])
     mark, cost, bound = plan_of(done.printed)
@@ -156,7 +156,7 @@ def glpk_bound(log: str) -> Optional[float]:
 
 
 def command_of(solver: str, problem: str, solution: str, limit: int) -> Optional[list[str]]:
-    """The words of a solver, or None where it is not there."""
+    """The command of a solver, or None if it is not installed."""
     program = shutil.which({'CBC': 'cbc', 'GLPK': 'glpsol'}[solver])
     if program is None:
         return None
@@ -166,7 +166,7 @@ def command_of(solver: str, problem: str, solution: str, limit: int) -> Optional
 
 
 def solved(server: Server, delays: Sequence[str], solver: str, limit: int, posed: Posed, programme: Programme) -> Optional[Found]:
-    """What a solver found, its cost told by a run in which its choices are entered."""
+    """What a solver found. Its cost is that of a run in which its choices are entered."""
     name = server.path('solution')
     if os.path.exists(name):
         os.remove(name)
@@ -184,12 +184,12 @@ def solved(server: Server, delays: Sequence[str], solver: str, limit: int, posed
     is_least = 'optimal' in solution.status.lower() and 'non-optimal' not in solution.status.lower()
     told = told_cost(solution, programme.unit)
     if told is not None and (cost != told if is_least else cost > told):
-        raise Fault(f'{solver} tells {solution.objective} units of {programme.unit} ({solution.status}), and its choices cost {cost}')
+        raise Fault(f'{solver} says {solution.objective} units of {programme.unit} ({solution.status}), and its choices cost {cost}')
     return Found(cost, cost if is_least else least, is_least, done.seconds, done.megabytes)
 
 
 def told_cost(solution: Solution, unit: int) -> Optional[int]:
-    """What a solver says that its solution costs; where it does not call it the least, its choices may cost less."""
+    """What its solution costs, as the solver says. If it does not say that nothing costs less, the choices may cost less."""
     return None if solution.objective is None else round(float(solution.objective)) * unit
 
 
@@ -202,7 +202,7 @@ def cost_of_solution(server: Server, delays: Sequence[str], name: str, solution:
 
 
 def prepared(day: str, folder: str) -> tuple[str, list[str], Optional[Window]]:
-    """The folder of the network of a day, the lines of its delays, and the window, where the day names one."""
+    """The folder of the network of a day, the lines of its delays, and the window, if the day names one."""
     kind, *numbers = day.split(':')
     window = Window(*map(int, numbers[1:])) if len(numbers) == 3 else None
     if kind.isdecimal():
@@ -229,7 +229,7 @@ def compared(program: str, day: str, limit: int, solvers: Sequence[str]) -> dict
 
 
 def contradictions(found: dict[str, Optional[Found]]) -> list[str]:
-    """What two of them say that cannot both be."""
+    """What two of them say, if it cannot both be true."""
     told = []
     for one, first in found.items():
         for other, second in found.items():

@@ -40,10 +40,10 @@ from hostile_names import HOSTILE  # noqa: E402
 # What the desk promises: seconds to the first picture and from a feed to the screen, bytes of memory, and pages at once.
 FIRST, SEEN, MEMORY, PAGES = 2.0, 0.2, 200 << 20, 10
 
-# So long pages that were opened beside may take to stand, in seconds.
+# The seconds within which pages that are opened at once have to stand.
 SETTLED = 4.0
 
-# So long something may take before it counts as missing.
+# The seconds after which something counts as missing.
 PATIENCE = 60.0
 
 
@@ -84,7 +84,7 @@ class Desk:
         return f'http://127.0.0.1:{self.port}/'
 
     def tell(self, *lines: str) -> None:
-        """Others tell lines."""
+        """Appends lines to the feed of another source."""
         self.server.append(0, lines)
 
     def close(self) -> None:
@@ -94,7 +94,7 @@ class Desk:
             self.page.wait()
 
     def ask(self, method: str, path: str, body: bytes = b'', **headers: str) -> tuple[int, str]:
-        """The status and the words of an answer to a request that no page makes."""
+        """The status and the text of the answer to a request that no page makes."""
         line = http.client.HTTPConnection('127.0.0.1', self.port, timeout=PATIENCE)
         line.putrequest(method, path, skip_host='Host' in headers)
         given = {'Content-Length': str(len(body)), 'Content-Type': 'application/json', **headers} if method == 'POST' else headers
@@ -114,7 +114,7 @@ class Desk:
 
 
 def until(browser: Browser, expression: str, what: str) -> float:
-    """Waits until something holds on the page; how long that took."""
+    """Waits until something holds on the page; the seconds that it took."""
     began = time.monotonic()
     while not browser.value(expression):
         if time.monotonic() - began > PATIENCE:
@@ -132,7 +132,7 @@ def has(selector: str, words: str) -> str:
 
 
 def press(browser: Browser, label: str) -> None:
-    """Presses the button that is called so, or begins so for a screen reader."""
+    """Presses the button with this label, or whose name for a screen reader begins with it."""
     browser.value(f'''[...document.querySelectorAll('button')].find(one => one.textContent === {json.dumps(label)}
         || (one.getAttribute('aria-label') || '').startsWith({json.dumps(label)})).click()''')
 
@@ -147,7 +147,7 @@ def fill(browser: Browser, name: str, value: object) -> None:
 
 
 def visit(browser: Browser, desk: Desk, token: bool = True) -> float:
-    """Opens the page; seconds until its first picture is whole."""
+    """Opens the page; the seconds until its first picture is whole."""
     began = time.monotonic()
     browser.visit(desk.address)
     until(browser, "!!document.querySelector('#view svg') && !!document.querySelector('#train table')", 'the first picture')
@@ -185,7 +185,7 @@ def tells_a_delay(browser: Browser, desk: Desk) -> None:
 
 def takes_it_back(browser: Browser, desk: Desk) -> None:
     press(browser, 'Undo: Train 41')
-    until(browser, has('#told tbody tr', 'not late by itself'), 'the correction is told')
+    until(browser, has('#told tbody tr', 'not late by itself'), 'the correction is reported')
     until(browser, f'!{has("#late", "Train 41")}', 'the train is punctual again')
 
 
@@ -214,9 +214,9 @@ def tells_what_passed(browser: Browser, desk: Desk) -> None:
 
 
 def plans(browser: Browser, desk: Desk) -> None:
-    """A plan is compared and adopted; one that is old is not."""
+    """A plan is compared and adopted. An old plan is not adopted."""
     desk.tell('delay event 41 600', 'delay event 61 900', 'delay event 101 300')
-    until(browser, has('#late', 'Train 61'), 'others tell delays')
+    until(browser, has('#late', 'Train 61'), 'others report delays')
     fill(browser, 'nodes', '300')
     press(browser, 'Ask for a plan')
     until(browser, has('#planned', 'instead of') + ' && ' + has('#planned', 'Nothing was entered since'), 'what the plan would change')
@@ -264,7 +264,7 @@ def is_killed(browser: Browser, desk: Desk) -> None:
 
 
 def keys(browser: Browser, desk: Desk) -> None:
-    """All is reached by keys, each control has a name, and a delay is told without a mouse."""
+    """All is reached by keys, each control has a name, and a delay is reported without a mouse."""
     browser.value('document.activeElement.blur(); scrollTo(0, 0)')
     reached = []
     for _ in range(12):
@@ -280,7 +280,7 @@ def keys(browser: Browser, desk: Desk) -> None:
     fill(browser, 'minutes', '13')
     browser.value("document.getElementById('minutes').focus()")
     browser.press('Enter', '\r')
-    until(browser, has('#told tbody tr', '13 min late') + ' && ' + has('#told tbody tr', 'entered as'), 'a delay is told by keys')
+    until(browser, has('#told tbody tr', '13 min late') + ' && ' + has('#told tbody tr', 'entered as'), 'a delay is reported by keys')
     nodes = browser.ask('Accessibility.getFullAXTree')['nodes']
     controls = ('button', 'textbox', 'combobox', 'checkbox', 'searchbox', 'spinbutton', 'region')
     nameless = [node['role']['value'] for node in nodes if not node.get('ignored') and node.get('role', {}).get('value') in controls

@@ -38,7 +38,7 @@ CALLS, LATE, NOW, IN_MESSAGE = 20, 100, 28_800, 3_000
 
 
 def tool(name: str, *words: str) -> Measured:
-    """What a tool takes, started as people start it."""
+    """What a tool takes that is started from the command line."""
     return measured([sys.executable, os.path.join(TOP, 'tools', name), *words])
 
 
@@ -47,7 +47,7 @@ def shown(what: str, done: Measured) -> None:
 
 
 def took(what: str, work: Callable[[], Made]) -> Made:
-    """Tells the seconds of processor of some work in this process; what it makes."""
+    """Prints the seconds of processor that some work in this process takes, and gives its result."""
     began = time.process_time()
     with contextlib.redirect_stderr(io.StringIO()):
         made = work()

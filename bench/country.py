@@ -68,7 +68,7 @@ def headways() -> Iterator[Row]:
 
 
 def changes(draws: Draws) -> Iterator[Row]:
-    """Changes from arrivals drawn to departures drawn among those 180 to 1,800 seconds later."""
+    """Changes from drawn arrivals to departures that are drawn from those 180 to 1,800 seconds later."""
     departures = sorted((scheduled(train, leg), departure(train, leg)) for train in range(TRAINS) for leg in range(LEGS))
     count = 0
     while count < CHANGES:
@@ -81,7 +81,7 @@ def changes(draws: Draws) -> Iterator[Row]:
 
 
 def write_network(draws: Draws, folder: str) -> list[int]:
-    """Writes the files, and answers the ids of the changes."""
+    """Writes the files, and gives the ids of the changes."""
     rows = chain(runs(), headways(), changes(draws))
     activities = [Activity(number, *row) for number, row in enumerate(rows, 1)]
     write_records(folder, events(), activities)
@@ -89,7 +89,7 @@ def write_network(draws: Draws, folder: str) -> list[int]:
 
 
 def lines(draws: Draws, changes_of: list[int], kind: str) -> Iterator[str]:
-    """Lines of a kind without end."""
+    """Lines of one kind, without end."""
     while True:
         if kind == 'delays':
             yield f'delay event {draws.below(20 * TRAINS) + 1} {draws.below(60)}\n'

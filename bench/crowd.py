@@ -38,7 +38,7 @@ SECONDS = 60
 
 
 def answer(program: str, folder: str, words: list[str]) -> Optional[tuple[int, bytes]]:
-    """The status of a command and what it prints; None where it does not end in time."""
+    """The status of a command and what it prints; None if it does not end in time."""
     try:
         done = subprocess.run([program, *words], cwd=folder, stdout=subprocess.PIPE, stderr=subprocess.DEVNULL, timeout=SECONDS)
     except subprocess.TimeoutExpired:
@@ -77,12 +77,12 @@ def fault_of_run(program: str, net: str, folder: str, number: int) -> Optional[s
     entries = text.split(b'\n', 4)[3].split()[-1].decode()
     told = answer(program, folder, ['check', net, 'text'])
     if told != (0, f'good {entries} 0\n'.encode()):
-        return f'the check tells {told}'
+        return f'the check prints {told}'
     return fault_of_text(text, batch)
 
 
 def tried(program: str, net: str, number: int) -> bool:
-    """Tries a run. It is false where something differs, which is printed."""
+    """Tries a run, and prints what differs. False if something does."""
     with tempfile.TemporaryDirectory() as folder:
         fault = fault_of_run(program, net, folder, number)
         if fault is not None:

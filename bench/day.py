@@ -30,7 +30,7 @@ FEED = 262_144
 
 
 class Draws:
-    """Numbers drawn from a first one."""
+    """Drawn numbers, all determined by a first one."""
 
     def __init__(self, number: int) -> None:
         self.state = number
@@ -138,7 +138,7 @@ def questions(draws: Draws, trains: int) -> Iterator[str]:
 
 
 def write_feed(folder: str, name: str, lines: Iterable[str], count: Optional[int] = None) -> None:
-    """The first lines, `count` of them at most, that a feed may hold."""
+    """Writes the first lines: as many as a feed may hold, and at most `count`."""
     size = 0
     with open(os.path.join(folder, name), 'w') as file:
         for number, line in enumerate(lines, 1):

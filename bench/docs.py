@@ -72,7 +72,7 @@ class Session:
         return any(stands_in(block.lines, text.splitlines()) for text in self.texts(page, since))
 
     def written(self, block: Block, page: str) -> bool:
-        """Writes a file that the paragraph above the block names and that is not there yet: the reader is told to."""
+        """Writes a file that the paragraph above the block names and that does not exist yet, as a reader would."""
         above = "\n".join(page.splitlines()[: block.line - 2]).rstrip().split("\n\n")[-1]
         new = [name for name in re.findall(r"`([\w./-]+/[\w./-]+)`", above) if not (self.folder / name).exists()]
         if len(new) != 1 or not (self.folder / new[0]).parent.is_dir():
@@ -141,7 +141,7 @@ def faults_of(dispatcher: Path, name: str) -> list[str]:
 
 
 def judged(dispatcher: Path, name: str) -> list[str]:
-    """What differs on a page however often it is tried, since feeds may come out differently."""
+    """What differs on a page at each of several tries, since feeds may come out differently."""
     left = faults_of(dispatcher, name)
     for _ in range(TRIES - 1):
         if not left:

@@ -123,7 +123,7 @@ def write_network(draws: random.Random, network: Network, folder: str) -> None:
 
 
 class Lines:
-    """Draws lines that name what a network has, and now and then what it has not."""
+    """Draws lines that name what a network has, and now and then what it does not have."""
 
     def __init__(self, draws: random.Random, network: Network) -> None:
         self.draws = draws
@@ -216,7 +216,7 @@ def fault_of_run(judge: Judge, feeds: list[str], batch: int, text: bytes) -> Opt
     """What is wrong with the text of a run of feeds, or None."""
     told = judge.judge(text)
     if told[0] != 'good' or judge.version != 2:
-        return f'the text of the run is told {in_print(told)} in version {judge.version}'
+        return f'the text of the run is judged {in_print(told)} in version {judge.version}'
     for log, feed in zip(judge.logs, feeds):
         if log.stop != 'end' or [(item.line, item.said) for item in log.items] != due_items(feed):
             return f'the log of feed {log.feed} is not that of its lines'
@@ -273,7 +273,7 @@ def with_word_changed(draws: random.Random, text: bytes) -> bytes:
 
 
 def with_another_alike(draws: random.Random, text: bytes) -> bytes:
-    """With something in place of what has the same form, where there is such a thing."""
+    """With one part replaced by another of the same form, if there is such a part."""
     pattern, other = draws.choice(ALIKE)
     found = list(re.finditer(pattern, text, flags=re.MULTILINE))
     if not found:
@@ -334,7 +334,7 @@ class Fuzz:
         due = (0 if verdict[0] == 'good' else 1, f'{in_print(verdict)}\n'.encode())
         told = self.call(folder, 'check', 'net', 'text', f'--penalty={penalty}')
         self.counts['good' if verdict[0] == 'good' else verdict[2]] += 1
-        return None if told == due else f'judged {due}, told {told}'
+        return None if told == due else f'judged {due}, printed {told}'
 
     def fault_of(self, number: int, folder: str) -> Optional[str]:
         """What differs in the network, the feeds and the texts of a number, or None."""

@@ -80,7 +80,7 @@ def read_stat(folder: Path) -> list[str]:
 
 
 def read_process(folder: Path, ticks: int) -> Process | None:
-    """The process of a folder of /proc, where it is one of the prover that names a crate."""
+    """The process of a folder of /proc, if it is one of the prover that names a crate."""
     try:
         words = folder.joinpath('cmdline').read_bytes().decode(errors='replace').split('\0')
         if Path(words[0]).name != 'rattle' or '--crate-name' not in words:
@@ -121,7 +121,7 @@ class Meter:
         self.seen: dict[tuple[int, int], tuple[Process, float]] = {}
 
     def look(self, processes: Mapping[int, Process]) -> None:
-        """Notes what processes have cost so far; what a job of another one costs counts to that one."""
+        """Notes what processes have cost so far; what a job costs that another one began counts as that one's."""
         sums: dict[int, float] = {}
         for pid, process in processes.items():
             top = pid
@@ -185,7 +185,7 @@ def run(words: list[str]) -> int:
 
 
 def kept_folders(top: Path, names: Iterable[str]) -> Iterable[tuple[str, Path]]:
-    """The folders of what checks of crates have kept, all where none is named, each with its crate."""
+    """The folders of what checks of crates have kept, all if none is named, each with its crate."""
     wanted = set(names)
     for folder in sorted(top.glob('crates/*/out/incremental/*/')):
         crate = folder.parts[len(top.parts) + 1]
@@ -194,7 +194,7 @@ def kept_folders(top: Path, names: Iterable[str]) -> Iterable[tuple[str, Path]]:
 
 
 def read_parts(top: Path, names: Iterable[str]) -> list[Part]:
-    """The parts of the proofs of crates, all where none is named, by the times at which their files were written."""
+    """The parts of the proofs of crates, all if none is named, by the times at which their files were written."""
     parts = []
     for crate, folder in kept_folders(top, names):
         files = sorted((it.stat().st_mtime, it.stem) for it in folder.glob('*.oantt'))
@@ -233,7 +233,7 @@ def main() -> int:
     whole.add_argument('--anew', action='store_true', help='also prove what earlier runs have kept')
     whole.add_argument('crates', nargs='*', metavar='CRATE', help='only these crates')
     for verb, told in (('functions', 'which parts of first checks took long'), ('states', 'which functions have the most states')):
-        kept = verbs.add_parser(verb, help=f'tells {told}')
+        kept = verbs.add_parser(verb, help=f'says {told}')
         kept.add_argument('--most', type=int, default=30, metavar='N', help='how many to print (30)')
         kept.add_argument('crates', nargs='*', metavar='CRATE', help='only these crates')
     asked = parser.parse_args()

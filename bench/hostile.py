@@ -77,7 +77,7 @@ class Day:
         return end
 
     def begun(self, **how: Any) -> subprocess.Popen[bytes]:
-        """A server that goes on, once it has shown a reply to a line that nobody had asked yet."""
+        """A server that goes on, once it has replied to a new line."""
         server = subprocess.Popen(self.words('serve'), stdout=subprocess.PIPE, stderr=subprocess.DEVNULL, **how)
         self.ask(server)
         return server
@@ -114,7 +114,7 @@ class Day:
 
 
 def expect(end: End, status: int, line: bytes | None) -> None:
-    """The end has this status, and where there is a line, it is all that was written."""
+    """The end has this status. If a line is given, it is all that was written."""
     if end.status != status or (line is not None and end.text != line):
         raise Wrong(f'status {end.status} in place of {status}: {end.text[-200:]!r}, in place of {line!r}')
 
@@ -128,7 +128,7 @@ def refused(day: Day, line: bytes) -> None:
 
 
 def goes_on(day: Day) -> bytes:
-    """A start goes on: its text is good, and each reply that was shown is in it. It answers the text."""
+    """A start goes on: its text is good, and each reply that was shown is in it. Gives the text."""
     before = day.replies()
     end = day.served()
     expect(end, 0, None)
@@ -417,7 +417,7 @@ def no_words(day: Day) -> None:
 
 
 def files_refused(day: Day) -> None:
-    """What is told of the files is what `run` tells."""
+    """Files are refused with the line that `run` prints."""
     events = day.folder / 'net' / 'Events-expanded.giv'
     for text in (b'no record\n', None):
         if text is None:

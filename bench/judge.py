@@ -38,7 +38,7 @@ Verdict = tuple[Any, ...]
 
 
 class Log:
-    """The items of a feed so far, with the last line and entry that they tell, the latest plan, and how many there were."""
+    """The items of a feed so far, with the last line and entry that they name, the latest plan, and how many plans there were."""
 
     def __init__(self, feed: int) -> None:
         self.feed = feed
@@ -202,7 +202,7 @@ class Judge:
         return nodes == answer.value and not self.may_have(nodes)
 
     def is_entered(self, log: Log, at: int, said: Said, entry: int) -> bool:
-        """Whether the line became the entry that its answer tells."""
+        """Whether the line became the entry that its answer names."""
         if entry <= log.entry:
             return False
         feed, line, message = self.history[entry - 1]
@@ -249,7 +249,7 @@ class Judge:
 
 
 def verdict_on(network: Network, start: Rows, penalty: int, text: bytes, plans: int = STANDARD_PLANS) -> Verdict:
-    """What is told of a text: ('good', ENTRIES, PLANS) or ('bad', LINE, KIND)."""
+    """The verdict on a text: ('good', ENTRIES, PLANS) or ('bad', LINE, KIND)."""
     return Judge(network, start, penalty, plans).judge(text)
 
 
@@ -283,7 +283,7 @@ class Case(NamedTuple):
 
 
 def differences(folder: str, case: Case) -> list[str]:
-    """A line for each text of a case (itself, its fronts, or with a byte replaced) of which something else is told than is due."""
+    """A line for each text of a case (itself, its fronts, or with a byte replaced) whose verdict is not the one that is due."""
     text = written_out(read_bytes(folder, 'texts', case.name))
     if case.due == 'every front truncated':
         fronts = [text[:k] for k in range(len(text))]

@@ -38,7 +38,7 @@ ODD = ['\n', '   \n', '# a word\n', 'delay\n', 'time  7\r\n', 'adopt\n', 'x' * 1
 
 
 class Wrong(Exception):
-    """Something was lost, or told twice."""
+    """Something was lost, or answered twice."""
 
 
 def lines_of(number: int, trains: int) -> Iterator[str]:
@@ -206,7 +206,7 @@ def judged(server: Server, text: bytes, count: int) -> Run:
 
 
 def times_alone(server: Server, run: Run, count: int) -> str:
-    """The times of the journal's messages in one feed, answered without a crash, are those of the text. It tells by whom."""
+    """The times of the journal's messages in one feed, answered without a crash, are those of the text. Gives the commands that answered them."""
     lines = [line for entry in run.journal for line in lines_of_message(entry.message)]
     feed, store = server.folder / 'journal-feed', server.folder / 'alone'
     feed.write_text('\n'.join(lines) + '\n')

@@ -38,7 +38,7 @@ GROWTH = 2.3
 Events = list[tuple[str, int, int]]
 Activities = list[tuple[str, int, int, int, int]]
 
-# Writes the files of a case at a share of its size, and answers the names of its feeds.
+# Writes the files of a case at a share of its size, and gives the names of its feeds.
 Making = Callable[[str, int], list[str]]
 
 
@@ -115,7 +115,7 @@ def feeds(folder: str, part: int) -> list[str]:
 
 
 def deep(folder: str, part: int) -> list[str]:
-    """A late train with a change to each of many others, which is dear to keep, and cheap to drop."""
+    """A late train with a change to each of many others, which costs much if it is kept, and little if it is dropped."""
     count = (DEPTH + 1) // part - 1
     events = [('departure', 100, 0), ('arrival', 200, 0)]
     activities = [('drive', 1, 2, 100, 0)]

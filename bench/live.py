@@ -105,7 +105,7 @@ def megabytes_of(server: Server) -> float:
 
 
 def sync_of(folder: str) -> float:
-    """The middle of what a sync of 100 bytes takes, in milliseconds."""
+    """The median of what a sync of 100 bytes takes, in milliseconds."""
     took = []
     with open(os.path.join(folder, 'synced'), 'wb', buffering=0) as file:
         for _ in range(51):

@@ -42,9 +42,9 @@ class Measured(NamedTuple):
 
 def measured(words: Sequence[str], limit: int = 3600, folder: Optional[str] = None, output: Optional[str] = None,
              stack: int = 0) -> Measured:
-    """Runs a command in a folder, with so many bytes of stack where a number is given; it is ended after so many seconds of processor.
+    """Runs a command in a folder, with so many bytes of stack if a number is given. It is ended after so many seconds of processor.
 
-    What it prints goes into a file of the folder where one is named, and else into the answer.
+    What it prints goes into a file of the folder if one is named, and otherwise into the result.
     """
     command = [sys.executable, '-S', '-c', HELPER, str(limit), str(stack), *words]
     with open(os.path.join(folder or '', output or os.devnull), 'wb') as file:

@@ -35,7 +35,7 @@ SHIM = r'''
 #include <stdlib.h>
 #include <unistd.h>
 static atomic_long calls;
-/* Whether this call is the one to refuse; a file tells that it came. */
+/* Whether this call is the one to refuse; a file shows that it came. */
 static int is_refused(void) {
     const char *number = getenv("REFUSED");
     if (!number || atomic_fetch_add(&calls, 1) + 1 != atol(number)) return 0;
@@ -99,7 +99,7 @@ def done(program: str, words: list[str], folder: str, shim: str, number: int) ->
 
 
 def is_good(program: str, words: list[str], folder: str, text: bytes) -> bool:
-    """Whether `check` tells the text of a search by several workers good."""
+    """Whether `check` finds the text of a search by several workers good."""
     if not any(word.startswith('--workers') for word in words):
         return False
     with open(os.path.join(folder, 'searched'), 'wb') as file:

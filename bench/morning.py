@@ -58,7 +58,7 @@ DELAYS, CORRECTED = 24, 6
 SHOWN = 5
 STORE = 'store'
 
-# Has the lines of feeds answered, over a network, and tells gtfs_rt_out.py what to read, with its options; it may write a text.
+# Has the lines of feeds over a network answered, and gives the words for gtfs_rt_out.py: what to read, and options. It may write a text.
 Answer = Callable[[str, list[str], str], list[str]]
 
 
@@ -235,7 +235,7 @@ def connections_of(trains: list[Train], pairs: list[tuple[str, str]]) -> Iterato
 
 @dataclass
 class Delay:
-    """An event is so much later than scheduled; told from a time on, and for a while larger than it is."""
+    """An event is so much later than scheduled; reported from a time on, and for a while larger than it is."""
     event: Event
     seconds: int
     known: int
@@ -276,7 +276,7 @@ class World:
         self.order = sorted(self.scheduled, key=lambda event: (self.scheduled[event], event.call, event.kind))
 
     def expected(self, told: Callable[[Delay], int]) -> dict[Event, int]:
-        """When each event happens, by the delays as they are told; what has not happened yet happens now at the earliest."""
+        """When each event happens, by the delays as they are reported; what has not happened yet happens now at the earliest."""
         late = {delay.event: told(delay) for delay in self.delays}
         held = [*self.bounds, *(one.bound for one in self.connections if one not in self.dropped)]
         into: dict[Event, list[Bound]] = {}
@@ -334,7 +334,7 @@ class World:
         ]
 
 
-# ---- What an agency tells
+# ---- What an agency reports
 
 
 def message_of(world: World) -> Message:
@@ -474,7 +474,7 @@ def world_of(number: int) -> tuple[World, dict[str, str]]:
 
 
 class Files:
-    """The files of a morning. Where it is live, dropped changes have a feed of their own, and what is known is asked of the store."""
+    """The files of a morning. If it is live, dropped changes have a feed of their own, and what is known is taken from the store."""
 
     def __init__(self, folder: str, timetable: dict[str, str], is_live: bool) -> None:
         names = 'net', 'feed', 'text', 'in.pb', 'out.pb'
@@ -496,7 +496,7 @@ class Files:
 
 
 def minute(files: Files, answer: Answer, world: World, come: Played) -> None:
-    """Plays what the world tells now: in, answered, out, and compared."""
+    """Plays a minute: what the world reports goes in, is answered, and goes out; then it is compared."""
     given_up = world.decide()
     files.drop(given_up)
     if files.is_live:

@@ -74,7 +74,7 @@ def behind(trains: int, number: int, cost: float) -> str:
 
 
 def day(program: str, trains: int, number: int, last: bool) -> bool:
-    """Prints the line of a day. It is false where the plan costs more than the best that is known."""
+    """Prints the line of a day. False if the plan costs more than the best that is known."""
     with tempfile.TemporaryDirectory() as folder:
         write_day(number, trains, folder)
         feed = os.path.join(folder, 'delays')

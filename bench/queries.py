@@ -81,7 +81,7 @@ def bad_text(bad: tuple[int, str]) -> Answered:
 
 
 def text_without_times(journal: Journal) -> Optional[Answered]:
-    """The status and the text where a question wants the whole journal, and it is not whole; else None."""
+    """The status and the text if a question needs the whole journal and it is not whole, else None."""
     if journal.bad is not None:
         return bad_text(journal.bad)
     return None if journal.torn is None else (1, lines_of(f'bad {journal.torn[0]} truncated'))
@@ -377,16 +377,16 @@ class Asking:
     def follow(self, draws: random.Random, journal: Journal) -> Optional[str]:
         due = followed(self.network, self.penalty, journal)
         told = self.call('follow', 'net', 'text')
-        return None if told == due else f'due {due}, told {told}'
+        return None if told == due else f'due {due}, printed {told}'
 
     def wanting_all(self, journal: Journal, words: Sequence[object], fault_of: Callable[[str], Optional[str]]) -> Optional[str]:
-        """A question that wants the whole journal: `fault_of` says what is wrong with its text."""
+        """A question that needs the whole journal: `fault_of` says what is wrong with its text."""
         status, text = self.call(*words)
         due = text_without_times(journal)
         if due is not None:
-            return None if (status, text) == due else f'{words}: due {due}, told {status, text}'
+            return None if (status, text) == due else f'{words}: due {due}, printed {status, text}'
         fault = f'status {status}' if status != 0 else fault_of(text)
-        return None if fault is None else f'{words}: {fault}; told {text}'
+        return None if fault is None else f'{words}: {fault}; printed {text}'
 
     def journey(self, draws: random.Random, journal: Journal) -> Optional[str]:
         events = self.network.events
@@ -416,10 +416,10 @@ class Asking:
         words, barred = window.words(), window.without_choice(self.network)
         if text_without_times(journal) is None and window.at is not None and window.at > last:
             told = self.call(*words)
-            return None if told == (3, lines_of(f'refused entry {window.at}')) else f'{words}: told {told}'
+            return None if told == (3, lines_of(f'refused entry {window.at}')) else f'{words}: printed {told}'
         if text_without_times(journal) is None and barred is not None:
             told = self.call(*words)
-            return None if told == (3, lines_of(f'refused window held {barred}')) else f'{words}: told {told}'
+            return None if told == (3, lines_of(f'refused window held {barred}')) else f'{words}: printed {told}'
         return self.wanting_all(journal, words, lambda text: fault_of_window(self.network, self.penalty, journal, window, text))
 
     def fault_of(self, draws: random.Random, commands: Sequence[str], text: bytes) -> Optional[str]:

@@ -84,7 +84,7 @@ ROWS = [Row(question, text) for question in QUESTIONS for text in FEEDS if quest
 
 
 class Figures(NamedTuple):
-    """Millions of instructions, where they are counted, and seconds of processor."""
+    """Millions of instructions, if they are counted, and seconds of processor."""
     millions: Optional[float]
     seconds: float
 

@@ -34,11 +34,11 @@ def fault_of(program: str, folder: str, came: Optional[tuple[int, bytes]]) -> Op
     with open(os.path.join(folder, 'text'), 'wb') as file:
         file.write(text)
     told = answer(program, folder, ['check', 'net', 'text', '--penalty=3600'])
-    return None if told == (0, GOOD) else f'the check tells {told}'
+    return None if told == (0, GOOD) else f'the check prints {told}'
 
 
 def searched(program: str, folder: str, number: int) -> Optional[str]:
-    """The words of a run's plan. They are none where something differs, which is printed."""
+    """The words of a run's plan, or none if something differs, which is printed."""
     came = answer(program, folder, ['run', 'net', '--penalty=3600', f'--workers={WORKERS}', 'feed'])
     fault = fault_of(program, folder, came)
     if came is not None and fault is None:

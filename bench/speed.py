@@ -146,7 +146,7 @@ def print_table(title: str, seconds: Mapping[str, Measured], unit: str) -> None:
 
 
 def ratios_of_day(seconds: list[dict[str, Measured]]) -> list[tuple[str, float, float]]:
-    """The name, the ratio and the bound of what is bounded, of the program and the one before it, where there is one."""
+    """The name, the ratio and the bound of what is bounded, of the program and the one before it, if there is one."""
     now = seconds[0]
     used = {name: taken.seconds for name, taken in now.items()}
     ratios = [

@@ -38,7 +38,7 @@ LARGEST = 134_217_728
 BYTES = 65_536
 COMMITS = 200
 
-# What the program says where a journal is refused.
+# What the program says if a journal is refused.
 WORDS = {'n': 'no journal', 'o': 'other version', 'b': 'broken'}
 
 # The other user.
@@ -215,7 +215,7 @@ def print_commit(program: Path, top: Path) -> None:
 
 
 def print_recoveries(program: Path, top: Path) -> bool:
-    """Prints what recoveries of 128 MiB cost, and tells whether each kept to its memory."""
+    """Prints what recoveries of 128 MiB cost, and gives whether each kept to its memory."""
     right = True
     for size in (BYTES, 64):
         count = (LARGEST - 16) // len(block(b'x' * size))
@@ -236,7 +236,7 @@ def main() -> int:
     with tempfile.TemporaryDirectory(dir=words.folder) as name:
         top = Path(name)
         top.chmod(0o755)
-        # The other user is to reach it.
+        # The other user has to reach it.
         program = Path(shutil.copy(words.program, top / 'program'))
         program.chmod(0o755)
         ends = [*plain_ends(program, top), *wrong_ends(program, top), *other_ends(program, top), *full_ends(program, top),

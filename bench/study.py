@@ -123,7 +123,7 @@ class Worker:
             played.enter(program.ruled(policy))
 
     def measured(self, task: Task, program: Program, cost: int) -> Outcome:
-        """What the text of a day tells of it."""
+        """What the text of a day says of it."""
         network = self.network
         run = read_text(program.path('text'), network)
         rows = rows_of(network, Rows(network), run, program.path('text'))
