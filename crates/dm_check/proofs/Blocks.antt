@@ -1,17 +1,16 @@
 -- The lines of a plan's block, and what is told of them.
-use Rattle.std.proofs.Common.{◌≡◌, ℕ, zero, suc, ◌+◌, ◌-◌, ◌≤◌, Bool, true, false, eqb, List, [], ◌∷◌, ◌++◌, Result, Ok, Err, Option, Some, None, refl, sym, ap, subst, ◌∙◌, inl, inr, arith}
-use Rattle.std.specs.Prelude.{MatchBool, ◌⊎◌, ◌==◌}
+use Rattle.std.proofs.Common.{◌≡◌, ℕ, zero, suc, ◌+◌, ◌-◌, ◌≤◌, Bool, true, false, eqb, List, [], ◌∷◌, ◌++◌, Result, Ok, Err, Option, None, refl, sym, ap, subst, inl, inr, arith}
+use Rattle.std.specs.Prelude.{MatchBool, ◌⊎◌}
 use Rattle.dm_text.specs.Places.{Place}
 use Rattle.dm_text.specs.Judging.{Line, Then, Times, Finds}
 use Rattle.dm_rows.specs.declared.messages.Decision.{Decision}
 use Rattle.dm_rows.specs.declared.messages.Entry.{Entry}
 use Rattle.dm_tree.specs.declared.forms.Node.{Node}
-use Rattle.dm_tree.specs.declared.forms.Leaf.{Leaf}
 use Rattle.dm_tree.specs.declared.forms.Mark.TheVariants as mark
 use Rattle.dm_tree.specs.declared.plans.Plan.{Plan}
 use Rattle.dm_cert.specs.Answers.{Setting}
-use Rattle.dm_cert.specs.PlanTexts.{largest_cost, line_end}
-use Rattle.dm_cert.specs.PlansRead.{IsChoiceLine, IsLeafLine, IsNodeLine, IsHeadingLine, ShowsLeaves, ShowsNodes, TellsChoices, TellsLeaves, TellsNodes, TellsTree, TellsPlan, cut_line, misshapen_line, want_of_memory, no_tree, plan_of}
+use Rattle.dm_cert.specs.PlanTexts.{largest_cost}
+use Rattle.dm_cert.specs.PlansRead.{IsChoiceLine, IsLeafLine, IsNodeLine, ShowsLeaves, ShowsNodes, TellsChoices, TellsTree, TellsPlan, cut_line, misshapen_line, want_of_memory, no_tree, plan_of}
 use Rattle.dm_cert.specs.declared.plan_lines.Heading.{Heading}
 use Rattle.dm_cert.specs.declared.faults.CertFault.{CertFault}
 use Rattle.dm_cert.specs.declared.faults.CertKind.{CertKind}

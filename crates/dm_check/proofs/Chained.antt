@@ -1,12 +1,12 @@
 -- Judges one behind the other, where the code does not make what is told.
-use Rattle.std.proofs.Common.{◌≡◌, ℕ, ◌+◌, ◌<◌, ◌≤◌, List, [], ◌∷◌, ◌++◌, length, Result, Ok, Err, refl, sym, ap, subst, ◌∙◌, arith, length-append}
+use Rattle.std.proofs.Common.{◌≡◌, ℕ, ◌+◌, ◌<◌, ◌≤◌, List, [], ◌∷◌, ◌++◌, length, Result, Ok, Err, refl, arith, length-append}
 use Rattle.dm_text.specs.Places.{Place}
 use Rattle.dm_text.specs.Judging.{Times}
 use Rattle.dm_text.proofs.Counted.{HasRun, run_begins, run_goes, run_stops, run_ends}
 use Rattle.dm_check.specs.declared.faults.Fault.{Fault}
 use Rattle.dm_check.specs.declared.faults.Stop.{Stop}
 use Rattle.dm_check.specs.declared.faults.Stop.TheVariants.{Fault as Found, OutOfMemory}
-use Rattle.dm_check.specs.Judged.{ToldThat, JudgedThat}
+use Rattle.dm_check.specs.Judged.{JudgedThat}
 
 abbrev pub Judge : Type 0 → Type 1
 Judge V = Place → Result (V × Place) Fault → Type 0

@@ -1,5 +1,5 @@
 -- Every entry is named where every entry is flagged, and the notes of boards.
-use Rattle.std.proofs.Common.{◌≡◌, ℕ, ◌+◌, ◌-◌, ◌<◌, ◌≤◌, Bool, true, false, List, [], ◌∷◌, ◌++◌, length, map, Result, Ok, Err, refl, sym, ap, subst, ◌∙◌, inr, arith, codes}
+use Rattle.std.proofs.Common.{◌≡◌, ℕ, ◌+◌, ◌-◌, ◌<◌, ◌≤◌, Bool, true, false, List, length, Ok, Err, refl, sym, ap, subst, ◌∙◌, inr, arith, codes}
 use Rattle.std.proofs.lemmas.Bool.{ltb-true, lt-ltb}
 use Rattle.std.specs.Prelude.{nat_lt, count_by, slice_index_or}
 use Rattle.dm_base.specs.declared.limits.TheConstants.{BOARDS}

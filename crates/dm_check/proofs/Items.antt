@@ -1,24 +1,20 @@
 -- The next item of a log, by its first line and what stands behind it.
-use Rattle.std.proofs.Common.{◌≡◌, ◌≢◌, ℕ, zero, suc, ◌+◌, ◌-◌, ◌<◌, ◌≤◌, Bool, false, cond, List, [], ◌∷◌, ◌++◌, length, Result, Ok, Err, refl, sym, ap, subst, ◌∙◌, inl, inr, arith, append_assoc, append-nil}
+use Rattle.std.proofs.Common.{◌≡◌, ℕ, ◌+◌, ◌<◌, ◌≤◌, Bool, false, cond, List, [], ◌∷◌, ◌++◌, length, Result, Ok, Err, refl, sym, ap, subst, ◌∙◌, inl, inr, arith, append_assoc, append-nil}
 use Rattle.std.specs.Prelude.{nat_lt, count_by}
 use Rattle.std.proofs.lemmas.List.Sums.{sum_by-append}
-use Rattle.dm_cert.specs.declared.limits.TheConstants.{PLANS}
 use Rattle.dm_text.specs.Places.{Place}
-use Rattle.dm_text.specs.Judging.{Times}
 use Rattle.dm_rows.specs.declared.messages.Entry.{Entry}
-use Rattle.dm_cert.specs.Answers.{Setting, is_plan}
-use Rattle.dm_cert.specs.Logs.{names, Kind}
+use Rattle.dm_cert.specs.Answers.{Setting}
+use Rattle.dm_cert.specs.Logs.{names}
 use Rattle.dm_cert.specs.declared.replies.LogItem.{LogItem}
-use Rattle.dm_records.specs.RunLines.{ItemLine, lone, planned, IsItemLine, PlanOpening}
+use Rattle.dm_records.specs.RunLines.{ItemLine, lone, IsItemLine}
 use Rattle.dm_check_answers.specs.declared.past.Past.{Past}
 use Rattle.dm_check_answers.specs.Judging.{IsPast}
-use Rattle.dm_check.specs.declared.faults.Fault.{Fault}
 use Rattle.dm_check.specs.declared.faults.Stop.{Stop}
 use Rattle.dm_check.specs.declared.faults.Stop.TheVariants.{Fault as Found, OutOfMemory}
-use Rattle.dm_check.specs.declared.verdicts.BadKind.TheVariants as kind
 use Rattle.dm_check.specs.FalseRecords.{Reads, IsNextItem, TellsItem}
-use Rattle.dm_check.specs.Judged.{Judged, ToldThat, JudgedThat, AreFlagged, KeepsItem, KeepsItems, BehindOn, ItemOn, ItemsOn}
-use Rattle.dm_check.proofs.Chained.{HasKept, kept_none, kept_more, kept_stop, kept_all}
+use Rattle.dm_check.specs.Judged.{Judged, AreFlagged, KeepsItem, KeepsItems, BehindOn, ItemOn, ItemsOn}
+use Rattle.dm_check.proofs.Chained.{HasKept, kept_more, kept_stop, kept_all}
 
 module _ (s : Setting) (history : List Entry) (feed : ℕ) (before : List LogItem) (past : Past) (flags named : List Bool) where
   pub item_on : (old mid new : Place) (first : ℕ) (said : ItemLine) (result : Result (Unit {0}) Stop) → first ≡ old.line → Reads (IsItemLine s.version) old (Ok (said, mid)) →

@@ -1,12 +1,10 @@
 -- A log, and all logs.
 use Rattle.std.proofs.Common.{◌≡◌, ℕ, ◌+◌, ◌*◌, ◌<◌, ◌≤◌, Bool, List, [], ◌∷◌, ◌++◌, length, Result, Ok, Err, refl, sym, ap, subst, ◌∙◌, inl, inr, arith, append-nil, append_assoc, length-append, cond}
 use Rattle.std.specs.Prelude.{count_by}
-use Rattle.std.specs.List.{flat_map}
 use Rattle.std.proofs.lemmas.List.Sums.{sum_by-append}
-use Rattle.dm_base.specs.declared.limits.TheConstants.{FEEDS}
 use Rattle.dm_cert.specs.declared.limits.TheConstants.{PLANS}
 use Rattle.dm_text.specs.Places.{Place}
-use Rattle.dm_text.specs.Judging.{Then, Times}
+use Rattle.dm_text.specs.Judging.{Times}
 use Rattle.dm_rows.specs.declared.messages.Entry.{Entry}
 use Rattle.dm_feed.specs.declared.feed.FeedStop.{FeedStop}
 use Rattle.dm_cert.specs.Answers.{Setting, is_plan}
@@ -19,7 +17,7 @@ use Rattle.dm_check.specs.declared.faults.Stop.{Stop}
 use Rattle.dm_check.specs.declared.faults.Stop.TheVariants.{Fault as Found, OutOfMemory}
 use Rattle.dm_check.specs.declared.verdicts.BadKind.TheVariants.{Form}
 use Rattle.dm_check.specs.FalseRecords.{Reads, Rules, TellsItem, TellsLog}
-use Rattle.dm_check.specs.Judged.{ToldThat, JudgedThat, AreFlagged, KeepsItems, KeepsLogs, ItemsOn, LogOn, LogsOn}
+use Rattle.dm_check.specs.Judged.{AreFlagged, KeepsItems, KeepsLogs, ItemsOn, LogOn, LogsOn}
 use Rattle.dm_check.proofs.Chained.{HasKept, kept_none, kept_more, kept_stop, kept_all}
 
 abbrev pub TellsOpening : ℕ → Place → Result (ℕ × Place) Fault → Type 0

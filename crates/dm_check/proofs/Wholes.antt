@@ -1,17 +1,15 @@
 -- What stands behind the logs, and the whole text.
-use Rattle.std.proofs.Common.{◌≡◌, ℕ, zero, suc, ◌+◌, ◌*◌, ◌<◌, ◌≤◌, Bool, List, [], ◌∷◌, ◌++◌, length, Result, Ok, Err, refl, sym, ap, subst, ◌∙◌, inl, inr, arith, codes, length-append}
+use Rattle.std.proofs.Common.{◌≡◌, ℕ, zero, suc, ◌+◌, ◌<◌, ◌≤◌, Bool, List, [], ◌∷◌, ◌++◌, length, Result, Ok, Err, refl, sym, ap, subst, ◌∙◌, inl, inr, arith, codes, length-append}
 use Rattle.std.specs.Prelude.{count_by}
 use Rattle.std.proofs.lemmas.Bool.{cases_lt}
 use Rattle.dm_base.specs.declared.limits.TheConstants.{FEEDS, ENTRIES}
-use Rattle.dm_cert.specs.declared.limits.TheConstants.{PLANS}
 use Rattle.dm_text.specs.Places.{Place, at_start}
-use Rattle.dm_text.specs.Judging.{Then, Times}
+use Rattle.dm_text.specs.Judging.{Times}
 use Rattle.dm_network.specs.Net.{Net}
 use Rattle.dm_network.specs.Start.{IsNetwork}
 use Rattle.dm_rows.specs.declared.messages.Entry.{Entry}
 use Rattle.dm_rows.specs.Rows.{RowsValue}
-use Rattle.dm_rows.specs.Active.{is_active, HasNoCycle}
-use Rattle.dm_rows.specs.Timetable.{IsLeast}
+use Rattle.dm_rows.specs.Active.{HasNoCycle}
 use Rattle.dm_check_answers.proofs.Rows.{none_least}
 use Rattle.dm_cert.specs.Answers.{Setting, rows_after, is_plan}
 use Rattle.dm_cert.specs.Logs.{all_items}
@@ -24,8 +22,8 @@ use Rattle.dm_check.specs.declared.faults.Stop.{Stop}
 use Rattle.dm_check.specs.declared.faults.Stop.TheVariants.{Fault as Found, OutOfMemory}
 use Rattle.dm_check.specs.declared.checking.Counts.{Counts}
 use Rattle.dm_check.specs.declared.verdicts.BadKind.TheVariants.{Time}
-use Rattle.dm_check.specs.FalseRecords.{bad, Reads, TellsEntry, TellsLog, TellsBoards, TellsNote, TellsNumber, TellsTime, TellsCost, TellsEnd, TellsRest, TellsBody, TellsRun, IsGood}
-use Rattle.dm_check.specs.Judged.{Judges, Judged, ToldThat, JudgedThat, TellsTimetable, HasLogs, HasPlans, IsCounted, KeepsLogs, EndingOn, RestOn, LogsOn, LogsAndRestOn, HistoryOn, BodyOn, RunOn, TellsEntries, EntersAll}
+use Rattle.dm_check.specs.FalseRecords.{bad, Reads, TellsEntry, TellsLog, TellsBoards, TellsNote, TellsNumber, TellsTime, TellsCost, TellsEnd, TellsRun, IsGood}
+use Rattle.dm_check.specs.Judged.{JudgedThat, TellsTimetable, EndingOn, RestOn, LogsOn, LogsAndRestOn, HistoryOn, BodyOn, RunOn, TellsEntries, EntersAll}
 
 -- ---- the times, the cost and the last line
 

@@ -1,5 +1,5 @@
 -- The line of each record behind the journal but an item.
-use Rattle.std.proofs.Common.{◌≡◌, ℕ, ◌≤◌, List, [], ◌∷◌, ◌++◌, refl, sym, inl, inr, arith, append_assoc, append-nil, codes}
+use Rattle.std.proofs.Common.{◌≡◌, ℕ, ◌≤◌, List, [], ◌∷◌, ◌++◌, refl, sym, arith, append_assoc, append-nil, codes}
 use Rattle.std.specs.Fmt.{decimal}
 use Rattle.dm_outside.specs.Printing.{joined}
 use Rattle.dm_feed.specs.declared.feed.FeedStop.{FeedStop}

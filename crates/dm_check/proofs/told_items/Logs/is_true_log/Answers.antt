@@ -1,4 +1,4 @@
-use Rattle.std.proofs.Common.{◌<◌, length, take, Bool, true, false, refl, subst, sym, ◌∙◌, arith}
+use Rattle.std.proofs.Common.{◌<◌, length, take, Bool, true, false, refl, subst, ◌∙◌, arith}
 use Rattle.dm_check_answers.specs.Judging.{JournalValue}
 use Rattle.dm_check.specs.Inside.TrueLogs.{IsNextOn}
 use Rattle.dm_check.proofs.Items.{keeps_none}
