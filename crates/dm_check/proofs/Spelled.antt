@@ -25,7 +25,7 @@ use Rattle.dm_cert.specs.PlanTexts.{line_end, mark_text, choice_text, leaf_text,
 use Rattle.dm_cert.specs.PlansRead.{size_words, IsChoiceLine, IsLeafLine, IsNodeLine, ShowsLeaves, ShowsNodes}
 use Rattle.dm_cert.specs.RunTexts.{Run, run_text, header_text, entry_text, entries_text, item_text, reply_text, feed_text, stop_text, log_text, logs_text, note_text, time_text, timetable_text, boards_text, heading_text, ending_text}
 use Rattle.dm_cert.proofs.ToldTexts.{line_told}
-use Rattle.dm_records.specs.RunLines.{Opening, PlanOpening, ItemLine, lone, planned, Timed, IsNumberLine, IsVersionLine, IsEntryLine, IsOpeningLine, IsItemLine, IsStopLine, IsNoteLine, IsTimeLine, IsWordLine, opening_text}
+use Rattle.dm_records.specs.RunLines.{LogOpening, PlanOpening, ItemLine, lone, planned, Timed, IsNumberLine, IsVersionLine, IsEntryLine, IsOpeningLine, IsItemLine, IsStopLine, IsNoteLine, IsTimeLine, IsWordLine, opening_text}
 use Rattle.dm_records.proofs.LinesSpelled.{numbered, version_line}
 use Rattle.dm_check.specs.declared.faults.Fault.{Fault}
 use Rattle.dm_check.specs.FalseRecords.{bad, Reads, Rules, TellsEntry, TellsItem, TellsBehind, TellsLog, TellsBoards, TellsNote, TellsTime, TellsCost, TellsEnd, TellsNumber, TellsRest, TellsBody, IsNextPlan, IsGood, plan_opened}
@@ -197,7 +197,7 @@ item_left s history feed before place answered next told = item_at s history fee
 
 -- ---- logs
 
-pub opening_same : (o : Opening) (line : List ℕ) → IsOpeningLine o line → feed_text o.feed o.items ≡ line ++ line_end
+pub opening_same : (o : LogOpening) (line : List ℕ) → IsOpeningLine o line → feed_text o.feed o.items ≡ line ++ line_end
 unfolding feed_text
 opening_same o line is = ap (λ xs. codes "feed " ++ xs) (sym (simp (append_assoc, append-nil))) ∙ ap (λ xs. xs ++ line_end) is.spelled
 

@@ -1,12 +1,8 @@
 -- What is known of claims, one after the other.
-use Rattle.std.proofs.Common.{◌≡◌, ℕ, ◌<◌, ◌≤◌, Bool, List, [], length, Option, Some, None, sym, ap, subst, ◌∙◌, inl, inr, arith, slice_get, get_or-set_same, get_or-set_other}
-use Rattle.std.specs.Prelude.{slice_set, slice_index_or, replicate, All, IfSome}
-use Rattle.std.proofs.lemmas.Bool.{cases_eq, cases_lt}
-use Rattle.std.proofs.lemmas.Option.{slice_get_past}
-use Rattle.std.proofs.lemmas.List.{get_or_past, get_or-replicate, length-replicate}
+use Rattle.std.proofs.Common.{◌≡◌, ℕ, ◌<◌, Bool, List, length, Option, Some, None, sym, ap, subst, ◌∙◌, inl, inr, slice_get, get_or-set_same, get_or-set_other}
+use Rattle.std.specs.Prelude.{slice_set, slice_index_or, All, IfSome}
+use Rattle.std.proofs.lemmas.Bool.{cases_eq}
 use Rattle.dm_rows.specs.declared.messages.Entry.{Entry}
-use Rattle.dm_feed.specs.declared.grammar.Line.{Line}
-use Rattle.dm_records.specs.declared.answers.Answer.{Answer}
 use Rattle.dm_records.specs.Readings.{reply_of}
 use Rattle.dm_cert.specs.Answers.{Setting}
 use Rattle.dm_check_rows.specs.Claims.{Tells}

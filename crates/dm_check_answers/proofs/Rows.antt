@@ -1,21 +1,15 @@
 -- Rows after so many entries: their times and cost, and rows that have no least timetable.
-use Rattle.std.proofs.Common.{◌≡◌, ℕ, ◌≤◌, Bool, true, false, List, length, Some, None, Result, Ok, Err, sym, ap, subst, ◌∙◌}
-use Rattle.std.specs.Prelude.{IfOk}
+use Rattle.std.proofs.Common.{◌≡◌, ℕ, List, sym, subst}
 use Rattle.dm_base.specs.declared.ids.EventId.{EventId}
-use Rattle.dm_network.specs.Net.{Net, event_place}
+use Rattle.dm_network.specs.Net.{Net}
 use Rattle.dm_network.specs.Start.{IsNetwork}
 use Rattle.dm_rows.specs.declared.messages.Entry.{Entry}
 use Rattle.dm_rows.specs.Active.{is_active, HasNoCycle}
 use Rattle.dm_rows.specs.Rows.{RowsValue}
-use Rattle.dm_rows.specs.Timetable.{IsLeast, time_at}
-use Rattle.dm_rows.specs.Cost.{Costs}
-use Rattle.dm_rows.specs.Refuse.{Refuses}
-use Rattle.dm_rows.specs.declared.messages.Message.{Message}
-use Rattle.dm_rows.specs.declared.messages.Refusal.{Refusal}
+use Rattle.dm_rows.specs.Timetable.{IsLeast}
 use Rattle.dm_rows.proofs.AsGraph.{active_enter_no_passed}
 use Rattle.dm_rows.proofs.Holding.{held_is_met_exactly_without_cycle}
-use Rattle.dm_cert.specs.Answers.{Setting, rows_after, IsTimeAt, IsCostAt, IsRefused}
-use Rattle.dm_check_rows.specs.Claims.{Tells, IsTimeOf}
+use Rattle.dm_cert.specs.Answers.{Setting, rows_after, IsTimeAt, IsCostAt}
 
 pub none_least : (net : Net) (rows : RowsValue) → IsNetwork net → (HasNoCycle net rows → ⊥) → (times : List ℕ) → IsLeast net rows times → ⊥
 none_least net rows network cyclic times least =

@@ -1,5 +1,5 @@
 -- Whether a message is accepted.
-use Rattle.std.proofs.Common.{IsTrue, length, slice_index, ◌≡◌, ℕ, Bool, true, false, List, Some, refl, sym, ap, subst, ◌∙◌, inl, inr, Result, Ok, Err}
+use Rattle.std.proofs.Common.{IsTrue, length, slice_index, ◌≡◌, ℕ, Bool, false, List, Some, refl, sym, ap, subst, ◌∙◌, inl, inr, Result, Ok, Err}
 use Rattle.std.specs.Prelude.{IfOk, OnOk}
 use Rattle.dm_network.specs.Net.{Net}
 use Rattle.dm_network.specs.Held.{ids_of}
@@ -11,13 +11,12 @@ use Rattle.dm_rows.specs.Rows.{RowsValue, IsSized}
 use Rattle.dm_rows.specs.Active.{HasNoCycle}
 use Rattle.dm_rows.specs.Resolve.{after, after_change, after_named, change_named}
 use Rattle.dm_rows.specs.Refuse.{RefusesAdmission, PassesAtOnce, IsNow}
-use Rattle.dm_check_rows.specs.Claims.{IsAccepted, IsKnownFree, IsKept, IsPriced, IsNoted, AreCheckedRowsOf, TellsAcceptance}
-use Rattle.dm_schedule.specs.Schedule.{IsScheduleOf}
+use Rattle.dm_check_rows.specs.Claims.{IsAccepted, IsKnownFree, IsKept, IsPriced, AreCheckedRowsOf, TellsAcceptance}
 use Rattle.dm_schedule.specs.declared.schedule.Scheduled.{Scheduled}
 use Rattle.dm_check_times.specs.KeptCosts.{KeptCostValue, IsKeptCostOf}
 use Rattle.dm_marks.specs.Places.{PlaceSetValue}
 use Rattle.dm_check_times.specs.Noting.{NotesMoves}
-use Rattle.dm_check_times.specs.Timetables.{KeptTimetableValue, IsRoomOf, IsSettledFor}
+use Rattle.dm_check_times.specs.Timetables.{KeptTimetableValue, IsRoomOf}
 use Rattle.dm_rows.specs.Harmless.{IsHarmless}
 use Rattle.dm_check_rows.proofs.AtOnce.{refuses_at_once}
 use Rattle.dm_rows.proofs.Harmless.{never_make_cycles}

@@ -1,16 +1,12 @@
 -- Whether a message is refused as it is said to be.
-use Rattle.std.proofs.Common.{◌≡◌, ℕ, Bool, true, false, sym, subst, ◌⊎◌, inl, inr, Result, Ok, Err}
-use Rattle.std.specs.Prelude.{IfOk}
-use Rattle.dm_base.specs.declared.limits.TheConstants.{ENTRIES}
+use Rattle.std.proofs.Common.{◌≡◌, ℕ, Bool, true, false, subst, inl, inr}
 use Rattle.dm_network.specs.Net.{Net}
 use Rattle.dm_rows.specs.declared.messages.Message.{Message}
 use Rattle.dm_rows.specs.declared.messages.Message.TheVariants as message
 use Rattle.dm_rows.specs.declared.messages.Refusal.{Refusal}
 use Rattle.dm_rows.specs.declared.messages.Refusal.TheVariants as refusal
 use Rattle.dm_rows.specs.Rows.{RowsValue}
-use Rattle.dm_rows.specs.Active.{HasNoCycle}
-use Rattle.dm_rows.specs.Resolve.{after}
-use Rattle.dm_rows.specs.Refuse.{Refuses, RefusesAtOnce, RefusesAdmission, PassesAtOnce, IsNow, IsAdopt}
+use Rattle.dm_rows.specs.Refuse.{Refuses, RefusesAtOnce, RefusesAdmission, IsAdopt}
 use Rattle.dm_feed.specs.Lines.{IsSaid}
 use Rattle.dm_check_rows.specs.Claims.{IsOfOneRow, Tells}
 use Rattle.dm_check_rows.proofs.AtOnce.{no_cycle_at_once, no_full_at_once, no_memory_at_once, refuses_at_once}

@@ -5,7 +5,7 @@ use Rattle.dm_network.specs.Net.{Net}
 use Rattle.dm_rows.specs.Rows.{RowsValue}
 use Rattle.dm_rows.specs.Timetable.{IsLeast, time_at}
 use Rattle.dm_rows.specs.Cost.{Costs, cost_of}
-use Rattle.dm_check_rows.specs.Claims.{IsTimeOf, Tells}
+use Rattle.dm_check_rows.specs.Claims.{Tells}
 
 one_time : (net : Net) (rows : RowsValue) (x y : List ℕ) → IsLeast net rows x → IsLeast net rows y → (i : ℕ) → i < length net.events → time_at x i ≡ time_at y i
 one_time net rows x y p q i below = let a = p.earliest y q.meets i below in let b = q.earliest x p.meets i below in omega arith

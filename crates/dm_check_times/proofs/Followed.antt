@@ -1,6 +1,6 @@
 -- Times that follow at the events that have moved.
-use Rattle.std.proofs.Common.{◌≡◌, ℕ, ◌+◌, ◌<◌, ◌≤◌, ◌⊎◌, Bool, true, false, List, length, sym, ap, subst, ◌∙◌, inl, inr, arith, slice_index, length-set, get_or-set_same, get_or-set_other}
-use Rattle.std.specs.Prelude.{slice_set, Contains, All}
+use Rattle.std.proofs.Common.{◌≡◌, ℕ, ◌+◌, ◌<◌, ◌≤◌, Bool, true, false, List, length, sym, ap, subst, ◌∙◌, inl, inr, arith, slice_index, length-set, get_or-set_same, get_or-set_other}
+use Rattle.std.specs.Prelude.{slice_set}
 use Rattle.std.proofs.lemmas.Bool.{cases_eq, cases_lt}
 use Rattle.std.proofs.lemmas.List.{get_or_past, get_or_default}
 use Rattle.std.proofs.lemmas.List.Elements.{All-weaker}
@@ -9,7 +9,7 @@ use Rattle.dm_marks.specs.Marked.{is_marked}
 use Rattle.dm_marks.specs.Moved.{ListsMoved}
 use Rattle.dm_marks.specs.Places.{PlaceSetValue, IsPlaceSet}
 use Rattle.dm_check_times.specs.Noting.{AreAlikeBut}
-use Rattle.dm_check_times.specs.Inside.Pricing.{IsLeft, HasFollowed}
+use Rattle.dm_check_times.specs.Inside.Pricing.{HasFollowed}
 use Rattle.dm_check_times.proofs.Noted.{alike_or_listed}
 
 pub followed_none : (before times listed : List ℕ) → ListsMoved before times listed → HasFollowed times listed 0 before

@@ -1,15 +1,14 @@
 -- Costs that are kept.
-use Rattle.std.proofs.Common.{◌≡◌, ℕ, zero, suc, ◌+◌, ◌-◌, ◌*◌, ◌^◌, ◌<◌, ◌≤◌, ◌&&◌, [], ◌∷◌, Bool, true, false, not, cond, List, length, refl, sym, ap, subst, ◌∙◌, inl, inr, arith, slice_index, slice_range, length-set, get_or-set_same, get_or-set_other, if◌then◌else◌}
+use Rattle.std.proofs.Common.{◌≡◌, ℕ, zero, suc, ◌+◌, ◌-◌, ◌*◌, ◌^◌, ◌<◌, ◌≤◌, [], ◌∷◌, Bool, true, false, cond, List, length, refl, sym, ap, subst, ◌∙◌, inl, inr, arith, slice_index, length-set, get_or-set_same, get_or-set_other, if◌then◌else◌}
 use Rattle.std.specs.Prelude.{sum_by, slice_set, replicate}
 use Rattle.std.specs.List.{range_with_len}
 use Rattle.std.proofs.lemmas.Bool.{cases_eq, cases_lt}
 use Rattle.std.proofs.lemmas.List.{get_or_past, get_or-replicate, length-replicate}
-use Rattle.std.proofs.lemmas.List.Edits.{get_or-between}
 use Rattle.std.proofs.lemmas.List.Sums.{sum_by-cons}
 use native.Mathlib.Nat.{mul-le-mul}
 use Rattle.std.proofs.Math.Nat.{mul-add}
 use Rattle.dm_base.specs.declared.limits.TheConstants.{EVENTS, WEIGHT}
-use Rattle.dm_network.specs.Net.{Net, event_at, activity_at, is_change, IsWithinLimits}
+use Rattle.dm_network.specs.Net.{Net, event_at, IsWithinLimits}
 use Rattle.dm_rows.specs.Rows.{RowsValue}
 use Rattle.dm_rows.specs.Cost.{event_cost, charged_weight, missed_weight, cost_charging, is_arrival}
 use Rattle.dm_check_times.specs.Binding.{AreBelowLimit}

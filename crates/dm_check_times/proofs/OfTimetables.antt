@@ -1,5 +1,5 @@
 -- A timetable that is least for its lists is least for the rows that these agree with.
-use Rattle.std.proofs.Common.{◌≡◌, ℕ, ◌^◌, List, Bool, false, length, refl, sym, subst, ◌∙◌, arith, slice_index, Result, Ok, Err}
+use Rattle.std.proofs.Common.{◌≡◌, ℕ, ◌^◌, List, Bool, false, length, sym, subst, ◌∙◌, arith, slice_index, Result, Ok, Err}
 use Rattle.std.specs.Prelude.{OnOk, OnErr}
 use Rattle.dm_graph.specs.Arcs.{HasNoCycle as HasNoCycleOfArcs}
 use Rattle.dm_graph.specs.Graph.{IsLeast as IsLeastOfGraph}

@@ -9,8 +9,6 @@ use Rattle.dm_feed.specs.declared.feed.FeedStop.{FeedStop}
 use Rattle.dm_feed.specs.declared.feed.FeedStop.TheVariants.{End, Fault}
 use Rattle.dm_feed.specs.declared.feed.Next.TheVariants.{Due, Stop}
 use Rattle.dm_feed.specs.declared.grammar.Heard.{Heard}
-use Rattle.dm_feed.specs.declared.grammar.Heard.TheVariants.{Blank, Line as Spoken, Malformed as Unheard}
-use Rattle.dm_feed.specs.Lines.{IsQuiet, Hears}
 use Rattle.dm_feed.specs.Feeds.{ReaderValue, GivesDue, Answers}
 use Rattle.dm_feed.specs.DueItems.{DueItem, item}
 use Rattle.dm_feed.proofs.Imagined.{go_on_giving, stop_seen}
@@ -23,7 +21,7 @@ use Rattle.dm_cert.proofs.Numbers.{last_line, last_number, order_push}
 use Rattle.dm_cert.proofs.TrueLogs.{answers_grow, answers_push, numbers_within}
 use Rattle.dm_desk.specs.Desks.{DeskValue, GoesOn}
 use Rattle.dm_desk.specs.Answered.{times, IsBetween, IsOpen, IsAnswered, AreTrueOf, AnswersMore, HasSize, HasCause, AnswersBatch, HasSeenLegal}
-use Rattle.dm_desk.specs.Inside.Replies.{IsDueHeard, AnswersLine}
+use Rattle.dm_desk.specs.Inside.Replies.{AnswersLine}
 
 -- ---- one line
 

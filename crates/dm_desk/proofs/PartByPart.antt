@@ -3,7 +3,7 @@ use Rattle.std.proofs.Common.{◌≡◌, ℕ, ◌+◌, ◌-◌, ◌<◌, ◌≤�
 use Rattle.std.proofs.lemmas.List.Elements.{All-nil, All-push, All-append, All-head, All-tail}
 use Rattle.std.proofs.lemmas.List.{map-append}
 use Rattle.dm_feed.specs.declared.grammar.Heard.{Heard}
-use Rattle.dm_feed.specs.declared.grammar.Heard.TheVariants.{Blank, Line as Spoken, Malformed as Unheard}
+use Rattle.dm_feed.specs.declared.grammar.Heard.TheVariants.{Blank}
 use Rattle.dm_feed.specs.Lines.{IsQuiet, Hears}
 use Rattle.dm_feed.specs.Feeds.{IsUnended, without_return, ended}
 use Rattle.dm_feed.specs.DueItems.{lines_of, DueItem, item, AreDueItems}
@@ -19,7 +19,7 @@ use Rattle.dm_cert.proofs.TrueLogs.{answers_push, numbers_within}
 use Rattle.dm_desk.specs.Desks.{DeskValue}
 use Rattle.dm_desk.specs.Answered.{times, IsBetween, AreTrueOf, AnswersMore, HasSeenLegal}
 use Rattle.dm_desk.specs.Fed.{IsFed, AnswersLines, AnswersPart}
-use Rattle.dm_desk.specs.Inside.Parts.{IsHeard, PassesQuiet, KeepsAnswer, HandlesLine, HasAnswered}
+use Rattle.dm_desk.specs.Inside.Parts.{PassesQuiet, KeepsAnswer, HandlesLine, HasAnswered}
 use Rattle.dm_desk.proofs.Answering.{goes_nowhere, line_in, line_of_due, follows_between, still_true, more_then}
 
 -- ---- order

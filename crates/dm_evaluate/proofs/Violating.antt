@@ -1,28 +1,24 @@
 -- Which choices a timetable violates, by flags of what is undecided and by rows.
-use Rattle.std.proofs.Common.{◌≡◌, ℕ, ◌-◌, ◌<◌, ◌≤◌, Bool, true, false, ◌&&◌, List, [], ◌++◌, length, map, Some, None, sym, ap, subst, ◌∙◌, arith, slice_index}
-use Rattle.std.specs.Prelude.{filter, slice_get, ◌==◌}
+use Rattle.std.proofs.Common.{◌≡◌, ℕ, ◌-◌, ◌<◌, ◌≤◌, Bool, false, ◌&&◌, List, [], ◌++◌, length, map, Some, None, sym, ap, ◌∙◌, arith}
+use Rattle.std.specs.Prelude.{filter, slice_get}
 use Rattle.std.specs.List.{range_with_len}
-use Rattle.std.proofs.lemmas.Bool.{and_parts, and_from, eq-eqb, eqb-true, both_ways, false_from_ne_true}
+use Rattle.std.proofs.lemmas.Bool.{and_from}
 use Rattle.std.proofs.lemmas.List.{append-nil}
-use Rattle.dm_network.specs.Net.{Net, activity_at, places_out_of}
+use Rattle.dm_network.specs.Net.{Net}
 use Rattle.dm_rows.specs.declared.messages.Choice.{Choice}
 use Rattle.dm_rows.specs.declared.messages.Decision.{Decision}
 use Rattle.dm_rows.specs.Cost.{comes_too_early}
 use Rattle.dm_rows.specs.Decide.{change_choice, pair_choice}
-use Rattle.dm_rows.specs.Relax.{is_of_pair, is_unmet_from, has_unmet_from, is_undecided_change, is_undecided_pair, is_violated_change, is_violated_pair}
+use Rattle.dm_rows.specs.Relax.{is_undecided_change, is_undecided_pair, is_violated_change, is_violated_pair}
 use Rattle.dm_rows.specs.Rows.{RowsValue}
-use Rattle.dm_paths.proofs.Agreeing.{passes_one}
 use Rattle.dm_relax.specs.Relaxed.{first_violated}
-use Rattle.dm_network.proofs.EventRows.{leads_out, stands_out}
 use Rattle.dm_priced.specs.Priced.{is_flagged}
 use Rattle.dm_paths.specs.Flags.{AreFlags}
 use Rattle.dm_evaluate.specs.Inside.Marking.{IsFirst}
 use Rattle.dm_evaluate.specs.Inside.Violations.{violated_from, violated_pair_from}
-use Rattle.dm_paths.specs.RowsRead.{NoneUnmet}
 use Rattle.dm_paths.specs.Decisions.{is_unmet_pair}
 use Rattle.dm_evaluate.proofs.Behind.{first_passing, none_passing}
-use Rattle.dm_paths.proofs.Paths.{one_passes}
-use Rattle.dm_paths.proofs.Violating.{in_range, range_below, violated_change_by, violated_pair_by}
+use Rattle.dm_paths.proofs.Violating.{violated_change_by, violated_pair_by}
 
 -- what is first flagged and passes a test from a place on is listed first, of what is listed by both
 pub first_is_listed : (choice : ℕ → Choice) (violated test : ℕ → Bool) (flags : List Bool) (rest : List Choice) (first n place : ℕ) →

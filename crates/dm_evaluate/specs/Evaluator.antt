@@ -1,11 +1,11 @@
 -- What contracts see of an evaluator, and what holds of it between its moves.
-use Rattle.std.specs.Prelude.{ℕ, ◌≡◌, ◌+◌, Bool, not, List, length, filter, Option, Some, slice_get}
+use Rattle.std.specs.Prelude.{ℕ, Bool, not, List, length, filter}
 use Rattle.dm_live.specs.Live.{IsAtRest}
 use Rattle.dm_network.specs.Net.{Net}
 use Rattle.dm_rows.specs.declared.messages.Choice.{Choice}
 use Rattle.dm_rows.specs.declared.messages.Decision.{Decision}
 use Rattle.dm_rows.specs.Decide.{IsChoiceList, choice_of}
-use Rattle.dm_rows.specs.Relax.{is_same_choice, is_undecided_change, is_undecided_pair, violated_choices_of}
+use Rattle.dm_rows.specs.Relax.{is_same_choice, is_undecided_change, is_undecided_pair}
 use Rattle.dm_rows.specs.Rows.{RowsValue, IsSized}
 use Rattle.dm_priced.specs.Priced.{PricedValue}
 use Rattle.dm_evaluate.specs.Evaluating.{Evaluates}

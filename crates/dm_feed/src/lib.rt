@@ -1,8 +1,8 @@
 //! The lines of feeds, both ways, and the reader of a feed.
 //!
-//! It stands on dm_rows for messages, on dm_outside for sources, sinks and pages, and on dm_base for numbers. A line is a list of
-//! parts, which are words and numbers, by the tables of `specs/Lines`. Each call promises what its clauses say in the words of
-//! `specs/`; `specs/Inside` need not be believed.
+//! It stands on dm_rows for messages, on dm_outside for sources, sinks and pages, on dm_base for numbers, and on `memchr` for the
+//! ends of lines. A line is a list of parts, which are words and numbers, by the tables of `specs/Lines`. Each call promises what
+//! its clauses say in the words of `specs/`; `specs/Inside` need not be believed.
 //!
 //! # What is promised
 //!

@@ -1,5 +1,5 @@
 -- A line is taken: what was read before it, and what comes behind.
-use Rattle.std.proofs.Common.{◌≡◌, ℕ, ◌+◌, ◌-◌, ◌<◌, ◌≤◌, Bool, true, false, List, [], ◌∷◌, ◌++◌, length, Result, Ok, Err, Option, Some, None, IfOk, IfErr, OnOk, OnErr, refl, sym, ap, subst, ◌∙◌, arith, append_assoc}
+use Rattle.std.proofs.Common.{◌≡◌, ℕ, ◌+◌, ◌-◌, ◌<◌, ◌≤◌, Bool, true, false, List, [], ◌∷◌, ◌++◌, length, Result, Ok, Err, Some, None, IfOk, IfErr, OnOk, OnErr, refl, sym, ap, subst, arith, append_assoc}
 use Rattle.dm_base.specs.declared.limits.TheConstants.{PENALTY}
 use Rattle.dm_network.specs.Net.{Net}
 use Rattle.dm_rows.specs.declared.messages.Entry.{Entry}
@@ -15,9 +15,8 @@ use Rattle.dm_table.specs.Answers.{RefusesPost}
 use Rattle.dm_table.specs.Value.{TableValue, IsTable}
 use Rattle.dm_follow.specs.declared.faults.FollowKind.TheVariants as kind
 use Rattle.dm_follow.specs.declared.stages.Stage.{Stage}
-use Rattle.dm_follow.specs.declared.stages.Stage.TheVariants.{Version, Penalty, Feeds, Entries, Journal, Failed}
-use Rattle.dm_follow.specs.Journals.{IsNextEntry}
-use Rattle.dm_follow.specs.Inside.Reading.{StepsHeader, IsInHeader, header_line, HasEntered, IsAtEntry, behind_entries, IsReadTo, IsInTurn, SameDay, KeepsEntries, PostsEntry, PostsNone, Posts, EntersNext, EntersNone, Enters, HasCause, AnswersPost, Advances, AdvancesHeader, stage_after}
+use Rattle.dm_follow.specs.declared.stages.Stage.TheVariants.{Journal, Failed}
+use Rattle.dm_follow.specs.Inside.Reading.{StepsHeader, IsInHeader, header_line, HasEntered, IsAtEntry, behind_entries, IsReadTo, KeepsEntries, Posts, Enters, HasCause, AnswersPost, Advances, AdvancesHeader, stage_after}
 use Rattle.dm_follow.proofs.HeaderSteps.{header_goes, header_fails}
 use Rattle.dm_follow.proofs.EntrySteps.{entry_goes, entry_broken, entry_misshapen}
 use Rattle.dm_follow.proofs.Taken.{same_day}

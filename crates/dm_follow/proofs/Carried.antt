@@ -1,8 +1,8 @@
 -- The history that bytes carry, where the reading of the journal's lines has come to an end of some kind.
-use Rattle.std.proofs.Common.{◌≡◌, ℕ, zero, suc, ◌+◌, ◌-◌, ◌<◌, ◌≤◌, ◌⊎◌, List, [], ◌∷◌, ◌++◌, length, All, Result, Ok, Err, refl, sym, ap, subst, ◌∙◌, inl, inr, arith, append_assoc, append-nil}
+use Rattle.std.proofs.Common.{◌≡◌, ℕ, suc, ◌+◌, ◌-◌, ◌<◌, ◌≤◌, List, [], ◌++◌, length, All, Result, Ok, Err, sym, ap, subst, ◌∙◌, inl, inr, arith}
 use Rattle.std.proofs.lemmas.Bool.{cases_lt}
 use Rattle.dm_text.specs.Places.{Place, at_start}
-use Rattle.dm_text.specs.Judging.{Times, Then}
+use Rattle.dm_text.specs.Judging.{Times}
 use Rattle.dm_network.specs.Net.{Net}
 use Rattle.dm_rows.specs.declared.messages.Entry.{Entry}
 use Rattle.dm_rows.specs.Rows.{RowsValue}
@@ -12,7 +12,7 @@ use Rattle.dm_cert.specs.RunTexts.{header_text, entries_text}
 use Rattle.dm_follow.specs.Journals.{Halt, Header, header, TellsHeader, TellsEntry, TellsJournal}
 use Rattle.dm_follow.specs.Followed.{IsEntryOf, StandsIn, Carries, IsFollowed}
 use Rattle.dm_follow.specs.Inside.Reading.{HasEntered}
-use Rattle.dm_follow.proofs.Chains.{goes_on, times_then, times_front, times_grow}
+use Rattle.dm_follow.proofs.Chains.{goes_on, times_then, times_front}
 use Rattle.dm_follow.proofs.Single.{header_once, entry_once, times_once}
 use Rattle.dm_follow.proofs.Written.{header_there, header_told, entries_there, entries_told}
 

@@ -1,10 +1,8 @@
 -- Followed histories are one, and those of the fronts of a run's text are fronts of the run's.
-use Rattle.std.proofs.Common.{◌≡◌, ℕ, ◌+◌, ◌-◌, ◌<◌, ◌≤◌, ◌⊎◌, List, [], ◌∷◌, ◌++◌, length, take, Some, All, Result, Ok, Err, refl, sym, ap, subst, ◌∙◌, inl, inr, arith, append_assoc, append-nil, length-append, slice_get}
+use Rattle.std.proofs.Common.{◌≡◌, ℕ, ◌+◌, ◌-◌, ◌≤◌, List, [], ◌∷◌, ◌++◌, length, take, All, Result, Ok, Err, refl, sym, ap, subst, ◌∙◌, inl, inr, arith, append_assoc, length-append}
 use Rattle.std.specs.Prelude.{count_by}
 use Rattle.std.specs.List.{flat_map}
-use Rattle.std.proofs.Math.Seq.{take-append_seam, take-length, get_or-append_seam}
-use Rattle.std.proofs.lemmas.Bool.{cases_lt}
-use Rattle.std.proofs.lemmas.Option.{slice_get-get_or}
+use Rattle.std.proofs.Math.Seq.{take-append_seam, take-length}
 use Rattle.std.proofs.lemmas.List.Elements.{All-nil, All-cons}
 use Rattle.dm_outside.specs.Printing.{joined}
 use Rattle.dm_text.specs.Places.{Place, at_start}
@@ -13,20 +11,20 @@ use Rattle.dm_network.specs.Net.{Net}
 use Rattle.dm_rows.specs.declared.messages.Entry.{Entry}
 use Rattle.dm_rows.specs.Rows.{RowsValue}
 use Rattle.dm_cert.specs.declared.replies.FeedLog.{FeedLog}
-use Rattle.dm_cert.specs.Answers.{Setting, IsEntry}
+use Rattle.dm_cert.specs.Answers.{Setting}
 use Rattle.dm_cert.specs.Logs.{names, all_items, AreTrueLogs}
 use Rattle.dm_cert.specs.PlanTexts.{largest_cost}
 use Rattle.dm_cert.specs.RunTexts.{Run, run_text, header_text, entries_text, logs_text, boards_text, note_text, heading_text, timetable_text, ending_text, FitsEntry}
 use Rattle.dm_cert.specs.Runs.{setting_of, IsTextOf}
 use Rattle.dm_follow.specs.declared.faults.FollowKind.{FollowKind}
-use Rattle.dm_follow.specs.Journals.{Halt, broken, TellsJournal, TellsEntry, IsFrontFault, HasNoFrontFault}
-use Rattle.dm_follow.specs.Followed.{IsEntryOf, StandsIn, Carries, IsFollowed}
-use Rattle.dm_follow.specs.Laws.{FollowedIsOne, IsFrontOf, FrontsAreFollowed}
+use Rattle.dm_follow.specs.Journals.{Halt, broken, TellsEntry, IsFrontFault, HasNoFrontFault}
+use Rattle.dm_follow.specs.Followed.{IsEntryOf, StandsIn, Carries}
+use Rattle.dm_follow.specs.Laws.{FollowedIsOne, FrontsAreFollowed}
 use Rattle.dm_follow.proofs.Chains.{times_front, times_grow}
 use Rattle.dm_follow.proofs.Single.{journal_once, times_once}
 use Rattle.dm_follow.proofs.Carried.{ok_same, ok_or_err, stands_told, same_header, ends_there}
-use Rattle.dm_records.proofs.Each.{Each, each_of_splits, all_there}
-use Rattle.dm_records.proofs.Named.{IsTrueBehind, CameSomehow, named_somewhere, logs_behind, same_entry}
+use Rattle.dm_records.proofs.Each.{all_there}
+use Rattle.dm_records.proofs.Named.{named_somewhere, logs_behind, same_entry}
 use Rattle.dm_follow.proofs.Longer.{fault_stays}
 
 -- ---- two histories that one text carries

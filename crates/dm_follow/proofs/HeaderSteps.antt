@@ -1,7 +1,7 @@
 -- A line of the header is taken.
-use Rattle.std.proofs.Common.{◌≡◌, ℕ, zero, suc, ◌+◌, ◌<◌, ◌≤◌, ◌⊎◌, List, [], ◌∷◌, ◌++◌, length, Result, Ok, Err, Option, Some, None, refl, sym, ap, subst, ◌∙◌, inl, inr, arith, append_assoc, append-nil, codes}
+use Rattle.std.proofs.Common.{◌≡◌, ℕ, ◌+◌, ◌≤◌, List, [], ◌∷◌, ◌++◌, length, Result, Ok, Err, Some, None, refl, sym, ap, subst, inl, inr, arith, append_assoc, append-nil, codes}
 use Rattle.std.proofs.lemmas.List.Elements.{All-nil}
-use Rattle.dm_text.specs.Places.{Place, at_start, IsLineAt, IsCutAt, HasNoLineFeed}
+use Rattle.dm_text.specs.Places.{Place, at_start, IsLineAt, HasNoLineFeed}
 use Rattle.dm_text.specs.Judging.{Times}
 use Rattle.dm_network.specs.Net.{Net}
 use Rattle.dm_rows.specs.declared.messages.Entry.{Entry}
@@ -12,9 +12,9 @@ use Rattle.dm_follow.specs.declared.faults.FollowKind.{FollowKind}
 use Rattle.dm_follow.specs.declared.faults.FollowKind.TheVariants as kind
 use Rattle.dm_follow.specs.declared.stages.Stage.{Stage}
 use Rattle.dm_follow.specs.declared.stages.Stage.TheVariants.{Version, Penalty, Feeds, Entries, Journal, Failed}
-use Rattle.dm_follow.specs.Journals.{Halt, unended, broken, Header, header, Reads, Rules, TellsHeader, TellsPenalty, TellsFeeds, TellsEntry, TellsJournal}
+use Rattle.dm_follow.specs.Journals.{Halt, broken, Header, header, Reads, Rules, TellsHeader, TellsPenalty, TellsFeeds, TellsEntry}
 use Rattle.dm_follow.specs.Followed.{IsLastPart}
-use Rattle.dm_follow.specs.Inside.Reading.{HeaderFrom, header_line, IsInHeader, StepsHeader, IsAtHeader, IsAtEntry, HasEntered, behind_entries, HasFailed, IsReadTo}
+use Rattle.dm_follow.specs.Inside.Reading.{HeaderFrom, header_line, IsInHeader, StepsHeader, IsAtHeader, IsAtEntry, behind_entries, HasFailed, IsReadTo}
 use Rattle.dm_follow.proofs.Chains.{goes_on}
 use Rattle.dm_follow.proofs.Carried.{no_header}
 

@@ -1,5 +1,5 @@
 -- What is told of whole lines stays so whatever bytes come behind them.
-use Rattle.std.proofs.Common.{◌≡◌, ℕ, zero, suc, ◌≤◌, List, [], ◌∷◌, ◌++◌, Result, Ok, Err, refl, sym, ap, ◌∙◌, inl, inr, append_assoc, codes}
+use Rattle.std.proofs.Common.{◌≡◌, ℕ, zero, suc, ◌≤◌, List, [], ◌∷◌, ◌++◌, Result, Ok, Err, ap, ◌∙◌, inl, inr, append_assoc, codes}
 use Rattle.dm_text.specs.Places.{Place, at_start, IsLineAt}
 use Rattle.dm_text.specs.Judging.{Then, Times, Demands}
 use Rattle.dm_network.specs.Net.{Net}

@@ -1,5 +1,5 @@
 -- What is told of a journal's lines is one thing alone.
-use Rattle.std.proofs.Common.{◌≡◌, ℕ, ◌≤◌, List, [], Result, codes}
+use Rattle.std.proofs.Common.{◌≡◌, ℕ, ◌≤◌, List, [], codes}
 use Rattle.dm_base.specs.declared.limits.TheConstants.{FEEDS, ENTRIES}
 use Rattle.dm_text.specs.Judging.{Demands, Times, IsSingle}
 use Rattle.dm_text.proofs.Judged.{SpellOne, line_one, then_one, demands_one, times_one}

@@ -1,16 +1,13 @@
 -- What a follower holds and answers, and how it goes on.
-use Rattle.std.proofs.Common.{◌≡◌, ℕ, ◌+◌, ◌<◌, ◌≤◌, ◌⊎◌, Bool, true, false, cond, ltb, List, [], ◌∷◌, ◌++◌, ◌-◌, length, All, Result, Ok, Err, OnOk, OnErr, IfErr, refl, sym, ap, subst, ◌∙◌, inl, inr, arith, append_assoc, append-nil, length-append}
+use Rattle.std.proofs.Common.{◌≡◌, ℕ, ◌+◌, ◌<◌, ◌≤◌, Bool, true, false, cond, ltb, List, [], ◌∷◌, ◌++◌, ◌-◌, length, Result, Ok, Err, OnOk, OnErr, IfErr, refl, sym, ap, subst, ◌∙◌, inl, inr, arith, append_assoc, append-nil, length-append}
 use Rattle.std.proofs.lemmas.Bool.{ltb-true, ltb-false}
 use Rattle.std.proofs.lemmas.List.Elements.{All-nil, All-append}
-use Rattle.dm_base.specs.declared.limits.TheConstants.{PENALTY}
-use Rattle.dm_text.specs.Places.{Place, at_start, HasNoLineFeed, IsCutAt}
-use Rattle.dm_text.specs.Judging.{Line, Then}
+use Rattle.dm_text.specs.Places.{Place, at_start, HasNoLineFeed}
 use Rattle.dm_network.specs.Net.{Net}
 use Rattle.dm_rows.specs.declared.messages.Entry.{Entry}
 use Rattle.dm_rows.specs.Rows.{RowsValue}
 use Rattle.dm_rows.specs.History.{IsLegal}
 use Rattle.dm_cert.specs.PlanTexts.{largest_cost}
-use Rattle.dm_records.specs.RunLines.{IsNumberLine, IsVersionLine, IsEntryLine}
 use Rattle.dm_table.specs.Value.{TableValue, IsTable}
 use Rattle.dm_follow.specs.declared.faults.FollowKind.{FollowKind}
 use Rattle.dm_follow.specs.declared.faults.FollowKind.TheVariants as kind
@@ -20,14 +17,14 @@ use Rattle.dm_follow.specs.declared.faults.Tail.TheVariants as tail
 use Rattle.dm_follow.specs.declared.faults.TheConstants.{NO_MEMORY}
 use Rattle.dm_follow.specs.declared.stages.Stage.{Stage}
 use Rattle.dm_follow.specs.declared.stages.Stage.TheVariants.{Version, Penalty, Feeds, Entries, Journal, Failed}
-use Rattle.dm_follow.specs.Journals.{Halt, unended, broken, Reads, TellsHeader, TellsEntry, TellsJournal, IsFrontFault, HasNoFrontFault}
-use Rattle.dm_follow.specs.Followed.{IsFollowed, IsLastPart, IsTail, IsTorn}
+use Rattle.dm_follow.specs.Journals.{Halt, unended, broken, TellsHeader, TellsEntry, HasNoFrontFault}
+use Rattle.dm_follow.specs.Followed.{IsFollowed, IsLastPart, IsTail}
 use Rattle.dm_follow.specs.Follower.{FollowerValue, IsFailedTail, tail_at, tail_of, Follows, IsAnswer, AnswersTaken, TakesPiece}
-use Rattle.dm_follow.specs.Inside.Reading.{HeaderFrom, header_line, IsAtHeader, IsAtEntry, HasEntered, behind_entries, HasFailed, IsRuleKind, IsReadTo, SameDay, Advances}
+use Rattle.dm_follow.specs.Inside.Reading.{HeaderFrom, header_line, IsAtHeader, IsAtEntry, HasEntered, behind_entries, HasFailed, IsReadTo, SameDay, Advances}
 use Rattle.dm_follow.specs.Inside.Moving.{IsLive, IsFaultOf, AnswersStage, ReadTo, Goes, EndsWith, TakesFront}
 use Rattle.dm_follow.proofs.Single.{journal_once}
 use Rattle.dm_follow.proofs.Carried.{no_header, followed_to, followed_all, halts_there, ends_there}
-use Rattle.dm_follow.proofs.HeaderSteps.{here_at, part_ends}
+use Rattle.dm_follow.proofs.HeaderSteps.{here_at}
 
 -- ---- what is held
 

@@ -1,22 +1,19 @@
 -- The lines of a journal in print: what is told where they stand, and how they stand where they are told.
-use Rattle.std.proofs.Common.{◌≡◌, ℕ, zero, suc, ◌+◌, ◌<◌, ◌≤◌, List, [], ◌∷◌, ◌++◌, length, fold, get_or, Some, All, Result, Ok, refl, sym, ap, subst, ◌∙◌, inl, inr, arith, append_assoc, append-nil, length-append, codes, slice_get}
+use Rattle.std.proofs.Common.{◌≡◌, ℕ, zero, suc, ◌+◌, ◌≤◌, List, [], ◌∷◌, ◌++◌, length, fold, All, Ok, refl, sym, ap, subst, ◌∙◌, arith, append_assoc, append-nil, length-append, codes}
 use Rattle.std.specs.Fmt.{decimal}
-use Rattle.std.proofs.Math.Seq.{get_or-append_seam, take-append_seam, take-length}
-use Rattle.std.proofs.lemmas.Option.{slice_get-get_or}
+use Rattle.std.proofs.Math.Seq.{take-append_seam, take-length}
 use Rattle.std.proofs.lemmas.List.Elements.{All-nil, All-cons, All-head, All-tail}
 use Rattle.dm_base.specs.declared.limits.TheConstants.{FEEDS, ENTRIES}
 use Rattle.dm_text.specs.Places.{Place}
-use Rattle.dm_text.specs.Judging.{Times, Demands}
+use Rattle.dm_text.specs.Judging.{Times}
 use Rattle.dm_network.specs.Net.{Net}
 use Rattle.dm_rows.specs.declared.messages.Entry.{Entry}
-use Rattle.dm_rows.specs.declared.messages.Refusal.{Refusal}
 use Rattle.dm_rows.specs.Rows.{RowsValue}
 use Rattle.dm_rows.specs.Refuse.{Refuses}
 use Rattle.dm_rows.specs.Resolve.{after}
 use Rattle.dm_rows.specs.History.{rows_at, IsLegal}
-use Rattle.dm_feed.specs.Parts.{largest_id}
 use Rattle.dm_cert.specs.PlanTexts.{line_end, largest_cost, IsVersion}
-use Rattle.dm_cert.specs.RunTexts.{header_text, entry_text, entries_text, FitsEntry}
+use Rattle.dm_cert.specs.RunTexts.{header_text, entry_text, entries_text}
 use Rattle.dm_cert.proofs.Holding.{get_at}
 use Rattle.dm_cert.proofs.SpelledPlans.{HasLine, line_stands}
 use Rattle.dm_cert.proofs.ToldTexts.{line_told}
@@ -24,7 +21,7 @@ use Rattle.dm_records.specs.RunLines.{Numbered, IsNumberLine, IsVersionLine, IsE
 use Rattle.dm_records.proofs.LinesSpelled.{counted, numbered, number_line, version_line, version_has_line, entry_line}
 use Rattle.dm_follow.specs.declared.faults.FollowKind.{FollowKind}
 use Rattle.dm_follow.specs.declared.faults.FollowKind.TheVariants as kind
-use Rattle.dm_follow.specs.Journals.{Halt, broken, Header, header, Reads, Rules, TellsHeader, TellsPenalty, TellsFeeds, TellsEntries, IsNextEntry, TellsEntry}
+use Rattle.dm_follow.specs.Journals.{Halt, Header, header, Reads, Rules, TellsHeader, IsNextEntry, TellsEntry}
 use Rattle.dm_follow.specs.Followed.{IsEntryOf}
 
 -- ---- lines that stand

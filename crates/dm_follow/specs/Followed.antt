@@ -1,5 +1,5 @@
 -- Which history bytes carry at their front, and what they have of a journal's lines.
-use Rattle.std.specs.Prelude.{ℕ, ◌≡◌, ◌≤◌, ◌⊎◌, List, [], ◌∷◌, ◌++◌, length, All, Result, Ok, Err}
+use Rattle.std.specs.Prelude.{ℕ, ◌≡◌, ◌≤◌, ◌⊎◌, List, [], ◌∷◌, ◌++◌, length, All, Ok, Err}
 use Rattle.dm_base.specs.declared.limits.TheConstants.{FEEDS, ENTRIES}
 use Rattle.dm_text.specs.Places.{Place, at_start, HasNoLineFeed}
 use Rattle.dm_network.specs.Net.{Net}

@@ -1,5 +1,5 @@
 -- What contracts see of a follower, and what it promises of the bytes that it has taken.
-use Rattle.std.specs.Prelude.{ℕ, ◌≡◌, ◌+◌, ◌<◌, if◌then◌else◌, nat_lt, List, [], ◌∷◌, ◌++◌, length, Result, Ok, Err, OnOk}
+use Rattle.std.specs.Prelude.{ℕ, ◌≡◌, ◌+◌, if◌then◌else◌, nat_lt, List, [], ◌++◌, length, Result, Ok, Err, OnOk}
 use Rattle.dm_network.specs.Net.{Net}
 use Rattle.dm_rows.specs.Rows.{RowsValue}
 use Rattle.dm_table.specs.Value.{TableValue, IsTable}

@@ -1,6 +1,6 @@
 -- The lines of a journal at the front of a run's text, in either version, and what is told of them: the entries, or the first line
 -- that is not whole with its LF, or the first that breaks its rule.
-use Rattle.std.specs.Prelude.{ℕ, ◌≡◌, ◌+◌, ◌≤◌, List, [], length, codes, Result, Ok, Err}
+use Rattle.std.specs.Prelude.{ℕ, ◌≡◌, ◌+◌, ◌≤◌, List, [], length, codes, Result, Err}
 use Rattle.dm_base.specs.declared.limits.TheConstants.{FEEDS, ENTRIES}
 use Rattle.dm_text.specs.Places.{Place, at_start}
 use Rattle.dm_text.specs.Judging.{Line, Then, Times, Demands}

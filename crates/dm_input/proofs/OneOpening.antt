@@ -10,8 +10,6 @@ use Rattle.dm_base.specs.declared.ids.ActId.{ActId}
 use Rattle.dm_lintim.specs.declared.fault.FileFault.{FileFault}
 use Rattle.dm_lintim.specs.Files.{ReadsEvents, ReadsActivities, ReadsDelays}
 use Rattle.dm_lintim.proofs.LawLemmas.{events_one, activities_one, delays_one}
-use Rattle.dm_network.specs.declared.parts.NetFault.{NetFault}
-use Rattle.dm_network.specs.declared.parts.NetFault.TheVariants.{TooMany, DoubleEvent, DoubleActivity, UnknownEvent as NamesUnknown, ZeroHeadway, Cycle, OutOfMemory as NoNetworkMemory}
 use Rattle.dm_network.specs.Net.{Net}
 use Rattle.dm_rows.specs.declared.messages.StartFault.{StartFault}
 use Rattle.dm_rows.specs.declared.messages.StartFault.TheVariants.{UnknownEvent, UnknownActivity, OutOfMemory}

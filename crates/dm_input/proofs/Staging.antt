@@ -4,11 +4,11 @@ use Rattle.dm_base.specs.declared.rows.EventRow.{EventRow}
 use Rattle.dm_base.specs.declared.rows.ActRow.{ActRow}
 use Rattle.dm_base.specs.declared.rows.DelayRow.{DelayRow}
 use Rattle.dm_lintim.specs.declared.fault.FileFault.{FileFault}
-use Rattle.dm_lintim.specs.Files.{ReadsEvents, ReadsActivities, ReadsDelays}
+use Rattle.dm_lintim.specs.Files.{ReadsActivities, ReadsDelays}
 use Rattle.dm_network.specs.Net.{Net}
 use Rattle.dm_rows.specs.Rows.{RowsValue}
 use Rattle.dm_input.specs.declared.flaws.File.{File}
-use Rattle.dm_input.specs.declared.flaws.File.TheVariants.{Events, Activities, EventDelays, ActivityDelays}
+use Rattle.dm_input.specs.declared.flaws.File.TheVariants.{Activities, EventDelays, ActivityDelays}
 use Rattle.dm_input.specs.declared.flaws.InputFlaw.{InputFlaw}
 use Rattle.dm_input.specs.declared.flaws.InputFlaw.TheVariants.{InFile, Network, Start}
 use Rattle.dm_input.specs.declared.flaws.InputStop.{InputStop}

@@ -1,5 +1,5 @@
 -- What holds of all items in memory.
-use Rattle.std.specs.Prelude.{ℕ, ◌<◌, ◌^◌, List, length, All}
+use Rattle.std.specs.Prelude.{◌<◌, ◌^◌, List, length, All}
 use Rattle.dm_cert.specs.declared.replies.LogItem.{LogItem}
 use Rattle.dm_cert.specs.RunTexts.{FitsItem}
 use Rattle.dm_records.specs.Laws.{IsHeldItem}

@@ -19,7 +19,6 @@ use Rattle.dm_rows.specs.Timetable.{floor_of, span_of, planned_time}
 use Rattle.dm_rows.specs.Sides.{first_decision, second_decision}
 use Rattle.dm_rows.specs.Decide.{choice_of, change_choice, pair_choice, is_free_change, is_free_pair}
 use Rattle.dm_rows.specs.Relax.{is_same_choice, is_decided, is_undecided_change, is_undecided_pair, is_of_undecided}
-use Rattle.dm_paths.specs.Decisions.{change_decision, pair_decision}
 use Rattle.dm_rows.proofs.Sides.{same_choice, is_either}
 use Rattle.dm_paths.proofs.Setting.{DiffersInDecisions, HasDecision, has_kept, has_first}
 

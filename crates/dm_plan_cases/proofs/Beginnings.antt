@@ -1,11 +1,10 @@
 -- A part of a true plan is a start of a search.
-use Rattle.std.proofs.Common.{◌≡◌, ℕ, ◌+◌, ◌<◌, ◌≤◌, List, [], ◌∷◌, ◌++◌, length, map, get_or, refl, sym, ap, subst, ◌∙◌, ◌⊎◌, inl, inr, arith, append_assoc, append-nil}
-use Rattle.std.specs.Prelude.{Contains, All, slice_get, Some}
+use Rattle.std.proofs.Common.{◌≡◌, ℕ, ◌+◌, ◌<◌, ◌≤◌, List, [], ◌∷◌, ◌++◌, length, refl, sym, ap, subst, ◌∙◌, ◌⊎◌, inl, inr, arith, append_assoc, append-nil}
+use Rattle.std.specs.Prelude.{Contains}
 use Rattle.std.proofs.lemmas.List.Elements.{Contains-append_cases, All-cons, All-nil}
 use Rattle.std.proofs.lemmas.Option.{slice_get_within}
 use Rattle.dm_network.specs.Net.{Net}
 use Rattle.dm_rows.specs.declared.messages.Decision.{Decision}
-use Rattle.dm_rows.specs.declared.messages.Choice.{Choice}
 use Rattle.dm_rows.specs.Rows.{RowsValue}
 use Rattle.dm_rows.specs.Active.{HasNoCycle, is_active}
 use Rattle.dm_rows.specs.Timetable.{IsLeast}
@@ -16,8 +15,8 @@ use Rattle.dm_tree.specs.declared.forms.Node.{Node}
 use Rattle.dm_tree.specs.declared.forms.Node.TheVariants.{Inner, Cycle, Bound, Open, Hole}
 use Rattle.dm_tree.specs.declared.forms.Leaf.{Leaf}
 use Rattle.dm_tree.specs.declared.plans.Plan.{Plan}
-use Rattle.dm_tree.specs.Trees.{Shape, leaf, branch, preorder, IsLeaf, IsProper, StandsAt, leaves_below, leaves_of, AreLeavesOf, HasLeaves, IsLeastTree, Assembles}
-use Rattle.dm_tree.specs.Plans.{Task, whole_task, CostsWith, IsTruePlan, IsViolatedThere}
+use Rattle.dm_tree.specs.Trees.{Shape, leaf, branch, preorder, IsLeaf, IsProper, StandsAt, leaves_below, leaves_of, AreLeavesOf, HasLeaves, Assembles}
+use Rattle.dm_tree.specs.Plans.{whole_task, CostsWith, IsTruePlan}
 use Rattle.dm_tree.specs.Inside.Filling.{leaves_due}
 use Rattle.dm_tree.proofs.Filled.{leaves_filled}
 use Rattle.dm_tree.proofs.Shown.{one_least}

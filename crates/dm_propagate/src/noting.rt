@@ -18,7 +18,7 @@ use std::sync::ledger::Ledger;
 
 /// What a sweep began with: the times, what was noted, and the name by which the notes are lent. Each call that starts one
 /// picks it.
-pub trait Opening {
+pub trait SweepStart {
     ghost use Rattle.std.specs.Prelude.{ℕ, Bool, List};
 
     ghost times: { List ℕ };
@@ -28,7 +28,7 @@ pub trait Opening {
     ghost name: { ℕ };
 }
 
-impl Opening for Brand {
+impl SweepStart for Brand {
     ghost use Rattle.std.specs.Prelude.{[]};
 
     ghost times = { [] };
@@ -45,7 +45,7 @@ struct Noting<'m, P> {
     of: PhantomData<P>,
 }
 
-impl<P: Opening> Watcher for Noting<'_, P> {
+impl<P: SweepStart> Watcher for Noting<'_, P> {
     ghost use Rattle.std.specs.Prelude.{[]};
     ghost use Rattle.dm_propagate.specs.Inside.Noting.{IsNotedSince};
 
@@ -105,7 +105,7 @@ pub fn settle_noted<L: Ledger>(
 }
 
 // The same, where what the sweep begins with is picked.
-fn settle_from<L: Ledger, P: Opening>(
+fn settle_from<L: Ledger, P: SweepStart>(
     priced: &mut PricedTimetable,
     net: &Network,
     noting: &mut Noting<'_, P>,

@@ -1,18 +1,15 @@
 -- Listed events, and times that were published last.
-use Rattle.std.proofs.Common.{◌≡◌, ℕ, ◌+◌, ◌<◌, ◌≤◌, ◌⊎◌, List, [], ◌∷◌, ◌++◌, length, get_or, set, refl, sym, ap, subst, ◌∙◌, inl, inr, arith}
+use Rattle.std.proofs.Common.{◌≡◌, ℕ, ◌+◌, ◌<◌, ◌≤◌, List, [], ◌∷◌, ◌++◌, length, get_or, refl, sym, ap, subst, ◌∙◌, inl, inr, arith}
 use Rattle.std.specs.Prelude.{All, Contains}
 use Rattle.std.specs.List.{range_with_len}
-use Rattle.std.proofs.lemmas.Bool.{cases_eq}
-use Rattle.std.proofs.lemmas.Grind.{same_number_lists}
-use Rattle.std.proofs.lemmas.List.{get_or-map, get_or_default, length-map, length-set, get_or-set_same, get_or-set_other}
+use Rattle.std.proofs.lemmas.List.{get_or-map, get_or_default, length-map}
 use Rattle.std.proofs.lemmas.List.Elements.{All-map, Contains-get_or}
 use Rattle.std.proofs.lemmas.List.FromFn.{length-range_with_len, get_or-range_with_len, length-map-range_with_len, map-range_with_len_more}
 use Rattle.std.proofs.lemmas.List.Sorted.{All-permutation, Contains-permutation, length_permutation}
-use Rattle.dm_rows.specs.Timetable.{time_at}
 use Rattle.dm_network.specs.Net.{Net, event_at}
 use Rattle.dm_marks.specs.Moved.{ListsMoved}
 use Rattle.dm_publish.specs.declared.changes.Listed.{Listed}
-use Rattle.dm_publish.specs.Inside.Changes.{no_listed, place_at, StandsFrom, StandsIn, ListsChanges, AreWritten}
+use Rattle.dm_publish.specs.Inside.Changes.{no_listed, StandsIn, ListsChanges}
 use Rattle.dm_publish.specs.Inside.Grouping.{listed_at, lists, AreListed, AreGrouped}
 
 -- ---- events that are listed

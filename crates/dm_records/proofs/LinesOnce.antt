@@ -16,7 +16,7 @@ use Rattle.dm_cert.specs.RunTexts.{spaced_id}
 use Rattle.dm_cert.proofs.Options.{none_some, some_pair}
 use Rattle.dm_cert.proofs.HeadingsRead.{reads_heading, heading_spelled, front_text}
 use Rattle.dm_cert.specs.Inside.PlanLines.{heading_in}
-use Rattle.dm_records.specs.RunLines.{Numbered, Opening, Timed, IsNumberLine, IsVersionLine, IsEntryLine, IsOpeningLine, IsItemLine, IsStopLine, IsNoteLine, IsTimeLine}
+use Rattle.dm_records.specs.RunLines.{Numbered, LogOpening, Timed, IsNumberLine, IsVersionLine, IsEntryLine, IsOpeningLine, IsItemLine, IsStopLine, IsNoteLine, IsTimeLine}
 use Rattle.dm_records.specs.Laws.{SpellsOne, LinesSpellOne}
 use Rattle.dm_records.specs.declared.kinds.TheConstants.{TOLD, FREE}
 use Rattle.dm_records.specs.declared.kinds.ToldKind.{ToldKind}
@@ -64,7 +64,7 @@ two_once fs make a b c d line p q s t =
     let second = head_same b d [] [] (tail_same a c (b ∷ []) (d ∷ []) same) in
     ap (λ n. make n b) first ∙ ap (λ n. make c n) second
 
-abbrev opening_of : ℕ → ℕ → Opening
+abbrev opening_of : ℕ → ℕ → LogOpening
 opening_of feed items = record { feed = feed; items = items }
 
 opening_once : SpellsOne IsOpeningLine

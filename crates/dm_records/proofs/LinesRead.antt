@@ -16,7 +16,7 @@ use Rattle.dm_cert.specs.PlanTexts.{line_end, largest_cost, IsVersion}
 use Rattle.dm_cert.specs.RunTexts.{entry_text, stop_text, note_text}
 use Rattle.dm_cert.specs.declared.notes.Note.{Note}
 use Rattle.dm_cert.proofs.Options.{none_some, some_pair}
-use Rattle.dm_records.specs.RunLines.{Numbered, Opening, Timed, IsNumberLine, IsVersionLine, IsEntryLine, IsOpeningLine, IsStopLine, IsNoteLine, IsTimeLine}
+use Rattle.dm_records.specs.RunLines.{Numbered, LogOpening, Timed, IsNumberLine, IsVersionLine, IsEntryLine, IsOpeningLine, IsStopLine, IsNoteLine, IsTimeLine}
 use Rattle.dm_records.specs.Inside.Fields.{fields, whole, field_text}
 use Rattle.dm_records.proofs.FieldsRead.{fields_back, fields_is, line_is, no_line}
 
@@ -101,7 +101,7 @@ opening_is line f i e =
     let has = line_is opening_fields line (f ∷ i ∷ []) (omega arith, (omega arith, tt)) e in
     record { spelled = sym has.line_is; feed = has.fits.0; items = has.fits.1.0 }
 
-pub opening_none : (line : List ℕ) → None ≡ whole (fields opening_fields line) → (o : Opening) → IsOpeningLine o line → ⊥
+pub opening_none : (line : List ℕ) → None ≡ whole (fields opening_fields line) → (o : LogOpening) → IsOpeningLine o line → ⊥
 opening_none line none o is = no_line opening_fields line (o.feed ∷ o.items ∷ []) none (is.feed, omega arith, refl, (is.items, omega arith, refl, tt)) is.spelled
 
 abbrev pub time_fields : List (List ℕ × ℕ)

@@ -14,7 +14,7 @@ use Rattle.dm_cert.specs.declared.replies.LogItem.TheVariants.{Malformed, Answer
 use Rattle.dm_records.specs.declared.items.PlanLine.{PlanLine}
 use Rattle.dm_records.specs.declared.items.LogLine.{LogLine}
 use Rattle.dm_records.specs.declared.items.LogLine.TheVariants as log_line
-use Rattle.dm_records.specs.RunLines.{Numbered, Opening, Timed, ItemLine, lone, planned, PlanOpening}
+use Rattle.dm_records.specs.RunLines.{Numbered, LogOpening, Timed, ItemLine, lone, planned, PlanOpening}
 use Rattle.dm_records.specs.declared.lines.EntryLine.{EntryLine}
 use Rattle.dm_records.specs.declared.lines.OpeningLine.{OpeningLine}
 use Rattle.dm_records.specs.declared.lines.NoteLine.{NoteLine}
@@ -30,7 +30,7 @@ IsRead spells seen line None = (v : _) → spells v line → ⊥
 abbrev pub numbered : EntryLine → Numbered
 numbered l = record { number = l.number; entry = record { feed = l.feed; line = l.line; message = l.message } }
 
-abbrev pub opening : OpeningLine → Opening
+abbrev pub opening : OpeningLine → LogOpening
 opening l = record { feed = l.feed; items = l.items }
 
 abbrev pub note : NoteLine → Note

@@ -51,11 +51,11 @@ pub record IsEntryLine (said : Numbered) (line : List ℕ) : Type 0 where
 -- ---- logs
 
 -- the number of a feed, and how many items its log has
-pub record Opening : Type 0 where
+pub record LogOpening : Type 0 where
   pub feed : ℕ
   pub items : ℕ
 
-pub record IsOpeningLine (opening : Opening) (line : List ℕ) : Type 0 where
+pub record IsOpeningLine (opening : LogOpening) (line : List ℕ) : Type 0 where
   pub spelled : joined (codes "feed " ∷ decimal opening.feed ∷ codes " " ∷ decimal opening.items ∷ []) ≡ line
   pub feed : opening.feed ≤ largest_cost
   pub items : opening.items ≤ largest_cost

@@ -1,19 +1,13 @@
 -- What is listed first, and flags of what is not met, one activity after another.
-use Rattle.std.proofs.Common.{◌≡◌, ℕ, zero, suc, ◌+◌, ◌<◌, ◌≤◌, Bool, true, false, List, [], ◌∷◌, ◌++◌, length, map, set, get_or, take, Some, None, refl, sym, ap, subst, ◌∙◌, ◌⊎◌, inl, inr, arith}
-use Rattle.std.specs.Prelude.{filter, not, ◌&&◌, ◌||◌, slice_get, ◌==◌}
+use Rattle.std.proofs.Common.{◌≡◌, ℕ, zero, suc, ◌+◌, ◌<◌, ◌≤◌, Bool, true, false, List, [], ◌∷◌, ◌++◌, length, map, set, Some, None, refl, sym, ap, subst, ◌∙◌, ◌⊎◌, inl, inr, arith}
+use Rattle.std.specs.Prelude.{filter, ◌&&◌, ◌||◌, slice_get, ◌==◌}
 use Rattle.std.specs.List.{range_with_len, list_any}
-use Rattle.std.proofs.lemmas.Bool.{cases_eq, cond-true, cond-false, and_from, and_left, and_right, eq-eqb, not_from_true, or_right, false_from_ne_true, ne_eqb}
-use Rattle.std.proofs.lemmas.Grind.{get_or-set_at}
-use Rattle.std.proofs.lemmas.List.{get_or-set_other, get_or_default, length-set}
-use Rattle.std.proofs.lemmas.List.Folds.{list_any-append, list_any_more}
-use Rattle.dm_network.specs.Net.{Net, activity_at, pair_at}
-use Rattle.dm_network.specs.Start.{IsNetwork}
+use Rattle.std.proofs.lemmas.Bool.{cases_eq, cond-true, cond-false, and_from, and_left, and_right, eq-eqb, or_right, ne_eqb}
+use Rattle.std.proofs.lemmas.List.Folds.{list_any-append}
+use Rattle.dm_network.specs.Net.{Net, activity_at}
 use Rattle.dm_network.proofs.Filling.{range_more}
-use Rattle.dm_rows.specs.declared.messages.Choice.{Choice}
-use Rattle.dm_rows.specs.declared.messages.Decision.{Decision}
 use Rattle.dm_rows.specs.Rows.{RowsValue}
-use Rattle.dm_rows.specs.Decide.{is_free_change, is_free_pair, change_choice, pair_choice, choice_of, IsChoiceList}
-use Rattle.dm_rows.specs.Relax.{is_same_choice, is_decided, is_undecided_change, is_undecided_pair, is_of_pair, is_unmet_from}
+use Rattle.dm_rows.specs.Relax.{is_of_pair, is_unmet_from}
 use Rattle.dm_rows.specs.Cost.{comes_too_early}
 use Rattle.dm_paths.specs.Flags.{AreFlags}
 use Rattle.dm_paths.proofs.Decided.{flags_set, flags_same}

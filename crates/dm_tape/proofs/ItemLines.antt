@@ -21,7 +21,7 @@ use Rattle.dm_cert.specs.RunTexts.{feed_text, item_text, reply_text, reason_text
 use Rattle.dm_cert.proofs.HeadingsRead.{front_text}
 use Rattle.dm_cert.proofs.LineFeeds.{NoFeed, has_no_feed, no_feed_append, no_feed_decimal}
 use Rattle.dm_cert.proofs.SpelledPlans.{HasLine}
-use Rattle.dm_records.specs.RunLines.{Opening, PlanOpening, lone, IsOpeningLine, IsItemLine, IsFormedReason, IsFormedReply, IsFormedSaid, opening_text}
+use Rattle.dm_records.specs.RunLines.{LogOpening, PlanOpening, lone, IsOpeningLine, IsItemLine, IsFormedReason, IsFormedReply, IsFormedSaid, opening_text}
 use Rattle.dm_records.proofs.ItemsRead.{said_body, malformed_text}
 use Rattle.dm_records.proofs.LinesSpelled.{number_then}
 use Rattle.dm_records.proofs.Splitting.{parts_no_feed}
@@ -178,11 +178,11 @@ front_no_feed line said entry low fits at =
 
 -- ---- how many items follow
 
-pub opening_same : (o : Opening) (line : List ℕ) → IsOpeningLine o line → feed_text o.feed o.items ≡ line ++ line_end
+pub opening_same : (o : LogOpening) (line : List ℕ) → IsOpeningLine o line → feed_text o.feed o.items ≡ line ++ line_end
 unfolding feed_text
 opening_same o line is = ap (λ xs. codes "feed " ++ xs) (sym (simp (append_assoc, append-nil))) ∙ ap (λ xs. xs ++ line_end) is.spelled
 
-pub opening_line : (o : Opening) → o.feed ≤ largest_cost → o.items ≤ largest_cost → HasLine IsOpeningLine (λ o. feed_text o.feed o.items) o
+pub opening_line : (o : LogOpening) → o.feed ≤ largest_cost → o.items ≤ largest_cost → HasLine IsOpeningLine (λ o. feed_text o.feed o.items) o
 opening_line o feed items =
     let tail : List ℕ = codes " " ++ (decimal o.items ++ []) in
     let line : List ℕ = codes "feed " ++ (decimal o.feed ++ tail) in

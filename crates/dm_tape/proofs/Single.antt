@@ -8,7 +8,7 @@ use Rattle.dm_cert.specs.PlansRead.{IsChoiceLine, IsNodeLine, ShowsNodes, TellsC
 use Rattle.dm_cert.specs.Inside.PlanLines.{Reads, choice_in, node_in}
 use Rattle.dm_cert.proofs.DecisionsRead.{reads_choice}
 use Rattle.dm_cert.proofs.NodesRead.{reads_node}
-use Rattle.dm_records.specs.RunLines.{Opening, ItemLine, lone, planned}
+use Rattle.dm_records.specs.RunLines.{LogOpening, ItemLine, lone, planned}
 use Rattle.dm_records.proofs.LinesOnce.{lines_spell_one}
 use Rattle.dm_tape.specs.Told.{IsFirstLine, IsFeedLine, TellsNodesOf, TellsBehind, TellsItem, TellsItems, TellsPart, TellsRound, fault_of, plan_item}
 
@@ -19,7 +19,7 @@ first_one : SpellOne IsFirstLine
 first_one = λ line v w p q. lines_spell_one.items 2 line v w p.is_line q.is_line
 
 feed_one : (number : ℕ) → SpellOne (IsFeedLine number)
-feed_one number = λ line m n p q. ap (λ (o : Opening). o.items) (lines_spell_one.openings line (record { feed = number; items = m }) (record { feed = number; items = n }) p q)
+feed_one number = λ line m n p q. ap (λ (o : LogOpening). o.items) (lines_spell_one.openings line (record { feed = number; items = m }) (record { feed = number; items = n }) p q)
 
 choices_one : (count : ℕ) → IsSingle (TellsChoices count)
 choices_one count = times_one (λ before. Line cut_line misshapen_line IsChoiceLine) (λ before. line_one cut_line misshapen_line IsChoiceLine (reads_one IsChoiceLine choice_in reads_choice)) count []

@@ -14,7 +14,7 @@ use Rattle.dm_cert.specs.declared.replies.LogItem.TheVariants.{Malformed, Answer
 use Rattle.dm_cert.specs.RunTexts.{FitsReason, FitsReply}
 use Rattle.dm_cert.specs.PlansRead.{Answers, TellsTree, cut_line, misshapen_line, want_of_memory}
 use Rattle.dm_cert.proofs.Lined.{told_none, told_spelled}
-use Rattle.dm_records.specs.RunLines.{Opening, ItemLine, lone, planned, IsItemLine, IsOpeningLine, IsFormedReason, IsFormedReply}
+use Rattle.dm_records.specs.RunLines.{LogOpening, ItemLine, lone, planned, IsItemLine, IsOpeningLine, IsFormedReason, IsFormedReply}
 use Rattle.dm_records.proofs.LinesOnce.{lines_spell_one}
 use Rattle.dm_tape.specs.Told.{IsFirstLine, IsFeedLine, FitsLine, TellsBehind, TellsItem, TellsItems, TellsNodesOf, TellsPart, fault_of}
 use Rattle.dm_tape.specs.declared.typed.Front.{Front}
@@ -110,14 +110,14 @@ item_on old mid new first i (Err fault) at told (inr on) = inr (inr (record { va
 
 -- ---- the first line of a part
 
-abbrev opened : ℕ → ℕ → Opening
+abbrev opened : ℕ → ℕ → LogOpening
 opened feed items = record { feed = feed; items = items }
 
-pub feed_is_none : (number : ℕ) (line : List ℕ) → ((o : Opening) → IsOpeningLine o line → ⊥) → (n : ℕ) → IsFeedLine number n line → ⊥
+pub feed_is_none : (number : ℕ) (line : List ℕ) → ((o : LogOpening) → IsOpeningLine o line → ⊥) → (n : ℕ) → IsFeedLine number n line → ⊥
 feed_is_none number line none n is = none (opened number n) is
 
 pub feed_is_other : (number feed items : ℕ) (line : List ℕ) → IsOpeningLine (opened feed items) line → (feed ≡ number → ⊥) → (n : ℕ) → IsFeedLine number n line → ⊥
-feed_is_other number feed items line is other n also = other (ap (λ (o : Opening). o.feed) (lines_spell_one.openings line (opened feed items) (opened number n) is also))
+feed_is_other number feed items line is other n also = other (ap (λ (o : LogOpening). o.feed) (lines_spell_one.openings line (opened feed items) (opened number n) is also))
 
 pub feed_is : (number feed items : ℕ) (line : List ℕ) → IsOpeningLine (opened feed items) line → feed ≡ number → IsFeedLine number items line
 feed_is number feed items line is e = subst (λ (n : ℕ). IsOpeningLine (opened n items) line) e is

@@ -12,7 +12,7 @@ use Rattle.dm_rows.specs.Rows.{RowsValue}
 use Rattle.dm_tree.specs.declared.forms.Leaf.{Leaf}
 use Rattle.dm_tree.specs.declared.forms.Node.{Node}
 use Rattle.dm_tree.specs.declared.forms.Node.TheVariants.{Inner, Cycle, Bound, Open, Hole}
-use Rattle.dm_tree.specs.Plans.{Task, CostsWith}
+use Rattle.dm_tree.specs.Plans.{CostsWith}
 use Rattle.dm_guide.specs.declared.tree.Hint.{Hint}
 use Rattle.dm_guide.specs.Posed.{task_beside, IsPosed}
 use Rattle.dm_tree.specs.Trees.{IsLeaf, StandsAt, Assembles, HaveNoTree}

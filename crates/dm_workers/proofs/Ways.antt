@@ -1,5 +1,5 @@
 -- Ways, their steps and their weights.
-use Rattle.std.proofs.Common.{◌≡◌, ◌≢◌, ◌⊎◌, ℕ, zero, suc, ◌+◌, ◌≤◌, ◌<◌, Bool, true, false, cond, List, [], ◌∷◌, ◌++◌, length, map, Some, slice_get, refl, ap, sym, ◌∙◌, subst, arith, inl, inr, append_assoc, append-nil}
+use Rattle.std.proofs.Common.{◌≡◌, ◌≢◌, ℕ, zero, suc, ◌+◌, ◌≤◌, Bool, true, false, cond, List, [], ◌∷◌, ◌++◌, map, Some, slice_get, refl, ap, sym, ◌∙◌, subst, arith, append_assoc, append-nil}
 use Rattle.std.specs.Prelude.{sum_by}
 use Rattle.std.proofs.lemmas.List.Sums.{sum_by-cons}
 use Rattle.std.proofs.lemmas.Bool.{le-ltb}
@@ -8,8 +8,7 @@ use Rattle.dm_rows.specs.declared.messages.Choice.{Choice}
 use Rattle.dm_rows.specs.declared.messages.Choice.TheVariants.{Change, Pair}
 use Rattle.dm_rows.specs.declared.messages.Decision.{Decision}
 use Rattle.dm_rows.specs.Sides.{first_decision, second_decision, is_first_decision, IsOrdered}
-use Rattle.dm_tree.specs.declared.forms.Leaf.{Leaf}
-use Rattle.dm_workers.specs.Ways.{IsStep, GoesDown, on_way, leaves_on}
+use Rattle.dm_workers.specs.Ways.{IsStep, GoesDown, on_way}
 
 pub first_is_first : (c : Choice) → IsOrdered c → is_first_decision (first_decision c) ≡ true
 first_is_first (Change a) o = refl

@@ -57,16 +57,16 @@ lent_each {F} n (o ∷ os) (w ∷ ws) e all =
     (lent_each n os ws (cc) (All-tail (λ (v : Worker F). lent_of_worker v ≡ n) w ws all))
 
 -- new workers who were given no more than one path on each way have done their work
-pub are_done : {F E : Type 0} (task : GuidedTask) (own : ℕ) (word : TableId) (start : ℕ) (crew : List (Worker F)) (worked : List (Result (Worker F) E)) (owners : List (TallyValue Path)) (theirs : List RowsId)
-    → map owner_of crew ≡ owners → map deque_of owners ≡ theirs → ((s : List Bool) → owners_put s owners ≤ 1) → All (HasLentOnly (length owners)) owners
-    → AreHandedIn task own word start theirs crew worked → AreDone task own word start worked
-are_done {F} {E} task own word start crew worked owners theirs of_crew deques one lent handed = record {
-  jobs = crew;
-  handed = subst (λ (ds : List RowsId). AreHandedIn {E = E} task own word start ds crew worked) (sym (worker_deques crew ∙ (ap (map deque_of) of_crew ∙ deques))) handed;
-  one = λ s. omega (arith, given_is s crew, ap (owners_put s) of_crew, one s);
-  lent = workers_lent (length crew) crew
-      (subst (All (HasLentOnly (length crew))) (sym of_crew)
-      (subst (λ (n : ℕ). All (HasLentOnly n) owners) (ap length (sym of_crew) ∙ length-map crew owner_of) lent));
+pub are_done : {F E : Type 0} (task : GuidedTask) (own : ℕ) (word : TableId) (start : ℕ) (mustered : List (Worker F)) (worked : List (Result (Worker F) E)) (owners : List (TallyValue Path)) (theirs : List RowsId)
+    → map owner_of mustered ≡ owners → map deque_of owners ≡ theirs → ((s : List Bool) → owners_put s owners ≤ 1) → All (HasLentOnly (length owners)) owners
+    → AreHandedIn task own word start theirs mustered worked → AreDone task own word start worked
+are_done {F} {E} task own word start mustered worked owners theirs of_mustered deques one lent handed = record {
+  jobs = mustered;
+  handed = subst (λ (ds : List RowsId). AreHandedIn {E = E} task own word start ds mustered worked) (sym (worker_deques mustered ∙ (ap (map deque_of) of_mustered ∙ deques))) handed;
+  one = λ s. omega (arith, given_is s mustered, ap (owners_put s) of_mustered, one s);
+  lent = workers_lent (length mustered) mustered
+      (subst (All (HasLentOnly (length mustered))) (sym of_mustered)
+      (subst (λ (n : ℕ). All (HasLentOnly n) owners) (ap length (sym of_mustered) ∙ length-map mustered owner_of) lent));
 }
 
 -- owners that are equipped are as many as before, were given no more, and have lent a tally to each
@@ -80,21 +80,21 @@ lent_to_all before owners purses h = subst (λ (n : ℕ). All (HasLentOnly n) ow
 pub none_taken_yet : (n : ℕ) (owners : List (TallyValue Path)) → All (HasLentOnly n) owners → All HasTakenNothing owners
 none_taken_yet n owners all = All-weaker (HasLentOnly n) HasTakenNothing (λ o h. h.taken) owners all
 
-pub new_there : {F : Type 0} (task : Task) (own : ℕ) (word : TableId) (from start : ℕ) (ds theirs : List RowsId) (crew : List (Worker F)) → from ≡ start → ds ≡ theirs
-    → All (IsNewWorker task own word from ds) crew → All (IsNewWorker task own word start theirs) crew
-new_there task own word from start ds theirs crew e d all =
-    subst (λ (n : ℕ). All (IsNewWorker task own word n theirs) crew) e (subst (λ (l : List RowsId). All (IsNewWorker task own word from l) crew) d all)
+pub new_there : {F : Type 0} (task : Task) (own : ℕ) (word : TableId) (from start : ℕ) (ds theirs : List RowsId) (mustered : List (Worker F)) → from ≡ start → ds ≡ theirs
+    → All (IsNewWorker task own word from ds) mustered → All (IsNewWorker task own word start theirs) mustered
+new_there task own word from start ds theirs mustered e d all =
+    subst (λ (n : ℕ). All (IsNewWorker task own word n theirs) mustered) e (subst (λ (l : List RowsId). All (IsNewWorker task own word from l) mustered) d all)
 
 pub one_given : (before owners : List (TallyValue Path)) → ((s : List Bool) → owners_put s owners ≡ owners_put s before) → ((s : List Bool) → owners_put s before ≤ 1)
     → (s : List Bool) → owners_put s owners ≤ 1
 one_given before owners same one s = omega (arith, same s, one s)
 
 -- each hand that was split off comes back
-pub rooms_are : {F E : Type 0} (task : GuidedTask) (own : ℕ) (word : TableId) (start : ℕ) (theirs : List RowsId) (crew : List (Worker F)) (worked : List (Result (Worker F) E)) (owners : List (TallyValue Path)) (workers seats first room : ℕ)
-    → map owner_of crew ≡ owners → length owners ≡ workers → AreHandedIn task own word start theirs crew worked → seats ≡ workers + 1 → first ≡ workers + 1 → room ≡ first - length owners
+pub rooms_are : {F E : Type 0} (task : GuidedTask) (own : ℕ) (word : TableId) (start : ℕ) (theirs : List RowsId) (mustered : List (Worker F)) (worked : List (Result (Worker F) E)) (owners : List (TallyValue Path)) (workers seats first room : ℕ)
+    → map owner_of mustered ≡ owners → length owners ≡ workers → AreHandedIn task own word start theirs mustered worked → seats ≡ workers + 1 → first ≡ workers + 1 → room ≡ first - length owners
     → room + length worked ≡ seats
-rooms_are task own word start theirs crew worked owners workers seats first room of_crew many handed all has split =
-    omega (arith, ap length of_crew, length-map crew owner_of, many, handed_many task own word start theirs crew worked handed, all, has, split)
+rooms_are task own word start theirs mustered worked owners workers seats first room of_mustered many handed all has split =
+    omega (arith, ap length of_mustered, length-map mustered owner_of, many, handed_many task own word start theirs mustered worked handed, all, has, split)
 
 pub all_words : {F E : Type 0} (task : GuidedTask) (own : ℕ) (word : TableId) (start : ℕ) (worked : List (Result (Worker F) E)) → AreDone task own word start worked
     → All (λ r. IfOk r (λ w. w.hand.word ≡ word)) worked

@@ -81,7 +81,7 @@ pub fn find<F: Grown<Path> + Send + Sync, R: Threads + Wait + Sync, H: HoldPoint
     word.lower(&mut hand, capped(best.cost));
     let (owners, thieves) = enlist::<F>(alloc, workers)?;
     let equipped = equip(alloc, owners)?;
-    let crew = muster(alloc, &word, &mut hand, own, equipped, evaluators)?;
+    let mustered = muster(alloc, &word, &mut hand, own, equipped, evaluators)?;
     let share = task.budget.saturating_sub(1) / (2 * workers as u64);
     let pace = Pace::new(workers);
     let team = Team {
@@ -94,7 +94,7 @@ pub fn find<F: Grown<Path> + Send + Sync, R: Threads + Wait + Sync, H: HoldPoint
         pace: &pace,
         share,
     };
-    let worked = work_all(rt, &team, crew, gate)?;
+    let worked = work_all(rt, &team, mustered, gate)?;
     put_together(task, guide, own, best, word, hand, worked)
 }
 
@@ -102,17 +102,21 @@ pub fn find<F: Grown<Path> + Send + Sync, R: Threads + Wait + Sync, H: HoldPoint
 fn work_all<F: Grown<Path> + Send + Sync, R: Threads + Wait + Sync, H: HoldPoint + Sync>(
     rt: &R,
     team: &Team<'_, '_, F>,
-    crew: Vec<Worker<F>>,
+    mustered: Vec<Worker<F>>,
     gate: &H,
 ) -> Result<Vec<Result<Worker<F>, AllocError>>, AllocError>
     requires posed { IsPosedTask team.now.task.now }
     requires picks { PicksNodes (guided_by team.now.task.now team.now.guide.now) F.fits }
     requires no_cycle { HasNoCycle team.now.task.now.net.now team.now.task.now.rows.now }
     requires own { IsOwnCost (task_of team.now.task.now) team.now.own }
-    requires new { All (IsNewIn team.now) crew.items }
-    ensures { IfOk result (λ worked. AreHandedInBy team.now crew.items worked.items) }
+    requires new { All (IsNewIn team.now) mustered.items }
+    ensures { IfOk result (λ worked. AreHandedInBy team.now mustered.items worked.items) }
 {
-    thread::map_vec(rt, crew, &|worker: Worker<F>| worker.work(rt, team, gate))
+    thread::map_vec(
+        rt,
+        mustered,
+        &|worker: Worker<F>| worker.work(rt, team, gate),
+    )
 }
 
 /// What all workers have found, each node that they put taken once, and the word closed.

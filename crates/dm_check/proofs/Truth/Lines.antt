@@ -10,7 +10,7 @@ use Rattle.dm_cert.specs.RunTexts.{feed_text, stop_text, note_text, FitsNote}
 use Rattle.dm_feed.specs.Parts.{largest_id}
 use Rattle.dm_cert.proofs.LineFeeds.{NoFeed, has_no_feed, no_feed_append}
 use Rattle.dm_cert.proofs.SpelledPlans.{HasLine}
-use Rattle.dm_records.specs.RunLines.{Opening, Timed, IsOpeningLine, IsStopLine, IsNoteLine, IsTimeLine, IsWordLine}
+use Rattle.dm_records.specs.RunLines.{LogOpening, Timed, IsOpeningLine, IsStopLine, IsNoteLine, IsTimeLine, IsWordLine}
 use Rattle.dm_records.proofs.LinesSpelled.{number_then}
 use Rattle.dm_check.proofs.Spelled.{opening_same, timed_line}
 
@@ -19,7 +19,7 @@ word_line words none = record { line = words; text_is = refl; one_line = has_no_
 
 -- ---- logs
 
-pub opening_line : (o : Opening) → o.feed ≤ largest_cost → o.items ≤ largest_cost → HasLine IsOpeningLine (λ o. feed_text o.feed o.items) o
+pub opening_line : (o : LogOpening) → o.feed ≤ largest_cost → o.items ≤ largest_cost → HasLine IsOpeningLine (λ o. feed_text o.feed o.items) o
 opening_line o feed items =
     let tail : List ℕ = codes " " ++ (decimal o.items ++ []) in
     let line : List ℕ = codes "feed " ++ (decimal o.feed ++ tail) in

@@ -15,7 +15,7 @@ use Rattle.dm_cert.specs.Answers.{Setting}
 use Rattle.dm_cert.specs.PlanTexts.{line_end, largest_cost}
 use Rattle.dm_cert.specs.RunTexts.{entry_text, feed_text, stop_text, item_text, log_text, note_text, FitsEntry, FitsNote, FitsItem, FitsLog, IsSpelledItem, IsSpelledLog}
 use Rattle.dm_records.specs.Laws.{IsHeldItem, IsHeldLog}
-use Rattle.dm_records.specs.RunLines.{Opening, IsEntryLine, IsOpeningLine, IsStopLine, IsNoteLine, IsTimeLine}
+use Rattle.dm_records.specs.RunLines.{LogOpening, IsEntryLine, IsOpeningLine, IsStopLine, IsNoteLine, IsTimeLine}
 use Rattle.dm_check.specs.declared.verdicts.BadKind.TheVariants as kind
 use Rattle.dm_check.specs.FalseRecords.{Reads, Rules, IsNextEntry, TellsEntry, IsNextItem, TellsItem, TellsLog, IsNextNote, TellsNote, IsNextTime, TellsTime}
 use Rattle.dm_check.proofs.Spelled.{same_each, log_same, timed_text}
@@ -70,7 +70,7 @@ log_told s history before log is printed low place rest left =
     let at : place.left ≡ feed_text n (length items) ++ (flat_map (item_text s.version) items ++ stop) = left ∙ log_same s.version n items log.stop rest in
     let each = each_both (IsNextItem s history n) (λ held x. IsPrinted x) (IsTold (TellsItem s history n) (λ k. item_text s.version)) (λ held x next p. item_told s history n held x next p)
     [] items (items_next s history n [] items is.answers is.in_order) (items_printed log printed) in
-    let opening : Opening = record { feed = n; items = length items } in
+    let opening : LogOpening = record { feed = n; items = length items } in
     let size : length items ≤ largest_cost = let few = printed.held.size in omega arith in
     then_stands (Rules IsOpeningLine (λ o. o.feed ≡ n) kind.Form (λ o. o.items)) _ (length items) log place (flat_map (item_text s.version) items ++ stop) rest
     (rule_stands IsOpeningLine (λ o. feed_text o.feed o.items) (λ o. o.feed ≡ n) kind.Form (λ o. o.items) opening place (flat_map (item_text s.version) items ++ stop)

@@ -1,5 +1,5 @@
 -- What a decision does to a timetable that is priced.
-use Rattle.std.specs.Prelude.{ℕ, ◌≡◌, ◌<◌, ◌⊎◌, Bool, true, false, List, length, Some, slice_index, if◌then◌else◌}
+use Rattle.std.specs.Prelude.{ℕ, ◌≡◌, ◌<◌, ◌⊎◌, Bool, true, false, List, length, Some, if◌then◌else◌}
 use Rattle.dm_network.specs.Net.{Net, activity_at}
 use Rattle.dm_network.specs.Held.{is_held, IsCycleOf}
 use Rattle.dm_rows.specs.declared.messages.Flip.{Flip}

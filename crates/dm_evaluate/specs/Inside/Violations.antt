@@ -1,5 +1,5 @@
 -- The first violated choice from a place on, and what it is found by.
-use Rattle.std.specs.Prelude.{ℕ, ◌≡◌, ◌+◌, ◌-◌, ◌++◌, Bool, true, List, length, map, filter, Option, Some, None, slice_get}
+use Rattle.std.specs.Prelude.{ℕ, ◌≡◌, ◌+◌, ◌-◌, ◌++◌, true, List, length, map, filter, Option, slice_get}
 use Rattle.std.specs.List.{range_with_len}
 use Rattle.dm_network.specs.Net.{Net}
 use Rattle.dm_rows.specs.declared.messages.Decision.{Decision}
@@ -11,7 +11,6 @@ use Rattle.dm_rows.specs.Rows.{RowsValue}
 use Rattle.dm_priced.specs.Priced.{is_flagged}
 use Rattle.dm_paths.specs.declared.undecided.Undecided.{Undecided}
 use Rattle.dm_paths.specs.declared.places.ChoicePlace.{ChoicePlace}
-use Rattle.dm_paths.specs.declared.places.ChoicePlace.TheVariants.{Change, Pair}
 use Rattle.dm_paths.specs.Decisions.{is_unmet_pair}
 use Rattle.dm_paths.specs.Flags.{AreFlags}
 use Rattle.dm_paths.specs.Places.{IsPlaceOf, at_place}

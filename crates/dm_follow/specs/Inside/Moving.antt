@@ -1,5 +1,5 @@
 -- What the calls of a follower do to it.
-use Rattle.std.specs.Prelude.{ℕ, ◌≡◌, ◌+◌, ◌⊎◌, List, [], ◌∷◌, ◌++◌, length, Result, Ok, Err}
+use Rattle.std.specs.Prelude.{ℕ, ◌≡◌, ◌+◌, ◌⊎◌, List, [], ◌++◌, length, Result, Ok, Err}
 use Rattle.dm_follow.specs.declared.faults.FollowFault.{FollowFault}
 use Rattle.dm_follow.specs.declared.faults.TheConstants.{NO_MEMORY}
 use Rattle.dm_follow.specs.declared.stages.Stage.{Stage}

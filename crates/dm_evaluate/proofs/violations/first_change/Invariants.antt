@@ -1,4 +1,4 @@
-use Rattle.std.proofs.Common.{◌≤◌, ◌-◌, length}
+use Rattle.std.proofs.Common.{◌-◌, length}
 use Rattle.dm_rows.specs.Cost.{comes_too_early}
 use Rattle.dm_evaluate.specs.Inside.Marking.{Clears, NoneBetween}
 use Rattle.dm_evaluate.proofs.violations.first_change.Given as goal

@@ -1,4 +1,4 @@
-use Rattle.std.proofs.Common.{◌≤◌, ◌-◌, length}
+use Rattle.std.proofs.Common.{◌-◌, length}
 use Rattle.dm_paths.specs.Decisions.{is_unmet_pair}
 use Rattle.dm_evaluate.specs.Inside.Marking.{Clears, NoneBetween}
 use Rattle.dm_evaluate.proofs.violations.first_pair.Given as goal

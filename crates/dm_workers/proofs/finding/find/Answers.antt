@@ -7,19 +7,19 @@ use Rattle.dm_workers.proofs.finding.find.Goals as goal
 
 pub put_together-requires-clause-hand : goal.put_together-requires-clause-hand
 put_together-requires-clause-hand g c =
-    first_hand _ _ _ _ _ _ _ _ _ c.capped-start.ensures c.capped.ensures c.in_ok-word.ensures.hand c.lower.ensures.lowered _ c.in_ok-crew.ensures.hand
+    first_hand _ _ _ _ _ _ _ _ _ c.capped-start.ensures c.capped.ensures c.in_ok-word.ensures.hand c.lower.ensures.lowered _ c.in_ok-mustered.ensures.hand
 
 pub put_together-requires-clause-worked : goal.put_together-requires-clause-worked
 put_together-requires-clause-worked g c =
     subst (λ (n : ℕ). AreDone (guided_by c.args.task.now c.args.guide.now) c.args.beginning.own c.in_ok-word.word.id n c.in_ok-worked.worked.items)
-    (sym (ap (λ (h : HandValue). h.start) c.in_ok-crew.ensures.hand ∙ (ap (λ (h : HandValue). h.start) c.lower.ensures.lowered ∙ ap (λ (h : HandValue). h.start) c.in_ok-word.ensures.hand)))
-    (are_done _ _ _ _ _ _ _ _ c.in_ok-crew.ensures.owners (c.in_ok-equipped.ensures.deques ∙ c.in_ok-owners.ensures.thieves) (one_given c.in_ok-owners.owners.items c.in_ok-equipped.equipped.owners.items c.in_ok-equipped.ensures.put c.in_ok-owners.ensures.root)
+    (sym (ap (λ (h : HandValue). h.start) c.in_ok-mustered.ensures.hand ∙ (ap (λ (h : HandValue). h.start) c.lower.ensures.lowered ∙ ap (λ (h : HandValue). h.start) c.in_ok-word.ensures.hand)))
+    (are_done _ _ _ _ _ _ _ _ c.in_ok-mustered.ensures.owners (c.in_ok-equipped.ensures.deques ∙ c.in_ok-owners.ensures.thieves) (one_given c.in_ok-owners.owners.items c.in_ok-equipped.equipped.owners.items c.in_ok-equipped.ensures.put c.in_ok-owners.ensures.root)
     (lent_to_all _ _ _ c.in_ok-equipped.ensures) c.in_ok-worked.ensures)
 
 pub put_together-requires-clause-rooms : goal.put_together-requires-clause-rooms
 put_together-requires-clause-rooms g c =
-    rooms_are _ _ _ _ _ _ _ _ _ _ _ _ c.in_ok-crew.ensures.owners (as_many _ _ _ _ c.in_ok-equipped.ensures ∙ c.in_ok-owners.ensures.many) c.in_ok-worked.ensures c.in_ok-word.ensures.word
-    (ap (λ (h : HandValue). h.room) c.lower.ensures.lowered ∙ ap (λ (h : HandValue). h.room) c.in_ok-word.ensures.hand) (ap (λ (h : HandValue). h.room) c.in_ok-crew.ensures.hand)
+    rooms_are _ _ _ _ _ _ _ _ _ _ _ _ c.in_ok-mustered.ensures.owners (as_many _ _ _ _ c.in_ok-equipped.ensures ∙ c.in_ok-owners.ensures.many) c.in_ok-worked.ensures c.in_ok-word.ensures.word
+    (ap (λ (h : HandValue). h.room) c.lower.ensures.lowered ∙ ap (λ (h : HandValue). h.room) c.in_ok-word.ensures.hand) (ap (λ (h : HandValue). h.room) c.in_ok-mustered.ensures.hand)
 
 pub muster-requires-clause-nothing : goal.muster-requires-clause-nothing
 muster-requires-clause-nothing g c = none_taken_yet _ _ c.in_ok-equipped.ensures.new
@@ -30,4 +30,4 @@ muster-requires-clause-many g c = c.in_ok-equipped.ensures.many ∙ sym (as_many
 pub work_all-requires-clause-new : goal.work_all-requires-clause-new
 work_all-requires-clause-new g c = λ lifetimes bounds.
     new_there _ _ _ _ _ _ _ _ (ap (λ (h : HandValue). h.start) c.lower.ensures.lowered ∙ ap (λ (h : HandValue). h.start) c.in_ok-word.ensures.hand)
-    (c.in_ok-equipped.ensures.deques ∙ c.in_ok-owners.ensures.thieves) (c.in_ok-crew.ensures.new _ c.requires.evaluators)
+    (c.in_ok-equipped.ensures.deques ∙ c.in_ok-owners.ensures.thieves) (c.in_ok-mustered.ensures.new _ c.requires.evaluators)

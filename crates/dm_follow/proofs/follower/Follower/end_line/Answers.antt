@@ -1,7 +1,7 @@
-use Rattle.std.proofs.Common.{◌≡◌, ◌+◌, ℕ, List, [], ◌∷◌, rules, refl, sym, subst}
+use Rattle.std.proofs.Common.{◌≡◌, ◌+◌, ℕ, List, [], ◌∷◌, rules, refl, subst}
 use Rattle.dm_follow.specs.Follower.{FollowerValue}
 use Rattle.dm_follow.specs.Inside.Reading.{Advances}
-use Rattle.dm_follow.specs.Inside.Moving.{IsLive, TakesFront}
+use Rattle.dm_follow.specs.Inside.Moving.{TakesFront}
 use Rattle.dm_follow.proofs.Taken.{feed_taken}
 use Rattle.dm_follow.proofs.follower.Follower.end_line.Goals as goal
 

@@ -1,6 +1,3 @@
-use Rattle.std.proofs.Common.{sym, subst, length}
-use Rattle.dm_rows.specs.Relax.{is_undecided_change, is_undecided_pair}
-use Rattle.dm_paths.specs.Flags.{AreFlags}
 use Rattle.dm_paths.proofs.Decided.{room_for}
 use Rattle.dm_paths.proofs.Fronts.{next_changes, next_pairs}
 use Rattle.dm_relax.proofs.relaxation.Relaxation.new.Goals as goal

@@ -1,4 +1,4 @@
-use Rattle.std.proofs.Common.{rules, ◌≡◌, List, [], refl, ◌∙◌, ap, sym, subst, arith}
+use Rattle.std.proofs.Common.{rules, ◌≡◌, List, [], refl, ap, sym, subst, arith}
 use Rattle.dm_history.specs.Value.{HistoryValue}
 use Rattle.dm_marks.specs.Places.{PlaceSetValue}
 use Rattle.dm_propagate.specs.Engine.{times_of}
