@@ -1,4 +1,4 @@
-"""What a dispatcher should look at: trains that became late, changes that are waited for or missed, an old plan, and who is silent."""
+"""What a dispatcher should look at: trains that became late, changes that are waited for or missed, an old plan, and silent feeds."""
 from __future__ import annotations
 
 import time
@@ -11,7 +11,7 @@ from scene import counted
 
 MISSED, WAITS, LATE = 'missed', 'waits', 'late'
 
-# So many alerts of a kind are told; of more, how many there are.
+# At most so many alerts of a kind are shown. If there are more, a line says how many.
 MOST = 12
 
 # A server that has not answered a line for so many seconds is called silent.
@@ -20,27 +20,27 @@ PATIENCE = 3.0
 
 @dataclass(frozen=True)
 class Marks:
-    """From how many seconds on something is an alert."""
+    """How many seconds make an alert."""
     late: int = 300
     waits: int = 180
     silent: int = 300
 
 
 class Alert(NamedTuple):
-    """A kind, what tells it from others of its kind, and words."""
+    """A kind, a key that no other alert of the kind has, and words."""
     kind: str
     key: str
     words: str
 
 
 class Server(NamedTuple):
-    """Whether a server runs over the store (None: this cannot be told), and since when, by time.monotonic, a line waits for its answer."""
+    """Whether a server runs over the store (None: that cannot be known), and since when, by time.monotonic, a line waits for its answer."""
     runs: bool | None
     waits_since: float | None
 
 
 def alerts_of(day: Day, marks: Marks, server: Server, faults: list[str]) -> list[Alert]:
-    """All alerts, what stops the work first."""
+    """All alerts. Those that stop the work come first."""
     found = [Alert('fault', fault, fault) for fault in faults]
     found += of_server(server)
     found += of_plan(day)
@@ -53,7 +53,7 @@ def alerts_of(day: Day, marks: Marks, server: Server, faults: list[str]) -> list
 
 def of_server(server: Server) -> Iterator[Alert]:
     if server.runs is False:
-        yield Alert('server', 'ended', 'No server runs over this store. What is told now is answered when one is started again.')
+        yield Alert('server', 'ended', 'No server runs over this store. What is reported now is answered when a server is started again.')
     elif server.waits_since is not None and time.monotonic() - server.waits_since > PATIENCE:
         yield Alert('server', 'silent', 'The server has not answered the last line.')
 
@@ -72,7 +72,7 @@ def missed(day: Day, change: int) -> tuple[str, str]:
 
 
 def waited_for(day: Day, marks: Marks) -> list[int]:
-    """The changes that are waited for so long, the longest wait first."""
+    """The changes for which a train waits so long, the longest wait first."""
     changes = [change for change, wait in day.waits.items() if wait >= marks.waits]
     return sorted(changes, key=lambda change: (-day.waits[change], change))
 

@@ -1,6 +1,6 @@
 """What the built program is asked beside the server: the times after entries, what a window would change, and what waiting rules cost.
 
-The journal's lines are written as the front of a run's text, and the program reads them as it does any. Nothing of it is entered.
+The journal's lines are written as the front of a run's text, and the program reads them as it does any. That enters nothing.
 """
 from __future__ import annotations
 
@@ -28,7 +28,7 @@ class Followed(NamedTuple):
 
 
 def message_line(entry: Entry) -> str:
-    """The words of an entry behind its number."""
+    """The words that stand behind the number of an entry."""
     words: list[object] = []
     for part in entry.message:
         if isinstance(part, tuple):
@@ -58,7 +58,7 @@ class Asking:
         return path
 
     def follow(self, entries: Sequence[str]) -> Followed:
-        """The times after entries; BadFile where the program does not follow them."""
+        """The times after entries; BadFile if the program does not follow them."""
         with self.one:
             told = self.program.call('follow', self.program.net, self.written(entries))
         text = Text(told.encode())
@@ -102,7 +102,7 @@ class Asking:
 
 
 def found_program(name: Optional[str], top: str) -> Optional[str]:
-    """The built program: the one that is named, or the one of the repository, where it is built."""
+    """The built program: the one that is named, or else the one of the repository, if it is built."""
     built = os.path.join(top, 'crates', 'dispatcher', 'out', 'dispatcher')
     return name or os.environ.get('DISPATCHER') or (built if os.access(built, os.X_OK) else None)
 

@@ -1,4 +1,4 @@
-"""A day as its server's journal tells it: rows and times, trains that are late, changes that are waited for, and what was said last."""
+"""A day, read from its server's journal: rows and times, late trains, changes that are waited for, and the last entries."""
 from __future__ import annotations
 
 import time
@@ -16,10 +16,10 @@ from railway import Message, Plan, Rows, is_met, refusal_at_once
 from runtext import Bad, Item, Run
 from scene import Scene, changes_of, trains_of
 
-# Above so many entries at once all times are worked out anew, and not entry by entry.
+# If more entries come at once, all times are worked out anew, and not entry by entry.
 MANY = 200
 
-# So many entries, own lines and late trains are shown.
+# At most so many entries, own lines and late trains are shown.
 SHOWN = 40
 
 
@@ -43,7 +43,7 @@ class Lateness(NamedTuple):
 
 
 class Told(NamedTuple):
-    """A line of the desk's own feed with its answer, where there is one."""
+    """A line of the desk's own feed with its answer, if there is one."""
     item: Item
     entry: Optional[int]
     back: Optional[list[Message]]
@@ -51,7 +51,7 @@ class Told(NamedTuple):
 
 @dataclass
 class Day:
-    """A network and what the journal has told of it so far."""
+    """A network, and what the journal says of its day so far."""
     network: Network
     start: Rows
     names: Names
@@ -71,7 +71,7 @@ class Day:
         self.reset()
 
     def reset(self) -> None:
-        """Begins with nothing told."""
+        """Begins with an empty journal."""
         self.head: Optional[Head] = None
         self.reckoning = self.first.begun(self.start.copy())
         self.entries: list[str] = []
@@ -137,14 +137,14 @@ class Day:
             self.adopted = number
 
     def look_at(self, touched: set[int]) -> None:
-        """Works out anew what hangs on events: their trains' lateness, and the changes at them."""
+        """Works out anew what depends on events: how late their trains are, and the changes at them."""
         for number in {self.naming.train_of[place] for place in touched}:
             self.lateness[number] = self.lateness_of(self.trains[number])
         near = touched | {self.network.heads[activity] for place in touched for activity in self.network.out_of[place]}
         self.look_at_changes(activity for place in near for activity in self.reckoning.into[place]
                              if self.network.activities[activity].kind == 'change')
 
-    # ---- What hangs on it
+    # ---- What depends on it
 
     def lateness_of(self, train: list[int]) -> Lateness:
         rows, times, events = self.reckoning.rows, self.reckoning.times, self.network.events
@@ -155,7 +155,7 @@ class Day:
         return Lateness(max(0, times[worst] - events[worst].time), worst, ahead[0])
 
     def look_at_changes(self, changes: Iterable[int]) -> None:
-        """How long each of some changes is waited for, and which of them was kept and missed for good."""
+        """For some changes, how long a train waits for each, and which of them was kept and missed for good."""
         rows, times, network = self.reckoning.rows, self.reckoning.times, self.network
         for change in changes:
             tail, head = network.tails[change], network.heads[change]
@@ -174,7 +174,7 @@ class Day:
         return self.reckoning.rows.clock
 
     def late_trains(self, least: int) -> list[int]:
-        """The trains that are or will be so late, the worst first."""
+        """The trains that are or will be so late, the latest first."""
         late = [number for number, lateness in enumerate(self.lateness) if lateness.worst >= least]
         return sorted(late, key=lambda number: (-self.lateness[number].worst, number))
 

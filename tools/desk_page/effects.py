@@ -13,7 +13,7 @@ MOST = 60
 
 
 def choice_rows(naming: Naming, choices: Sequence[Decision]) -> list[list[str]]:
-    """A row for each choice: what kind it is, what it says in names, and the line that says it."""
+    """A row for each choice: its kind, the choice in names, and the line that makes it."""
     kinds = {'keep': 'change kept', 'drop': 'change dropped', 'first': 'order turned'}
     return [[kinds[choice[0]], naming.decision(choice), ' '.join(map(str, choice))] for choice in choices]
 

@@ -1,4 +1,4 @@
-"""The desk's own feed: lines are put behind it, one at a time."""
+"""The desk's own feed, to which lines are appended one at a time."""
 from __future__ import annotations
 
 import fcntl
@@ -7,12 +7,12 @@ from typing import Optional, Sequence
 
 from runtext import LINES, Said, heard, read_form
 
-# What may be told from the page; the clock and questions are for other feeds.
+# What may be entered or asked on the page. The clock and other questions are for other feeds.
 TOLD = ('delay event', 'delay activity', 'pass', 'recall', 'keep', 'drop', 'first', 'plan', 'adopt')
 
 
 def line_of(kind: object, numbers: object) -> Optional[str]:
-    """The line of a kind with numbers, or None where they are none that may be told."""
+    """The line of a kind with numbers, or None if the page may not write such a line."""
     if kind not in TOLD or not isinstance(numbers, list) or len(numbers) > 2:
         return None
     if any(type(number) is not int or number < 0 for number in numbers):
@@ -22,7 +22,7 @@ def line_of(kind: object, numbers: object) -> Optional[str]:
 
 
 class Feed:
-    """A feed that one desk appends to; it is made where it is not there."""
+    """A feed to which one desk appends. If it does not exist, it is made."""
 
     def __init__(self, path: str) -> None:
         self.path = path
@@ -32,7 +32,7 @@ class Feed:
             pass
 
     def tell(self, lines: Sequence[str]) -> int:
-        """Puts lines behind the feed in one write; the number of the first. A line that was broken off there is ended before."""
+        """Appends lines to the feed in one write, and gives the number of the first. A line that was broken off is ended before."""
         with open(self.path, 'r+b') as file:
             fcntl.flock(file, fcntl.LOCK_EX)
             is_broken = self.count(file.fileno())
@@ -45,7 +45,7 @@ class Feed:
             return first
 
     def count(self, file: int) -> bool:
-        """Counts the lines that have come since the last time; whether the last one is broken off."""
+        """Counts the lines that have come since the last time, and gives whether the last one is broken off."""
         if os.fstat(file).st_size < self.size:
             self.lines = self.size = 0
         last = b'\n' if self.size == 0 else os.pread(file, 1, self.size - 1)
@@ -56,6 +56,6 @@ class Feed:
         return last != b'\n'
 
     def said(self, most: int) -> list[Optional[Said]]:
-        """What is heard in the first lines."""
+        """What the first lines say."""
         with open(self.path, encoding='latin-1', newline='\n') as file:
             return [heard(line.rstrip('\n').removesuffix('\r')) for _, line in zip(range(most), file)]

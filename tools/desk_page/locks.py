@@ -1,4 +1,4 @@
-"""Whether a server holds the lock of its store, told without touching it."""
+"""Whether a server has the lock of its store, found out without touching it."""
 from __future__ import annotations
 
 import os
@@ -6,7 +6,7 @@ from typing import Optional
 
 
 def is_held(path: str, table: str = '/proc/locks') -> Optional[bool]:
-    """Whether somebody holds the lock of a file, by the system's table of locks; None where this cannot be told."""
+    """Whether somebody has the lock of a file, by the system's table of locks; None if the table does not say."""
     try:
         status = os.stat(path)
     except OSError:

@@ -11,7 +11,7 @@ from view import cost_words
 
 
 def duration(seconds: int) -> str:
-    """A time that passes, as `5 min` or `1 h 5 min 30 s`."""
+    """A length of time, as `5 min` or `1 h 5 min 30 s`."""
     hours, minutes, rest = seconds // 3600, seconds // 60 % 60, seconds % 60
     parts = [f'{number} {unit}' for number, unit in ((hours, 'h'), (minutes, 'min'), (rest, 's')) if number]
     return ' '.join(parts) or '0 min'
@@ -47,7 +47,7 @@ class Naming:
         return self.network.event_place.get(event)
 
     def event_of(self, event: int) -> str:
-        """An event by its id, which a line may name though there is none."""
+        """An event by its id. A line may name an id that no event has."""
         place = self.place(event)
         return f'event {event}' if place is None else self.event(place)
 

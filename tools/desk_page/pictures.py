@@ -7,12 +7,12 @@ from typing import Callable, NamedTuple, Optional
 from diagram import LEFT, TOP, Frame, Marked, Trains, drawn, frame_of, marked_on, title_of
 from scene import Scene
 
-# So many drawings are kept.
+# At most so many drawings are kept.
 KEPT = 32
 
 
 class Asked(NamedTuple):
-    """A line by number, and the times from which to which it is shown."""
+    """The number of a line, and the times between which it is shown."""
     line: int
     begin: Optional[int]
     end: Optional[int]
@@ -26,7 +26,7 @@ class Picture(NamedTuple):
 
 
 class Pictures:
-    """The drawings of lines. How the stops and the trains of a line stand is worked out once for a stretch of time."""
+    """The drawings of lines. Where the stops and the trains of a line are drawn is worked out once for a stretch of time."""
 
     def __init__(self, lines: list[list[int]]) -> None:
         self.lines = lines
@@ -35,7 +35,7 @@ class Pictures:
         self.kept: dict[Asked, tuple[int, Picture]] = {}
 
     def draw(self, asked: Asked, version: int, scene: Callable[[], Scene]) -> Picture:
-        """The drawing of a line at a version of the day, where it is drawn anew of the day that `scene` gives."""
+        """The drawing of a line at a version of the day. If it has to be drawn anew, `scene` gives the day."""
         with self.lock:
             if asked not in self.kept or self.kept[asked][0] != version:
                 if len(self.kept) >= KEPT:

@@ -1,9 +1,9 @@
 """The least timetable of a day's rows, kept up entry by entry.
 
-It is a second reading of the rules, so that an entry is seen at once; the program's own times follow a moment later and are compared
-with it. An event's time is the largest of its floor and of what its active activities ask for. After an entry the events are worked
-out anew whose own terms it changed, and then those behind each time that has moved, until none moves: along activities without a cycle
-such times are the least timetable.
+It is a second reading of the rules, so that an entry is seen at once. The program's own times follow a moment later, and are compared
+with it. The time of an event is the largest of its floor and of what the active activities into it ask for. An entry changes such
+terms of some events. These events are worked out anew, and then those behind each time that has moved, until none moves. Without a
+cycle of active activities these times are the least timetable.
 """
 from __future__ import annotations
 
@@ -13,7 +13,7 @@ from typing import Iterable
 from network import Network
 from railway import Decision, Message, Rows, apply, floor_of, times_of
 
-# After so many steps for each event all times are worked out at once.
+# After so many steps for each event, all times are worked out at once.
 PATIENCE = 4
 
 
@@ -54,14 +54,14 @@ class Reckoning:
         return time
 
     def enter(self, message: Message) -> set[int]:
-        """Takes a message up; the places of the events whose own terms it changed or whose times have moved."""
+        """Applies a message, and gives the places of the events whose terms it changed or whose times have moved."""
         clock = self.rows.clock
         apply(self.network, self.rows, message)
         touched = set(self.touched(message, clock))
         return touched | self.settle(touched)
 
     def enter_only(self, message: Message) -> None:
-        """Takes a message up and leaves the times as they are, until `all_anew`."""
+        """Applies a message, and leaves the times as they are until `all_anew`."""
         apply(self.network, self.rows, message)
 
     def all_anew(self) -> None:
@@ -72,7 +72,7 @@ class Reckoning:
         self.times = times
 
     def touched(self, message: Message, clock: int) -> Iterable[int]:
-        """The events whose own terms a message has changed."""
+        """The events whose terms a message has changed."""
         network, kind = self.network, message[0]
         if kind == 'now':
             return [place for place, event in enumerate(network.events)

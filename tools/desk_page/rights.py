@@ -1,4 +1,4 @@
-"""Who may ask the page's server what: hosts, origins and the token."""
+"""Who may ask the page's server for what: hosts, origins and the token."""
 from __future__ import annotations
 
 import hmac
@@ -16,7 +16,7 @@ LOOPBACK = ('127.0.0.1', 'localhost', '[::1]')
 
 
 def read_token(path: str) -> str:
-    """The token in a file; BadFile where it is too short or the file cannot be read."""
+    """The token in a file; BadFile if it is too short or the file cannot be read."""
     try:
         with open(path, encoding='ascii') as file:
             token = file.read(4096).strip()
@@ -36,7 +36,7 @@ def others_read(path: str) -> bool:
 
 @dataclass(frozen=True)
 class Rights:
-    """The hosts by which the page is called, as `127.0.0.1:8080`, and the token that lets tell, if any does."""
+    """The hosts by which the page is called, as `127.0.0.1:8080`, and the token with which one may report and decide, if there is one."""
     hosts: frozenset[str]
     token: Optional[str]
 
@@ -52,7 +52,7 @@ class Rights:
         return None
 
     def refusal_to_tell(self, headers: Mapping[str, str]) -> Optional[str]:
-        """Why nothing is taken from whom the page is shown, or None."""
+        """Why nothing is taken from a page that is shown, or None."""
         if self.token is None:
             return 'this desk only shows: it was started without a token'
         if headers.get('Origin') is None:
@@ -68,7 +68,7 @@ class Rights:
 
 
 def hosts_of(listen: str, port: int, names: list[str]) -> frozenset[str]:
-    """The hosts by which a page that listens there may be called; each name also without its port, as behind TLS."""
+    """The hosts by which a page at this address may be called; each name also without its port, as behind TLS."""
     own = [*LOOPBACK, listen if ':' not in listen else f'[{listen}]']
     return frozenset([*(f'{name}:{port}'.lower() for name in own), *(name.lower() for name in names)])
 

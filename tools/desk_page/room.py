@@ -27,10 +27,10 @@ from scene import lines_of
 # The seconds between two looks at the journal, between two looks at who is silent, and from one answer of the program to the next question.
 LOOK, TICK, PAUSE = 0.01, 1.0, 0.3
 
-# So many lines are offered to look at.
+# At most so many lines of stops are offered.
 MOST_LINES = 40
 
-# So many lines of the feed are compared with what was answered.
+# At most so many lines of the feed are compared with what was answered.
 COMPARED = 20_000
 
 
@@ -52,7 +52,7 @@ class Settings:
 
 @dataclass
 class Room:
-    """A day, its journal and its feed; all that is shared is changed under one lock."""
+    """A day, its journal and its feed. All that threads share is changed under one lock."""
     day: Day
     feed: Feed
     settings: Settings
@@ -76,7 +76,7 @@ class Room:
         self.broken = False
 
     def start(self) -> None:
-        """Starts to read and to ask."""
+        """Starts to read the journal and to ask the program."""
         for work in (self.read_on, self.ask_on):
             threading.Thread(target=work, daemon=True).start()
 
@@ -101,7 +101,7 @@ class Room:
                 self.stopped.wait(LOOK)
 
     def read_more(self) -> bool:
-        """Takes up what the journal has more; whether there was anything."""
+        """Takes up what is new in the journal, and gives whether there was anything."""
         blocks = self.journal.read()
         if blocks is None:
             with self.changed:
@@ -135,7 +135,7 @@ class Room:
                 self.other_feed(f'The server has {head.feeds} feeds; there is no feed {day.feed}.')
 
     def compare(self, answered: list[Answered]) -> None:
-        """Compares what was answered with the lines of the feed: with those told here, or else with the file's."""
+        """Compares what was answered with the lines of the feed: with those written here, or else with those of the file."""
         own = [one.item for one in answered if one.feed == self.day.feed]
         if not own or self.is_other_feed:
             return
@@ -143,10 +143,10 @@ class Room:
         for item in own:
             line, _ = self.pending.pop(item.line, ('', 0.0))
             if said is not None and item.line <= len(said) and said[item.line - 1] != item.said:
-                self.other_feed(f'Feed {self.day.feed} of the server is another file than the one this desk tells. See --feed.')
+                self.other_feed(f'Feed {self.day.feed} of the server is another file than the one to which this desk writes. See --feed.')
                 return
             if said is None and line and ' '.join(map(str, item.said or ())) != line:
-                self.other_feed(f'Line {item.line} of feed {self.day.feed} was told by somebody else. See --feed.')
+                self.other_feed(f'Line {item.line} of feed {self.day.feed} was written by somebody else. See --feed.')
                 return
 
     def other_feed(self, why: str) -> None:
@@ -172,7 +172,7 @@ class Room:
             self.stopped.wait(max(PAUSE, 3 * (time.monotonic() - began)))
 
     def confirm(self) -> None:
-        """Compares the times with those of the program, and takes these where they differ."""
+        """Compares the times with those of the program, and takes the program's if they differ."""
         with self.changed:
             asking, day = self.asking, self.day
             count = len(day.entries)
@@ -213,7 +213,7 @@ class Room:
     # ---- What the page asks
 
     def show(self) -> None:
-        """Makes the picture of the screen anew, and wakes the streams where it has changed."""
+        """Makes the picture of the screen anew, and wakes the streams if it has changed."""
         with self.changed:
             waits_since = min((since for _, since in self.pending.values()), default=None)
             server = Server(is_held(f'{self.settings.store}/lock'), waits_since)
@@ -232,14 +232,14 @@ class Room:
             return self.day.scene()
 
     def tell(self, kind: object, numbers: object) -> int:
-        """Tells a line; its number in the feed. Refused where it is none that may be told."""
+        """Appends a line to the feed, and gives its number. Refused if the page may not write it."""
         line = line_of(kind, numbers)
         if line is None:
-            raise Refused('this is no line that may be told')
+            raise Refused('the page may not write this line')
         return self.put([line])
 
     def undo(self, number: object) -> int:
-        """Tells the lines that take a line back; the number of the first."""
+        """Appends the lines that take a line back, and gives the number of the first."""
         with self.changed:
             told = next((told for told in self.day.told if told.item.line == number), None)
             if told is None or told.entry is None or told.back is None:
@@ -252,14 +252,14 @@ class Room:
         return self.put(spoken(back))
 
     def turned(self, decisions: Sequence[Decision]) -> list[Decision]:
-        """Those of many decisions that differ from the rows, in an order in which none closes a cycle."""
+        """The decisions that differ from the rows, in an order in which none closes a cycle."""
         try:
             return in_turn(self.day.network, self.day.reckoning.rows, decisions)
         except ValueError as error:
             raise Refused('with what was entered since, they would close a cycle') from error
 
     def enter_choices(self) -> int:
-        """Tells those choices of the last plan one by one that are still free and differ from the rows, in an order in which none closes
+        """Enters one by one the choices of the last plan that are still free and differ from the rows, in an order in which none closes
         a cycle; the number of the first line."""
         with self.changed:
             network, rows, plan = self.day.network, self.day.reckoning.rows, self.day.plan

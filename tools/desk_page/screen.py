@@ -14,7 +14,7 @@ from view import cost_words
 if TYPE_CHECKING:
     from desk_page.room import Room
 
-# So much of the end of a board's file is read.
+# At most so many bytes at the end of a board's file are read.
 BOARD_TAIL = 1 << 20
 
 TIME = re.compile(rb'^([0-9]{1,10}); ([0-9]{1,39})\n', re.MULTILINE)
@@ -62,7 +62,7 @@ def told_rows(room: Room) -> list[list[Any]]:
 
 
 def said_of(line: str) -> tuple[Any, ...]:
-    """What a line that was told here says."""
+    """What a line that was written here says."""
     words = line.split()
     numbers = [int(word) for word in words if word.isdecimal()]
     return (' '.join(words[:len(words) - len(numbers)]), *numbers)
@@ -144,7 +144,7 @@ def event_row(day: Day, place: int, where: str) -> list[Any]:
 
 
 def board_of(room: Room, stop: int) -> dict[str, Any]:
-    """The board of a stop: its events by their times as they stand, and what the server's own board shows, where there is one."""
+    """The board of a stop: its events by their times as they stand, and what the server's own board shows, if there is one."""
     day = room.day
     places = day.at_stop.get(stop, [])
     times = day.reckoning.times
@@ -159,7 +159,7 @@ def board_time(shown: dict[int, int], event: int) -> str:
 
 
 def server_board(path: str) -> dict[int, int]:
-    """The last time of each event in the end of a board's file; nothing where there is none."""
+    """The last time of each event at the end of a board's file; nothing if there is no file."""
     try:
         with open(path, 'rb') as file:
             file.seek(0, os.SEEK_END)

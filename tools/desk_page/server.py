@@ -1,4 +1,4 @@
-"""The page's server: a few addresses that are known by heart, a stream of what changes, and lines that are told.
+"""The page's server: a few fixed addresses, a stream of what changes, and lines that are taken.
 
 No part of an address becomes the name of a file. Bodies, headers, streams and connections are bounded.
 """
@@ -26,7 +26,7 @@ WEB = os.path.join(os.path.dirname(os.path.abspath(__file__)), 'web')
 FILES = {'/': ('desk.html', 'text/html'), '/desk.css': ('desk.css', 'text/css'), '/desk.js': ('desk.js', 'text/javascript'),
          '/seen.js': ('seen.js', 'text/javascript'), '/done.js': ('done.js', 'text/javascript'), '/parts.js': ('parts.js', 'text/javascript')}
 
-# At most so many pages are streamed to, and so many connections are open; a stream that is still has a word each so many seconds.
+# At most so many pages have a stream, and so many connections are open. A stream without news sends a word every so many seconds.
 MOST_STREAMS, MOST_OPEN, BEAT = 24, 96, 10.0
 
 # A picture shows so many seconds at most.
@@ -37,7 +37,7 @@ PICTURE_STYLE = re.compile('<style>(.*?)</style>')
 
 
 class Asks(Exception):
-    """A request that is not answered as it wants: a status and words."""
+    """A request that is refused, with a status and words."""
 
 
 class PageServer(ThreadingHTTPServer):
@@ -68,7 +68,7 @@ class PageServer(ThreadingHTTPServer):
             self.open.release()
 
     def handle_error(self, request: Any, client_address: Any) -> None:
-        """A page that goes away in the middle is no fault."""
+        """A page that goes away in the middle of an answer is no fault."""
         if not isinstance(sys.exc_info()[1], (ConnectionError, TimeoutError)):
             super().handle_error(request, client_address)
 
@@ -95,7 +95,7 @@ class Handler(BaseHTTPRequestHandler):
     timeout = 60
 
     def log_message(self, format: str, *args: Any) -> None:
-        """Says nothing of each request."""
+        """Prints nothing about requests."""
 
     def do_GET(self) -> None:
         self.answered(self.get)
@@ -152,7 +152,7 @@ class Handler(BaseHTTPRequestHandler):
         answer(words)
 
     def whole(self, words: dict[str, list[str]], name: str, most: int) -> Optional[int]:
-        """A whole number below a limit among the words of an address; None where it is not there."""
+        """A whole number below a limit among the words of an address; None if it is not there."""
         given = words.get(name, [''])[0]
         if not given:
             return None
@@ -221,7 +221,7 @@ class Handler(BaseHTTPRequestHandler):
                 seen, was, screen = room.number, seen, room.screen
             self.wfile.write(b'data: ' + screen + b'\n\n' if seen != was else b': still here\n\n')
 
-    # ---- What is told
+    # ---- What is taken
 
     def post(self) -> None:
         refusal = self.server.rights.refusal_to_tell(self.headers)  # type: ignore[arg-type]
@@ -230,7 +230,7 @@ class Handler(BaseHTTPRequestHandler):
         answer = {'/tell': self.post_tell, '/undo': self.post_undo, '/enter': self.post_enter, '/window': self.post_window, '/rules': self.post_rules,
                   '/token': self.post_token}.get(self.path)
         if answer is None:
-            raise Asks(404, 'nothing is told under this address')
+            raise Asks(404, 'nothing is taken at this address')
         answer(self.body())
 
     def body(self) -> dict[str, Any]:
@@ -278,7 +278,7 @@ class Handler(BaseHTTPRequestHandler):
             self.send(PICTURE_STYLE.sub('', self.server.room.rules()).encode(), 'image/svg+xml')
 
     def alone(self) -> threading.Lock:
-        """One question that takes long is asked at a time."""
+        """Of the questions that take long, one is asked at a time."""
         if self.server.works.locked():
             raise Asks(429, 'another question is being worked on')
         return self.server.works

@@ -8,8 +8,8 @@ from railway import Decision, Message, Rows
 
 
 def reversal(said: Message, before: Rows, network: Network) -> Optional[list[Message]]:
-    """The lines that take a message back, from the rows before it; None where nothing can (the clock does not go back), and no lines
-    where it changed nothing."""
+    """The lines that take a message back, from the rows before it; None if nothing can (the clock does not go back), and no lines
+    if it changed nothing."""
     kind = said[0]
     if kind == 'now':
         return None
@@ -29,7 +29,7 @@ def reversal(said: Message, before: Rows, network: Network) -> Optional[list[Mes
 
 
 def turned_back(decision: Decision, rows: Rows, network: Network) -> Optional[Decision]:
-    """The decision by which rows had it before, or None where they had this one."""
+    """The decision that the rows had before, or None if it is this one."""
     if decision[0] == 'first':
         one, other = (network.event_place[event] for event in decision[1:])
         return None if rows.first[network.pair_at(one, other)] == one else ('first', decision[2], decision[1])

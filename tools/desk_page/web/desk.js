@@ -21,7 +21,7 @@ function show(text) {
   document.documentElement.dataset.version = screen.version;
 }
 
-// New alerts are said, but not those that stood there when the page was opened.
+// New alerts are read aloud, but not those that stood there when the page was opened.
 function announce(before) {
   const now = new Set(screen.alerts.map(([kind, key]) => `${kind} ${key}`));
   const fresh = screen.alerts.filter(([kind, key]) => !announced.has(`${kind} ${key}`) && key !== 'more');

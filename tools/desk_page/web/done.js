@@ -1,4 +1,4 @@
-// What is done: lines that are told, a plan that is compared and adopted, and what is only tried.
+// What is done: lines that are written, a plan that is compared and adopted, and what is only tried.
 import { button, element, get, made, oneAtATime, post, replace, rights, say, secondsOf, table, timeOf, withNumber } from './parts.js';
 
 let day = null, screenNow = null, train = null, plannedOf = null;
@@ -103,7 +103,7 @@ function showChoices(mayTell) {
   replace(element('choices'), ...rows);
 }
 
-// ---- Lines that were told
+// ---- Lines that were written here
 
 export function showTold(screen) {
   const rows = screen.told.map(([line, words, raw, answer, good, back]) => {

@@ -80,7 +80,7 @@ export async function post(path, asked) {
   return answer;
 }
 
-// Does a thing again whenever it is asked for, one at a time; what is asked for meanwhile is done once more at the end.
+// Does a thing whenever it is asked for, one at a time. If it is asked for meanwhile, it is done once more at the end.
 export function oneAtATime(does) {
   let busy = false, again = false;
   return async () => {
@@ -99,7 +99,7 @@ export function oneAtATime(does) {
   };
 }
 
-// What is read aloud: one thing in some seconds at most, so that it does not chatter; what comes meanwhile is counted.
+// What is read aloud: at most one thing in some seconds. What comes meanwhile is counted.
 let quietUntil = 0, waiting = [];
 export function say(text) {
   waiting.push(text);

@@ -58,7 +58,7 @@ function showStop(stop) {
 
 export function showScreen(screen) {
   clock = screen.seconds;
-  element('clock').textContent = screen.clock || 'not told';
+  element('clock').textContent = screen.clock || 'not reported';
   element('entries').textContent = screen.began ? screen.entries : 'no server yet';
   element('confirmed').textContent = confirmed(screen);
   element('cost').textContent = screen.cost || '–';
@@ -147,7 +147,7 @@ export const refreshLine = oneAtATime(async () => {
   markTrain();
 });
 
-// Where no clock was told, the line for now is that of the clock on the wall.
+// If no feed reports the clock, the stroke for now is that of the clock on the wall.
 function drawNow(svg, [begin, end, left, scale, top, height]) {
   const now = wallClock();
   if (now < begin || now > end) return;
