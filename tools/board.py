@@ -23,7 +23,7 @@ LONGEST_LINE = 4_000_000
 TIME = re.compile(b'(%b); (%b)' % (NUMBER, NUMBER))
 TIMES = re.compile(b'%b; %b(?:, %b; %b)*' % (NUMBER, NUMBER, NUMBER, NUMBER))
 
-# So many of the lines that are skipped are told one by one.
+# At most so many skipped lines are reported one by one.
 TOLD = 5
 
 

@@ -99,7 +99,7 @@ def choices_of_window(text: Text) -> tuple[Decision, ...]:
 
 
 def choices_in(data: bytes, feed: int | None) -> tuple[Decision, ...]:
-    """The choices that the bytes of a text tell; Bad at the first line of another form."""
+    """The choices that the bytes of a text have; Bad at the first line of another form."""
     text = Text(data)
     return choices_of_window(text) if data.startswith(b'window ') else choices_of_run(text, feed)
 

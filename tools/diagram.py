@@ -49,7 +49,7 @@ LEFT, RIGHT, TOP, BOTTOM = 130, 20, 64, 112
 Stretches = list[list[int]]
 Trains = list[tuple[int, Stretches]]
 
-# At most so many lines are told.
+# At most so many lines are reported.
 MOST_LINES = 12
 
 

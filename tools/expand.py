@@ -211,7 +211,7 @@ def past_midnight(before: Day, notes: Notes) -> Iterator[Train]:
 @dataclass
 class Passengers:
     """How many passengers leave a trip at a stop, in thousandths, and how many of them change to another trip there; one at each arrival
-    and each change where nothing is told."""
+    and each change if nothing is said of it."""
     numbers: Optional[dict[tuple[str, str], int]] = None
     changes: dict[tuple[str, str, str], int] = field(default_factory=dict)
     used: set[tuple[str, ...]] = field(default_factory=set)

@@ -57,7 +57,7 @@ LONGEST_BOUND = 1_000_000
 MOST_PASSENGERS = 1_000_000
 STATIONS_SHOWN = 20
 
-# The longest line that is told.
+# The longest line that is printed.
 LONGEST_LINE = 1000
 
 # The columns of Changes.csv.

@@ -210,7 +210,7 @@ def date_of(text: str) -> Optional[date]:
         return None
 
 
-# ---- What is told of a feed
+# ---- What is reported of a feed
 
 
 class Told(Counter[str]):
@@ -225,7 +225,7 @@ class Told(Counter[str]):
         self.first.setdefault(what, row)
 
     def take(self, other: Told) -> None:
-        """Takes in what another one tells."""
+        """Adds what another one reports."""
         self.update(other)
         self.first = other.first | self.first
 

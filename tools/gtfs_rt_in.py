@@ -147,7 +147,7 @@ class Listener:
                 last = self.take_time(name, call.get(name.kind), last, told, where)
 
     def take_time(self, name: EventName, said: Optional[Message], last: Optional[int], told: Told, where: str) -> Optional[int]:
-        """Takes in the time of an event; answers the last time that is known of the train."""
+        """Takes in the time of an event; gives the last time that is known of the train."""
         place = self.network.event_place[name.event]
         if said is None or not said.keys() & {'time', 'delay'}:
             return last
@@ -182,7 +182,7 @@ class Listener:
                 told.past[self.network.event_place[name.event]] = min(now, stamp - self.named.begin)
 
     def take(self, data: bytes, source: str) -> list[str]:
-        """The lines of a feed for what a message tells beside what is known."""
+        """The lines of a feed for what a message says beyond what is known."""
         digest = hashlib.sha256(data).digest()
         if digest in self.seen:
             self.said.tell('messages that come twice', source)
@@ -228,7 +228,7 @@ class Listener:
 
     def swept(self, past: dict[int, int], ahead: dict[int, int], now: int, told: Told) -> Iterator[tuple[int, int]]:
         """By place: the times of events that are past, and the source delays that are other than before; in an order in which nothing
-        stands before what it rests on. What is past at a time that nobody told was when all that stands before it allows."""
+        stands before what it rests on. What is past without a reported time was as soon as all that stands before it allows."""
         network, rows = self.network, self.rows
         after = rows.copy()
         for place, at in past.items():

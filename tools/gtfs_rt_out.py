@@ -61,7 +61,7 @@ def read_text(name: str, events: int) -> Run:
 
 
 def run_in(name: str, data: bytes, events: int) -> Run:
-    """The run that bytes of this name tell."""
+    """The run that bytes of this name have."""
     try:
         return read_run(data, events)
     except Bad as error:
@@ -271,7 +271,7 @@ class Handing(BaseHTTPRequestHandler):
 
 
 def serving(out: str, port: int) -> HTTPServer:
-    """A server of a file on this computer, which answers from now on."""
+    """A server of a file on this computer, from now on."""
     server = ThreadingHTTPServer(('127.0.0.1', port), type('HandingOut', (Handing,), {'out': out}))
     threading.Thread(target=server.serve_forever, daemon=True).start()
     print(f'gtfs_rt_out: http://127.0.0.1:{server.server_port}/ hands out {out}', file=sys.stderr, flush=True)
@@ -279,7 +279,7 @@ def serving(out: str, port: int) -> HTTPServer:
 
 
 def state_of(source: str) -> Optional[State]:
-    """What tells one state of a text, or of a store's journal, from another."""
+    """By what one state of a text, or of a store's journal, differs from another."""
     try:
         found = os.stat(journal_of(source) if os.path.isdir(source) else source)
     except OSError:

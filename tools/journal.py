@@ -153,7 +153,7 @@ class Journal:
         return None if self.rounds is None else self.rounds.head
 
     def read(self) -> list[Entry]:
-        """Reads what has come, and answers its entries; BadFile where it cannot be read, is another one, or has another form."""
+        """Reads what has come, and gives its entries; BadFile if it cannot be read, is another one, or has another form."""
         before = len(self.entries)
         while contents := self.contents():
             for content in contents:

@@ -31,7 +31,7 @@ from words import add_network, command_line
 
 DAY = 86_400
 
-# At most so many lines of each kind of oddity are told; of the rest their number is.
+# At most so many oddities of each kind are reported. Of the others only the number is.
 MOST = 20
 
 

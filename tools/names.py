@@ -72,7 +72,7 @@ class NamedTrip(NamedTuple):
 
 
 def named_trip(name: str) -> NamedTrip:
-    """What the name of a train tells, as TRIP, TRIP@06:30:00, TRIP@20261127 or TRIP@20261127@25:10:00."""
+    """What the name of a train says, as TRIP, TRIP@06:30:00, TRIP@20261127 or TRIP@20261127@25:10:00."""
     found = re.fullmatch('(.*?)(?:@([0-9]{8}))?(?:@([0-9]{2,3}:[0-9]{2}:[0-9]{2}))?', name, re.DOTALL)
     assert found is not None, 'any name fits'
     return NamedTrip(*(part or '' for part in found.groups()))

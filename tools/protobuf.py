@@ -135,7 +135,7 @@ def end_of_field(data: bytes, wire: int, place: int, end: int) -> tuple[int, int
     return place, place + length
 
 
-# The fields of each kind of message by the number with which they begin, which tells the way that they are written, too.
+# The fields of each kind of message by the number with which they begin, which also says how they are written.
 BY_TAG = {
     kind: {
         number << 3 | (VARINT if what in SCALARS else BYTES): (name, what.lstrip('*'), what[0] == '*')

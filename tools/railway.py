@@ -269,7 +269,7 @@ def rows_after(network: Network, rows: Rows, message: Message) -> Rows:
 def admit(network: Network, rows: Rows, count: int, message: Message) -> tuple[Optional[Refusal], Optional[Rows]]:
     """The first refusal of a message at so many entries, or None, and the rows after it, where nothing refuses it at once.
 
-    The refusal of a cycle names none: ('cycle',). Which lists are cycles of the rows after it, `is_cycle` tells.
+    The refusal of a cycle names none: ('cycle',). `is_cycle` says which lists are cycles of the rows after it.
     """
     refusal = refusal_at_once(network, rows, message)
     if refusal is not None:

@@ -32,7 +32,7 @@ def items_of(reply: bytes) -> Iterator[Item]:
 
 
 def line_of(item: Item) -> str:
-    """A line that an item answers."""
+    """The line that an item answers."""
     return MALFORMED if item.said is None else ' '.join(map(str, item.said))
 
 

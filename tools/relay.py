@@ -15,10 +15,10 @@ of E. A correction down is written, too. If nothing changes, nothing is written,
 has one relay, and this relay knows all tables, because a delay replaces the one before.
 
 With --feed the script appends its lines to FILE, as the control room does. `tail -n +1 -f FILE` feeds the region's server from
-it. When the relay is started again, it reads in FILE what the region was told before. Until it has heard of all events for which
-an event waits, it tells no less than that. Without --feed the lines go to standard output, and nothing is known from before.
+it. When the relay is started again, it reads in FILE what it had reported to the region. Until it has times of all events for
+which an event waits, it reports no less than that. Without --feed the lines go to standard output, and nothing is known from before.
 
-It waits for the rest of a line that is broken off. It skips a line of another form, a time that a region tells of another
+It waits for the rest of a line that is broken off. It skips a line of another form, a time that a region reports of another
 region's event, and a time that would need a delay above 1,000,000 seconds. Standard error shows the first few of these, and at
 the end how many there were.
 """
@@ -58,7 +58,7 @@ TOPIC = re.compile(b'board/(%b)/[^ ]+ ' % NUMBER)
 
 
 class Relay:
-    """What is known of the neighbours' events, and what the region was told of its own, by this relay and by one before it."""
+    """What is known of the neighbours' events, and what this relay, or one before it, reported to the region."""
 
     def __init__(self, cuts: Iterable[Cut], told: Iterable[tuple[int, int]] = ()):
         self.behind: dict[int, list[Cut]] = defaultdict(list)
@@ -90,26 +90,26 @@ class Relay:
 
 @dataclass
 class Heard:
-    """What a line tells: times of events, and the region that says so, where its topic tells."""
+    """What a line says: times of events, and the region that says so, if the topic names it."""
     times: list[tuple[int, int]]
     region: Optional[int] = None
 
 
 def heard_in(line: Optional[bytes], has_topic: bool) -> Optional[Heard]:
-    """What is heard in a line, or None where it is of another form."""
+    """What a line says, or None if it is of another form."""
     found = TOPIC.match(line) if line is not None and has_topic else None
     times = times_of(line[found.end():] if line is not None and found else line)
     return None if times is None or has_topic and not found else Heard(times, int(found[1]) if found else None)
 
 
 def believed(told: Relay, heard: Heard, number: int, skipped: Skipped) -> Iterator[tuple[int, int]]:
-    """The times of a line that its region may tell."""
+    """The times of a line that its region may report."""
     for event, time in heard.times:
         cuts = told.behind.get(event, ())
         if heard.region is None or all(cut.home == heard.region for cut in cuts):
             yield event, time
         else:
-            skipped.skip(number, f'region {heard.region} tells a time of event {event}, which is not its own')
+            skipped.skip(number, f'region {heard.region} reports a time of event {event}, which is not its own')
 
 
 def relay(told: Relay, file: BufferedIOBase, has_topics: bool, write: Callable[[str], None], skipped: Skipped) -> None:
@@ -143,7 +143,7 @@ class FeedFile:
             self.write('\n')
 
     def told(self) -> Iterator[tuple[int, int]]:
-        """The delays of events that its lines tell."""
+        """The delays of events that its lines report."""
         for line in self.text.split('\n'):
             said = heard_in_feed(line.removesuffix('\r'))
             if said is not None and said[0] == 'delay event' and said[2] <= LARGEST_DELAY:

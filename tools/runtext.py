@@ -53,7 +53,7 @@ class Bad(Exception):
 
 
 class Answer(NamedTuple):
-    """An answer, the entry at which it was given, where it tells one, and what else it says: a number, a refusal or a plan."""
+    """An answer, the entry at which it was given, if it names one, and what else it says: a number, a refusal or a plan."""
     kind: str
     entry: Optional[int] = None
     value: Any = None
@@ -67,7 +67,7 @@ class Item(NamedTuple):
 
 
 class PlanHead(NamedTuple):
-    """What the first line of a plan tells."""
+    """What the first line of a plan says."""
     mark: str
     cost: int
     bound: int
@@ -141,7 +141,7 @@ def read_reason(words: Sequence[str]) -> Optional[Refusal]:
 
 
 def read_plan_head(words: Sequence[str], version: int) -> Optional[PlanHead]:
-    """What the words of a plan's first line tell, or None."""
+    """What the words of a plan's first line say, or None."""
     for mark in ('optimal', 'open'):
         numbers = fits(words, [
             'plan', mark, 'cost', NUMBER, 'bound', NUMBER, 'choices', NUMBER, 'leaves' if version == 1 else 'nodes', NUMBER,
@@ -184,7 +184,7 @@ def read_item(words: Sequence[str], version: int) -> Optional[Item]:
 
 
 def heard(line: str) -> Optional[Said]:
-    """What is heard in a line of a feed, None where it is malformed, or NOTHING where it is blank or a comment."""
+    """What a line of a feed says, None if it is malformed, or NOTHING if it is blank or a comment."""
     if len(line) > LONGEST_LINE:
         return None
     words = [word for word in line.split(' ') if word]
@@ -194,7 +194,7 @@ def heard(line: str) -> Optional[Said]:
 
 
 def due_items(feed: str) -> list[tuple[int, Optional[Said]]]:
-    """The due lines of a feed, each with its number and what is heard in it."""
+    """The due lines of a feed, each with its number and what it says."""
     *lines, rest = feed.split('\n')
     lines = [line.removesuffix('\r') for line in lines] + ([rest] if rest else [])
     return [(number, said) for number, line in enumerate(lines, 1) if (said := heard(line)) != NOTHING]
@@ -318,7 +318,7 @@ class BoardNote(NamedTuple):
 
 
 class Run(NamedTuple):
-    """What a whole text tells. The times are by id of the event; the cost is that after all entries."""
+    """What a whole text says. The times are by id of the event; the cost is that after all entries."""
     version: int
     penalty: int
     journal: list[Entry]
@@ -346,7 +346,7 @@ def read_entry(text: Text) -> Entry:
 
 
 def read_items(text: Text, version: int, feed: int) -> list[Item]:
-    """The items of a feed, behind the line that tells how many they are."""
+    """The items of a feed, behind the line that says how many they are."""
     number, count = text.read('feed', NUMBER, NUMBER)
     text.demand(number == feed, 'form')
     return [read_whole_item(text, version) for _ in range(count)]
@@ -361,7 +361,7 @@ def read_log(text: Text, version: int, feed: int) -> FeedLog:
 
 
 def read_whole_item(text: Text, version: int) -> Item:
-    """A log item, with the plan's other lines where it tells one."""
+    """An item of a log, with the other lines of the plan if it has one."""
     item = text.sure(read_item(text.words(), version))
     if item.answer is None or item.answer.kind != 'plan':
         return item
@@ -383,7 +383,7 @@ def read_time(text: Text) -> tuple[int, int]:
 
 
 def read_run(data: bytes, events: int) -> Run:
-    """The run that the bytes of a whole text tell, over a network of so many events; Bad at the first line of another form."""
+    """The run that the bytes of a whole text have, over a network of so many events; Bad at the first line of another form."""
     text = Text(data)
     version, penalty, feeds, journal = read_journal(text)
     logs = [read_log(text, version, feed) for feed in range(1, feeds + 1)]

@@ -65,7 +65,7 @@ def lateness_class(seconds: int) -> int:
 
 
 def read_text(name: str, network: Network) -> Run:
-    """The run that a file tells of a network."""
+    """The run over a network that a file has."""
     try:
         return read_run(text_of(name).encode('latin-1'), len(network.events))
     except Bad as bad:

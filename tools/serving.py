@@ -64,7 +64,7 @@ class Server:
         return os.path.join(self.store, f'reply-{feed + 1}.txt')
 
     def replies(self) -> list[int]:
-        """What tells the file of each reply from another one of its name; 0 where there is none."""
+        """By what each reply file differs from another one of its name; 0 if there is none."""
         names = [self.reply(feed) for feed in range(len(self.feeds))]
         return [os.stat(name).st_ino if os.path.exists(name) else 0 for name in names]
 

@@ -1,4 +1,4 @@
-"""Small networks and rows that are drawn: trains that meet, changes, pairs with one or two headways either way, and what a day tells."""
+"""Small networks and rows that are drawn: trains that meet, changes, pairs with one or two headways either way, and what a day reports."""
 from __future__ import annotations
 
 from random import Random

@@ -1,4 +1,4 @@
-"""Solvers beside the server: what their logs tell, what stands in the table, and what two of them cannot both say."""
+"""Solvers beside the server: what their logs say, what stands in the table, and what two of them cannot both say."""
 from __future__ import annotations
 
 import os

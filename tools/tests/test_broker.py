@@ -1,4 +1,4 @@
-"""Regions over the broker that ships: relays and feeds that are away lose nothing, and nobody says what is not his."""
+"""Regions over the broker that ships: relays and feeds that are away lose nothing, and nobody writes where he may not."""
 from __future__ import annotations
 
 import os
@@ -61,10 +61,10 @@ class OverBroker(unittest.TestCase):
         return subprocess.run(command, input=''.join(f'{line}\n' for line in lines), text=True, capture_output=True).returncode
 
     def hear(self, user: str, topic: str, into: str, client: str, is_known: bool = False) -> list[subprocess.Popen[bytes]]:
-        """Starts a client with a name that puts what it hears into a file."""
+        """Starts a client with a name that puts what it gets into a file."""
         command = self.broker.client(user, 'mosquitto_sub', '-i', client, '-c', '-q', '1', '-t', topic)
         if not is_known:
-            # This one ends as soon as the broker knows what it wants to hear.
+            # This one ends as soon as the broker knows its topics.
             subprocess.run([*command, '-E'], check=True, capture_output=True)
         with open(self.name(into), 'ab') as file:
             return [self.start(command, stdout=file)]
@@ -98,13 +98,13 @@ class Away(OverBroker):
         self.say('region-1', 'board/1/6', '1; 950, 2; 1270')
         self.until('lines', ['delay event 9 300'])
         stop(relay)
-        # One board goes on and comes back, another is told for the first time; of one nothing is retained.
+        # One board goes on and comes back, another comes for the first time; of one nothing is retained.
         self.say('region-1', 'board/1/6', '1; 1400, 2; 1270', '1; 900, 2; 900')
         self.say('region-3', 'board/3/7', '3; 1005, 1; 5000', words=())
         relay = self.relay()
         self.until_last({9: 0, 10: 5})
         stop(relay)
-        # A relay that has never been there has the retained lines alone, and what the region was told.
+        # A relay that has never been there has the retained lines alone, and what was reported to the region.
         with open(self.name('lines'), 'w', encoding='ascii') as file:
             file.write('delay event 9 300\n')
         command = self.broker.client('region-2', 'mosquitto_sub', '-C', '1', *BOARDS)

@@ -1,4 +1,4 @@
-"""The desk without a browser: the journal as it grows, times beside those of the rules, lines that are told, names, and who may what."""
+"""The desk without a browser: the journal as it grows, times beside those of the rules, lines that are written, names, and who may do what."""
 from __future__ import annotations
 
 import http.client

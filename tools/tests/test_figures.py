@@ -66,7 +66,7 @@ class Commands(unittest.TestCase):
         self.program = os.path.join(folder.name, 'program')
 
     def call(self, told: str, asked: str = text('late_first_train')) -> subprocess.CompletedProcess[str]:
-        """Calls the script with a program that tells a text."""
+        """Calls the script with a program that prints a text."""
         with open(self.program, 'w', encoding='utf-8') as file:
             file.write(PROGRAM.format(python=sys.executable, text=told))
         os.chmod(self.program, os.stat(self.program).st_mode | stat.S_IXUSR)

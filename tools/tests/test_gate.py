@@ -19,7 +19,7 @@ TICKS = 100
 
 
 def make_process(proc: str, pid: int, parent: int, ticks: Sequence[int], words: Sequence[str], folder: str) -> None:
-    """A process as /proc tells it: `ticks` are those of the process and of its ended children, in user and in system mode."""
+    """A process as /proc shows it: `ticks` are those of the process and of its ended children, in user and in system mode."""
     at = Path(proc, str(pid))
     at.mkdir()
     at.joinpath('cmdline').write_bytes(b'\0'.join(it.encode() for it in words) + b'\0')

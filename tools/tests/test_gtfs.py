@@ -1,4 +1,4 @@
-"""Networks of feeds: what becomes of a service day, what is said of the rest, and how broken feeds are told."""
+"""Networks of feeds: what becomes of a service day, what is said of the rest, and how broken feeds are reported."""
 from __future__ import annotations
 
 import os

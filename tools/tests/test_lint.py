@@ -1,4 +1,4 @@
-"""What is told of odd networks and feeds."""
+"""What is reported of odd networks and feeds."""
 from __future__ import annotations
 
 import io

@@ -149,7 +149,7 @@ class Replies(InStore):
 
 
 class Realtime(InNetwork):
-    """Two trains, whose server has two feeds: what gtfs_rt_in.py tells is the first."""
+    """Two trains, whose server has two feeds: the first has what gtfs_rt_in.py writes."""
 
     def setUp(self) -> None:
         super().setUp()
@@ -164,7 +164,7 @@ class Realtime(InNetwork):
     def test_what_the_store_has_entered_is_known(self) -> None:
         Path(self.feed).write_text('delay event 1 300\ndelay event 1 120\n', encoding='ascii')
         net = read_network(self.net)
-        # The other feed has told another delay behind the first line, and the second one is not answered yet.
+        # The other feed has reported another delay behind the first line, and the second one is not answered yet.
         self.journal(b'feed 1 1\n1 delay event 1 300 -> 1 ok\nfeed 2 1\n1 delay event 1 500 -> 2 ok\n')
         known = gtfs_rt_in.Known(net, self.feed, self.store)
         self.assertEqual(known.now().event_delays[0], 120)

@@ -1,4 +1,4 @@
-"""The index of names: where each is defined, and what is told of names that are not."""
+"""The index of names: where each is defined, and what is reported of names that are not."""
 from __future__ import annotations
 
 import contextlib

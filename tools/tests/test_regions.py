@@ -36,7 +36,7 @@ def day() -> Network:
 
 
 class Server:
-    """A region's rows and times, as a server keeps them, and the relay that tells it what its neighbours' boards show."""
+    """A region's rows and times, as a server keeps them, and the relay that reports to it what its neighbours' boards show."""
 
     def __init__(self, number: int, regions: Any) -> None:
         self.network = Network(regions[number].events, regions[number].activities)
@@ -181,7 +181,7 @@ class Feeds(InFolder):
 
 class Relays(unittest.TestCase):
     def settle(self, servers: Any) -> None:
-        """Relays until nothing is told any more, at most so many rounds."""
+        """Relays until nothing is reported any more, at most so many rounds."""
         for _ in range(50):
             lines = [line for server in servers.values() for line in server.shows()]
             if not any([server.told(lines) for server in servers.values()]):
@@ -231,7 +231,7 @@ class Lines(unittest.TestCase):
         return self.run_tool(lines, os.path.join(TOOLS, 'relay.py'), self.table, '--region=2', *words)
 
     def fed(self, lines: bytes) -> str:
-        """What stands in the feed after a relay has heard these lines and ended."""
+        """What stands in the feed after a relay has read these lines and ended."""
         self.assertEqual(self.relayed(lines, f'--feed={self.feed}'), ('', ''))
         with open(self.feed, encoding='ascii') as file:
             return file.read()
@@ -257,9 +257,9 @@ class Lines(unittest.TestCase):
         out, said = self.relayed(b'\n'.join(lines), '--topics')
         self.assertEqual(out, 'delay event 9 10\ndelay event 10 7\n')
         self.assertEqual(said.splitlines()[:4], [
-            'relay.py: line 1 is skipped: region 1 tells a time of event 3, which is not its own',
-            'relay.py: line 2 is skipped: region 3 tells a time of event 1, which is not its own',
-            'relay.py: line 3 is skipped: region 2 tells a time of event 2, which is not its own',
+            'relay.py: line 1 is skipped: region 1 reports a time of event 3, which is not its own',
+            'relay.py: line 2 is skipped: region 3 reports a time of event 1, which is not its own',
+            'relay.py: line 3 is skipped: region 2 reports a time of event 2, which is not its own',
             'relay.py: line 4 is skipped: it is no line `event; time` behind a topic',
         ])
         self.assertEqual(said.splitlines()[-1], 'relay.py: lines skipped: 6')

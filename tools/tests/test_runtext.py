@@ -1,4 +1,4 @@
-"""Texts of runs as they are read: what a text tells, and the first line that is of another form."""
+"""Texts of runs as they are read: what a text says, and the first line that is of another form."""
 from __future__ import annotations
 
 import unittest
