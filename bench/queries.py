@@ -52,7 +52,7 @@ Answered = tuple[int, str]
 
 class Journal(NamedTuple):
     """What a text carries at its front: the rows at the start and after each entry, the line that is bad, with its kind, and the line
-    that is torn, with how many bytes of it there are; None where there is none."""
+    that is torn, with how many bytes of it there are; None if there is none."""
     rows: list[Rows]
     bad: Optional[tuple[int, str]]
     torn: Optional[tuple[int, int]]
@@ -180,7 +180,7 @@ def fault_of_journeys(travel: Travel, text: str) -> Optional[str]:
 
 
 def ruled(network: Network, rows: Rows, limit: Optional[int]) -> Rows:
-    """The rows as a rule has them: no train more than `limit` seconds later for a change, or None where any time will do."""
+    """The rows as a rule has them: no train more than `limit` seconds later for a change, or None if any time will do."""
     free = [network.activity_place[choice[1]] for choice in free_choices(network, rows) if choice[0] == 'change']
     free.sort(key=lambda place: (network.events[network.heads[place]].time, network.activities[place].head, network.activities[place].id))
     now = rows.copy()
@@ -208,7 +208,7 @@ def rule_lines(network: Network, penalty: int, rows: Rows, rule: str) -> tuple[l
 
 
 def least_cost(network: Network, penalty: int, rows: Rows) -> Optional[int]:
-    """The least that any decisions of the free choices cost, or None where there are too many to try."""
+    """The least that any decisions of the free choices cost, or None if there are too many to try."""
     free = free_choices(network, rows)
     if len(free) > FEW_CHOICES:
         return None
@@ -273,7 +273,7 @@ def choice_named(network: Network, activity: int) -> Optional[Choice]:
 
 
 def cost_with(network: Network, penalty: int, rows: Rows, choices: Sequence[Decision]) -> Optional[int]:
-    """What rows cost with choices, or None where these make a cycle."""
+    """What rows cost with choices, or None if these make a cycle."""
     decided = with_decisions(network, rows, choices)
     times = times_of(network, decided)
     return None if times is None else cost_of(network, decided, times, penalty)

@@ -16,7 +16,7 @@ FOLDERS = {'tools': TOOLS, 'bench': os.path.join(os.path.dirname(TOOLS), 'bench'
 
 
 def page_of(path: str) -> str:
-    """The comment at the head of a file, or nothing where the file is no command."""
+    """The comment at the head of a file, or nothing if the file is no command."""
     with open(path, encoding='utf-8') as file:
         text = file.read()
     return (ast.get_docstring(ast.parse(text)) or '') if "\nif __name__ == '__main__':\n" in text.replace('"', "'") else ''

@@ -57,7 +57,7 @@ def whole_lines(file: BufferedIOBase) -> Iterator[list[Optional[bytes]]]:
 
 
 def times_of(line: Optional[bytes]) -> Optional[list[tuple[int, int]]]:
-    """The events of a line with their times, or None where it is none of a board."""
+    """The events of a line with their times, or None if it is none of a board."""
     if line is None or not TIMES.fullmatch(line):
         return None
     return [(int(event), int(time)) for event, time in TIME.findall(line)]

@@ -64,7 +64,7 @@ def arguments() -> argparse.ArgumentParser:
 
 
 def room_of(given: argparse.Namespace, folder: str) -> Room:
-    """The room that the words ask for; BadFile where a file is not good."""
+    """The room that the words ask for; BadFile if a file is not good."""
     network = read_network(given.net)
     start = Rows(network, read_delays(given.net, given.event_delays), read_delays(given.net, given.activity_delays))
     names = Names(read_stops(given.net), read_labels(given.net), read_trips(given.net), [name for name in given.feeds.split(',') if name])

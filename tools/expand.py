@@ -57,7 +57,7 @@ class Headways:
 class Rules:
     """How long activities take; times in seconds, shares of one. No headways are made where theirs are None.
 
-    `guaranteed` are the passengers of a guaranteed connection, in thousandths, or None where they are as those of other changes.
+    `guaranteed` are the passengers of a guaranteed connection, in thousandths, or None if they are as those of other changes.
     `single` are the seconds between an arrival from a single track and a departure into it, by the two stations at its ends.
     """
     reserve: Fraction
@@ -150,7 +150,7 @@ class Moment:
 def trains_of(
     day: Day, before: Optional[Day], window: Window, stations: dict[str, str], notes: Notes, limits: Limits,
 ) -> list[Train]:
-    """The trips of a day, and of the one before, that run within a window, in the order in which they begin; Refused where they have
+    """The trips of a day, and of the one before, that run within a window, in the order in which they begin; Refused if they have
     too many events."""
     trains: list[Train] = []
     events: Counter[str] = Counter()
@@ -627,7 +627,7 @@ def expand(
     trains: list[Train], stations: dict[str, str], passengers: Passengers, transfers: Transfers, rules: Rules, notes: Notes,
     limits: Limits = PROGRAM,
 ) -> Expanded:
-    """The network of trains; Refused where it has too many activities."""
+    """The network of trains; Refused if it has too many activities."""
     numbers = give_moments(trains, stations, passengers, notes)
 
     def some(made: Iterable[Link]) -> Iterator[Link]:

@@ -87,7 +87,7 @@ class Study:
         self.called = 0
 
     def call(self, *words: str) -> tuple[str, str]:
-        """A command, and what it prints; BadFile where it ends with another status than 0."""
+        """A command, and what it prints; BadFile if it ends with another status than 0."""
         command = [self.program, *words, *self.options]
         self.called += 1
         progress(f'\r{self.called} of {CALLS} commands')
@@ -268,7 +268,7 @@ def quarters(scene: Scene, times: Sequence[int]) -> list[tuple[int, int]]:
 
 
 def adopted(study: Study, scene: Scene, feed: str) -> tuple[Run, str]:
-    """The run of a feed that adopts a plan, and the command that made it; BadFile where the rows before are not those of the scene."""
+    """The run of a feed that adopts a plan, and the command that made it; BadFile if the rows before are not those of the scene."""
     command, told = study.call('run', study.net, feed)
     with tempfile.TemporaryDirectory() as folder:
         name = os.path.join(folder, 'text')

@@ -27,7 +27,7 @@ class BadFile(Exception):
 
 
 def text_of(name: str) -> str:
-    """The text of a file, a character a byte; BadFile where it cannot be read."""
+    """The text of a file, a character a byte; BadFile if it cannot be read."""
     try:
         with open(name, encoding='latin-1', newline='') as file:
             return file.read()
@@ -42,7 +42,7 @@ def speak_utf8() -> None:
 
 
 def write_all(folder: str, texts: Mapping[str, str | bytes]) -> None:
-    """Writes each text, or bytes, under its name in a folder, which is made where it is not there; BadFile where one cannot be written.
+    """Writes each text, or bytes, under its name in a folder, which is made where it is not there; BadFile if one cannot be written.
 
     A file that stood there before is replaced, but only where all could be written.
     """

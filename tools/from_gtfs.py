@@ -156,7 +156,7 @@ def add_rules(words: argparse.ArgumentParser) -> None:
 def chosen_routes(
     feed: Feed, routes: dict[str, Route], types: Optional[set[int]], names: Optional[list[str]],
 ) -> set[str]:
-    """The routes of these kinds that are named so by id or short name; Refused where there is none."""
+    """The routes of these kinds that are named so by id or short name; Refused if there is none."""
     for name in names or []:
         if not any(name in (route.id, route.name) for route in routes.values()):
             raise Refused(f'{feed.name} has no route {name}')

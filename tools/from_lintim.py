@@ -81,7 +81,7 @@ def columns_of(name: str, known: Mapping[str, tuple[str, ...]]) -> list[str]:
 
 
 def rows_of(folder: str, name: str, known: Mapping[str, tuple[str, ...]], needed: Sequence[str]) -> Iterator[Row]:
-    """The records of a file by column; BadFile where a needed column is missing in one."""
+    """The records of a file by column; BadFile if a needed column is missing in one."""
     path = os.path.join(folder, name)
     columns = columns_of(path, known)
     for column in needed:
@@ -143,7 +143,7 @@ class Units:
 
 
 def kind_of(row: Row, kinds: Sequence[str], what: str, notes: Notes) -> Optional[str]:
-    """The kind of a row, or None where the program has no such kind."""
+    """The kind of a row, or None if the program has no such kind."""
     kind = row['type'].lower()
     if kind in kinds:
         return kind

@@ -40,7 +40,7 @@ def lines_of(folder: str, name: str) -> Iterator[tuple[int, str]]:
 
 
 def fields_of(line: str) -> Optional[list[str]]:
-    """The fields of a record, or None where a line has none."""
+    """The fields of a record, or None if a line has none."""
     fields = [taken(field) for field in line.split(';')]
     return None if fields[0].startswith('#') or fields == [''] else fields
 
@@ -63,7 +63,7 @@ class Plain(Generic[Made]):
 def rows_of_file(
     folder: str, name: str, row: Callable[..., Made], plain: Optional[Plain[Made]] = None,
 ) -> Iterator[tuple[int, Made]]:
-    """What `row` makes of the fields of each record, with the number of its line; BadFile where it makes nothing."""
+    """What `row` makes of the fields of each record, with the number of its line; BadFile if it makes nothing."""
     for number, line in lines_of(folder, name):
         found = plain.form.fullmatch(line) if plain else None
         if plain and found:
@@ -134,7 +134,7 @@ PLAIN_ACTIVITY = Plain(
 
 
 def read_network(folder: str) -> Network:
-    """The network of a folder's files in the standard order of columns; BadFile where they are none."""
+    """The network of a folder's files in the standard order of columns; BadFile if they are none."""
     events = [event for _, event in rows_of_file(folder, EVENTS, event_row, PLAIN_EVENT)]
     known = {event.id for event in events}
     activities = []

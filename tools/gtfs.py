@@ -50,7 +50,7 @@ class Row:
         self.file, self.line, self.fields = file, line, fields
 
     def __getitem__(self, column: str) -> str:
-        """The field of a column, which is empty where there is no such column."""
+        """The field of a column, which is empty if there is no such column."""
         return self.fields.get(column, '')
 
     def fault(self, column: str, what: str) -> BadFile:
@@ -82,7 +82,7 @@ class Row:
         return int(text)
 
     def time(self, column: str) -> Optional[int]:
-        """The time of a column, or None where the field is empty."""
+        """The time of a column, or None if the field is empty."""
         text = self[column]
         if not text:
             return None
@@ -187,7 +187,7 @@ def told_as(name: str) -> Iterator[None]:
 
 @lru_cache(maxsize=100_000)
 def seconds_of(text: str) -> Optional[int]:
-    """The seconds of a time such as 6:30:00 or 25:10:00, or None where it is no time."""
+    """The seconds of a time such as 6:30:00 or 25:10:00, or None if it is no time."""
     found = re.fullmatch('([0-9]{1,3}):([0-5][0-9]):([0-5][0-9])', text)
     if found is None:
         return None
@@ -201,7 +201,7 @@ def clock(seconds: int) -> str:
 
 
 def date_of(text: str) -> Optional[date]:
-    """The date of a text such as 20261128, or None where it is no date."""
+    """The date of a text such as 20261128, or None if it is no date."""
     if not re.fullmatch('[0-9]{8}', text):
         return None
     try:
@@ -541,7 +541,7 @@ class End(NamedTuple):
 
 @dataclass(frozen=True)
 class Transfer:
-    """What a row says: its type, how long a change takes at least, or None where there is none, its line, and what it names."""
+    """What a row says: its type, how long a change takes at least, or None if there is none, its line, and what it names."""
     kind: int
     least: Optional[int]
     line: int
@@ -564,7 +564,7 @@ class Transfers:
     left_out: Told = field(default_factory=Told)
 
     def between(self, arriving: End, leaving: End) -> tuple[Optional[int], Optional[Transfer]]:
-        """How long a change takes at least, or None where there is none, and the row that says so, if one does."""
+        """How long a change takes at least, or None if there is none, and the row that says so, if one does."""
         stop, other = arriving.stop, leaving.stop
         station, beyond = self.stations[stop], self.stations[other]
         for rank in RANKS:

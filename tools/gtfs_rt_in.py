@@ -93,7 +93,7 @@ class Listener:
     # -- Trips and calls
 
     def train_of(self, trip: Message) -> Optional[int]:
-        """The train of a TripDescriptor, which runs; None where it is said why not."""
+        """The train of a TripDescriptor that runs; otherwise None, with a report that says why."""
         key = key_of(trip, self.named.day)
         relation = trip.get('schedule_relationship', 0)
         train = self.trains.get(key, self.trains.get((*key[:2], '')))

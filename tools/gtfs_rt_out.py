@@ -52,7 +52,7 @@ State = tuple[int, int]
 
 
 def read_text(name: str, events: int) -> Run:
-    """The run of a text; BadFile where it is no whole one."""
+    """The run of a text; BadFile if it is no whole one."""
     try:
         with open(name, 'rb') as file:
             return run_in(name, file.read(), events)
@@ -132,7 +132,7 @@ def calls_of(names: list[EventName]) -> list[Call]:
 
 
 def trains_of(net: str, named: Named) -> dict[int, Train]:
-    """The trains of a network, by number; BadFile where an event has no time."""
+    """The trains of a network, by number; BadFile if an event has no time."""
     trains = {}
     for number, train in named.trains.items():
         names = named.events[number]

@@ -48,7 +48,7 @@ def read_blocks(file: bytes) -> Stands:
 
 
 def at_end(text: Text) -> None:
-    """Bad where something stands behind the line read last."""
+    """Bad if something stands behind the line read last."""
     if text.has_more():
         raise Bad(text.number + 1, 'form')
 
@@ -111,7 +111,7 @@ class Blocks:
         self.file: Optional[tuple[int, int]] = None
 
     def read(self) -> Optional[list[bytes]]:
-        """The contents of the blocks that have come since the last call, or some of many; None where the file is another one now, or is
+        """The contents of the blocks that have come since the last call, or some of many; None if the file is another one now, or is
         gone."""
         try:
             with open(self.name, 'rb') as file:
@@ -138,7 +138,7 @@ class Blocks:
 
 
 class Journal:
-    """The journal of a store, read as it grows: its head, where it has one, the items of each feed, and the entries that they made."""
+    """The journal of a store, read as it grows: its head, if it has one, the items of each feed, and the entries that they made."""
 
     def __init__(self, store: str) -> None:
         self.name = journal_of(store)
@@ -188,7 +188,7 @@ class Journal:
 
 
 def text_of(program: str, net: str, store: str, options: Sequence[str] = ()) -> bytes:
-    """The text of the run that a store holds, as the program prints it beside a server; BadFile where it prints none.
+    """The text of the run that a store holds, as the program prints it beside a server; BadFile if it prints none.
 
     The program wants the words of the server. Penalty, plans and the number of feeds stand in the journal; options that say how the
     network is read are to be given again.

@@ -63,7 +63,7 @@ class Files(NamedTuple):
 
 
 def read_files(folder: str) -> Files:
-    """The network of a folder with the lines of its records; BadFile where it is none."""
+    """The network of a folder with the lines of its records; BadFile if it is none."""
     events = list(rows_of_file(folder, EVENTS, event_row))
     activities = list(rows_of_file(folder, ACTIVITIES, activity_row))
     known = {event.id for _, event in events}

@@ -87,7 +87,7 @@ def in_print(columns: Iterable[str], rows: Iterable[Iterable[object]]) -> str:
 
 
 def records(folder: str, name: str, row: Callable[..., Named]) -> list[tuple[int, Named]]:
-    """The line of each record, and what `row` makes of its fields; BadFile where it makes nothing."""
+    """The line of each record, and what `row` makes of its fields; BadFile if it makes nothing."""
     path = os.path.join(folder, name)
     try:
         with open(path, 'rb') as file:
@@ -150,7 +150,7 @@ def read_changes(folder: str) -> list[ChangeName]:
 
 
 def read_day_name(folder: str) -> DayName:
-    """The service day of a network; nothing where no file names it."""
+    """The service day of a network; nothing if no file names it."""
     if not os.path.exists(os.path.join(folder, 'Day.csv')):
         return DayName('', '')
     return next((row for _, row in records(folder, 'Day.csv', DayName)), DayName('', ''))

@@ -44,7 +44,7 @@ class Program:
         return os.path.join(self.folder, name)
 
     def call(self, *words: str) -> str:
-        """What a command prints; BadFile where it ends with another status than 0."""
+        """What a command prints; BadFile if it ends with another status than 0."""
         command = [self.name, *words, f'--penalty={self.penalty}', *self.options]
         began = children_seconds()
         try:
@@ -58,7 +58,7 @@ class Program:
         return done.stdout
 
     def run(self, lines: Sequence[str], name: str = 'text') -> str:
-        """The text of a run of a feed of lines, which is left under a name; BadFile where the feed is too long."""
+        """The text of a run of a feed of lines, which is left under a name; BadFile if the feed is too long."""
         feed = ''.join(f'{line}\n' for line in lines)
         if len(feed) > FEED:
             raise BadFile(self.path(f'{name}.feed'), None, f'the day needs {len(feed)} bytes of a feed, which holds {FEED}')

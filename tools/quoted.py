@@ -47,7 +47,7 @@ class Lines:
 def quoted_records(name: str, file: IO[bytes], delimiter: str = ',', comment: str | None = None) -> Iterator[tuple[int, list[str]]]:
     """The line and the fields of each record of a file in UTF-8; a byte that is none is a lone half of a pair.
 
-    Lines that begin with the comment sign are none of a record. BadFile where a quote does not close, or a record is too long. In a
+    Lines that begin with the comment sign are none of a record. BadFile if a quote does not close, or a record is too long. In a
     record of one line a quote may close before its field ends; over several lines it would be one that was forgotten.
     """
     with io.TextIOWrapper(file, encoding='utf-8-sig', errors='surrogateescape', newline='') as text:

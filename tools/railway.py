@@ -121,7 +121,7 @@ def push(
 
 
 def least_times(network: Network, rows: Rows, held: Sequence[bool]) -> Optional[list[int]]:
-    """The least timetable that holds these activities, or None where they have a cycle."""
+    """The least timetable that holds these activities, or None if they have a cycle."""
     waits_for, spans = waits_and_spans(network, rows, held)
     times = [floor_of(network, rows, place) for place in range(len(network.events))]
     settled = [place for place, count in enumerate(waits_for) if count == 0]
@@ -131,7 +131,7 @@ def least_times(network: Network, rows: Rows, held: Sequence[bool]) -> Optional[
 
 
 def times_of(network: Network, rows: Rows) -> Optional[list[int]]:
-    """The least timetable of rows, or None where they have a cycle."""
+    """The least timetable of rows, or None if they have a cycle."""
     return least_times(network, rows, active_activities(network, rows))
 
 
@@ -294,7 +294,7 @@ def is_cycle(network: Network, rows: Rows, activities: Sequence[int]) -> bool:
 
 
 class Plan(NamedTuple):
-    """A plan of the rows at an entry; its nodes stand in preorder, or are None where its leaves are no whole tree."""
+    """A plan of the rows at an entry; its nodes stand in preorder, or are None if its leaves are no whole tree."""
     entry: int
     choices: tuple[Decision, ...]
     cost: int
@@ -365,7 +365,7 @@ class Problem:
         )
 
     def relaxed(self, path: Path) -> Optional[Relaxed]:
-        """The relaxed problem of a path, in which what it leaves undecided binds and costs nothing; None where it has a cycle."""
+        """The relaxed problem of a path, in which what it leaves undecided binds and costs nothing; None if it has a cycle."""
         network = self.network
         undecided = set(self.free) - {choice_of(decision) for decision in path}
         rows = with_decisions(network, self.rows, path)

@@ -37,7 +37,7 @@ def line_of(item: Item) -> str:
 
 
 def behind(name: str, feed: bytes, items: list[Item]) -> list[str]:
-    """The lines that are missing behind the whole lines of a feed; BadFile where one that is there was not answered so."""
+    """The lines that are missing behind the whole lines of a feed; BadFile if one that is there was not answered so."""
     whole = [line.removesuffix(b'\r').decode(errors='replace') for line in feed.split(b'\n')[:-1]]
     for item in items:
         if item.line <= len(whole) and heard(whole[item.line - 1]) != item.said:

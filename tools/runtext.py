@@ -86,7 +86,7 @@ def number_of(word: str, largest: int) -> Optional[int]:
 
 
 def fits(words: Sequence[str], pattern: Sequence[Pattern]) -> Optional[tuple[int, ...]]:
-    """The numbers in words that fit a pattern of words and of largest numbers, or None where they do not."""
+    """The numbers in words that fit a pattern of words and of largest numbers, or None if they do not."""
     if len(words) != len(pattern):
         return None
     numbers = []
@@ -102,7 +102,7 @@ def fits(words: Sequence[str], pattern: Sequence[Pattern]) -> Optional[tuple[int
 
 
 def read_form(forms: Forms, words: Sequence[str]) -> Optional[tuple[Any, ...]]:
-    """The kind of the words with its numbers, or None where they are of none of these forms."""
+    """The kind of the words with its numbers, or None if they are of none of these forms."""
     for kind, largest in forms.items():
         numbers = fits(words, [*kind.split(), *largest])
         if numbers is not None:
@@ -208,7 +208,7 @@ class Text:
         self.number = 0
 
     def words(self) -> list[str]:
-        """The words of the next line, with one space between; Bad where the line is cut or is no such words."""
+        """The words of the next line, with one space between; Bad if the line is cut or is no such words."""
         self.number += 1
         if self.number > len(self.lines):
             raise Bad(self.number, 'truncated')
@@ -258,7 +258,7 @@ def read_leaf(words: Sequence[str]) -> Optional[tuple[Node, Path]]:
 
 
 def nodes_of(leaves: Iterable[tuple[Node, Path]]) -> Optional[list[Node]]:
-    """The nodes in preorder of the least tree that has these leaves in order, or None where there is none."""
+    """The nodes in preorder of the least tree that has these leaves in order, or None if there is none."""
     nodes: list[Node] = []
     paths: list[Path] = [()]
     for leaf, path in leaves:

@@ -75,7 +75,7 @@ def read_text(name: str, network: Network) -> Run:
 
 
 def rows_of(network: Network, start: Rows, run: Run, name: str) -> Rows:
-    """The rows after all entries of a run; BadFile where an entry names what the network has not."""
+    """The rows after all entries of a run; BadFile if an entry names what the network has not."""
     rows = start.copy()
     for number, entry in enumerate(run.journal, 1):
         if refusal_at_once(network, rows, entry.message) is not None:
@@ -85,7 +85,7 @@ def rows_of(network: Network, start: Rows, run: Run, name: str) -> Rows:
 
 
 def read_scene(folder: str, text: str, event_delays: Optional[str] = None, activity_delays: Optional[str] = None) -> Scene:
-    """The scene of a network's folder and a run's text; BadFile where they are none or do not fit."""
+    """The scene of a network's folder and a run's text; BadFile if they are none or do not fit."""
     network = read_network(folder)
     start = Rows(network, read_delays(folder, event_delays), read_delays(folder, activity_delays))
     run = read_text(text, network)

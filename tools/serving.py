@@ -42,7 +42,7 @@ class Server:
         return time.monotonic() - begun
 
     def wait_until(self, is_so: Callable[[], bool], patience: float = PATIENCE, pause: float = 0.002) -> None:
-        """Waits until something is so; BadFile where the server ends before, or it takes too long."""
+        """Waits until something is so; BadFile if the server ends before, or it takes too long."""
         ends = time.monotonic() + patience
         while not is_so():
             if self.process is None or self.process.poll() is not None:
@@ -69,7 +69,7 @@ class Server:
         return [os.stat(name).st_ino if os.path.exists(name) else 0 for name in names]
 
     def answered(self, feed: int) -> int:
-        """The number of the last line of a feed, from 0, whose answer is shown; 0 where none is."""
+        """The number of the last line of a feed, from 0, whose answer is shown; 0 if none is."""
         with open(self.reply(feed), 'rb') as file:
             file.seek(self.behind[feed])
             whole = file.read().rpartition(b'\n')[0]

@@ -174,7 +174,7 @@ TRIPS = {'single': single_trips, 'hub': hub_trips, 'ring': ring_trips, 'mesh': m
 
 
 def made(shape: str, sizes: Sizes) -> Made:
-    """The network of a shape; Refused where it is too large."""
+    """The network of a shape; Refused if it is too large."""
     trips = TRIPS[shape](sizes)
     stations = {call.stop: call.stop for one in trips for call in one.calls}
     numbers = {(one.id, call.stop): TEN_PASSENGERS for one in trips for call in one.calls}

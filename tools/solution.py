@@ -56,7 +56,7 @@ def glpk_solution(name: str, lines: list[str]) -> Solution:
 
 
 def read_solution(name: str) -> Solution:
-    """The solution in a file of CBC or GLPK; BadFile where there is none."""
+    """The solution in a file of CBC or GLPK; BadFile if there is none."""
     lines = text_of(name).splitlines()
     try:
         if lines and lines[0].startswith('Problem:'):
@@ -73,7 +73,7 @@ def read_solution(name: str) -> Solution:
 
 
 def decisions_of(name: str, solution: Solution, choices: list[Choice]) -> list[Decision]:
-    """The decision of each choice of a programme; BadFile where the solution is of another one. What it leaves out is 0."""
+    """The decision of each choice of a programme; BadFile if the solution is of another one. What it leaves out is 0."""
     named = {'_'.join(map(str, ('drop' if choice[0] == 'change' else 'first', *choice[1:]))): choice for choice in choices}
     for variable in solution.values:
         if not OURS.fullmatch(variable) or variable.startswith(('drop', 'first')) and variable not in named:

@@ -135,7 +135,7 @@ def boundary_text(cuts: list[Cut]) -> str:
 
 
 def refuse_large_ones(regions: dict[int, Region]) -> None:
-    """Refused where the program would not load a region."""
+    """Refused if the program would not load a region."""
     for number, region in regions.items():
         if len(region.events) > PROGRAM.events or len(region.activities) > PROGRAM.activities:
             raise Refused(

@@ -64,7 +64,7 @@ class Stay:
 
 
 def read_times(name: str, events: int) -> dict[int, int]:
-    """The times of a text over so many events, by id; BadFile where it is no whole text."""
+    """The times of a text over so many events, by id; BadFile if it is no whole text."""
     try:
         with open(name, 'rb') as file:
             return read_run(file.read(), events).times

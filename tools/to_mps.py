@@ -36,7 +36,7 @@ def add_rows_words(words: argparse.ArgumentParser) -> None:
 
 
 def read_rows(given: argparse.Namespace) -> tuple[Network, Rows, list[Entry], int]:
-    """The network, the rows and the entries that words name, and the penalty; BadFile where there are none."""
+    """The network, the rows and the entries that words name, and the penalty; BadFile if there are none."""
     network = read_network(given.net)
     start = Rows(network, read_delays(given.net, given.event_delays), read_delays(given.net, given.activity_delays))
     run = read_text(given.text, network)
