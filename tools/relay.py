@@ -16,7 +16,8 @@ has one relay, and this relay knows all tables, because a delay replaces the one
 
 With --feed the script appends its lines to FILE, as the control room does. `tail -n +1 -f FILE` feeds the region's server from
 it. When the relay is started again, it reads in FILE what it had reported to the region. Until it has times of all events for
-which an event waits, it reports no less than that. Without --feed the lines go to standard output, and nothing is known from before.
+which an event waits, it reports no less than that. Without --feed the lines go to standard output, and nothing is known from
+before.
 
 It waits for the rest of a line that is broken off. It skips a line of another form, a time that a region reports of another
 region's event, and a time that would need a delay above 1,000,000 seconds. Standard error shows the first few of these, and at

@@ -1,13 +1,14 @@
 #!/usr/bin/env python3
 """Plays the day of this folder on the desk's page: python3 examples/day/play.py DISPATCHER [FOLDER] [--pace=60] [--port=8080]
 
-DISPATCHER is the built program. The script starts a server over the day's network with a new store, and the desk beside it. It fills
-two feeds minute by minute. The control room north reports the clock, what has left and arrived, and delays. The control room south
-reports delays and decisions. The desk has the third feed. Trains run as the journal says, so what is decided on the page counts.
+DISPATCHER is the built program. The script starts a server over the day's network with a new store, and the desk beside it. It
+fills two feeds minute by minute. The control room north reports the clock, what has left and arrived, and delays. The control
+room south reports delays and decisions. The desk has the third feed. Trains run as the journal says, so what is decided on the
+page counts.
 
-Open the address that is printed, type the token that is printed too, and report delays, plan and adopt. With --pace=60 a minute of
-the day takes a second. Ctrl-C ends the server. With a FOLDER, which must be new or empty, the store, the feeds and the text of the
-run stay there.
+Open the address that is printed, type the token that is printed too, and report delays, plan and adopt. With --pace=60 a minute
+of the day takes a second. Ctrl-C ends the server. With a FOLDER, which must be new or empty, the store, the feeds and the text of
+the run stay there.
 """
 from __future__ import annotations
 

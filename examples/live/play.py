@@ -1,15 +1,15 @@
 #!/usr/bin/env python3
 """Plays a morning into a live server: python3 play.py DISPATCHER [FOLDER] [--pace=120]
 
-DISPATCHER is the built program. The railway is that of ../day: forty trains, whose delays two control rooms report when their events
-are scheduled. Each minute of the morning, from 6:00 to 7:40, the rooms report the clock and what has passed. Trains run as the server
-says. Every twenty minutes a third feed asks for a plan, and adopts it. At 7:00 the script kills the server, and starts it again. A
-minute of the morning takes half a second; --pace says how many seconds of the morning go by in one.
+DISPATCHER is the built program. The railway is that of ../day: forty trains, whose delays two control rooms report when their
+events are scheduled. Each minute of the morning, from 6:00 to 7:40, the rooms report the clock and what has passed. Trains run as
+the server says. Every twenty minutes a third feed asks for a plan, and adopts it. At 7:00 the script kills the server, and starts
+it again. A minute of the morning takes half a second; --pace says how many seconds of the morning go by in one.
 
-The script prints each line with its answer, but for the clock and what has passed. At the end it tells the server to end. Then `check`
-judges the text, each line must have been answered once, and what a reply file showed when the server was killed must still stand there.
-The times are compared with those of a second reading of the rules. The status is 1 if something differs. With a FOLDER all files stay
-there; it must be new or empty. Look into FOLDER/store while the morning goes on.
+The script prints each line with its answer, but for the clock and what has passed. At the end it tells the server to end. Then
+`check` judges the text, each line must have been answered once, and what a reply file showed when the server was killed must
+still stand there. The times are compared with those of a second reading of the rules. The status is 1 if something differs. With
+a FOLDER all files stay there; it must be new or empty. Look into FOLDER/store while the morning goes on.
 """
 from __future__ import annotations
 

@@ -1,17 +1,17 @@
 #!/usr/bin/env python3
 """Plays a day over regions that tell each other their boundary times: play.py DISPATCHER [FOLDER] [--regions N] [--port P]
 
-DISPATCHER is the built program. The script cuts the day of ../day at the middle stops of its lines into N regions (2 or 4). It starts
-a Mosquitto broker (mosquitto.conf, with a password for each user of `access`) and a server for each region on this machine. It sends
-the control rooms' delays, waits until the relays are at rest, and ends the feeds. In the middle of the day region 1 gets nothing for a
-while. Then the times of all regions are compared with those of one server over the whole network.
+DISPATCHER is the built program. The script cuts the day of ../day at the middle stops of its lines into N regions (2 or 4). It
+starts a Mosquitto broker (mosquitto.conf, with a password for each user of `access`) and a server for each region on this
+machine. It sends the control rooms' delays, waits until the relays are at rest, and ends the feeds. In the middle of the day
+region 1 gets nothing for a while. Then the times of all regions are compared with those of one server over the whole network.
 
-At the end the text of region 1 goes to a second site, which follows its journal. When half of the text has come, and when all has, the
-times there are compared with those of the region after the same entries. The status is 1 if times differ. With a FOLDER the files
-stay there. The script needs Debian's `mosquitto` and `mosquitto-clients`.
+At the end the text of region 1 goes to a second site, which follows its journal. When half of the text has come, and when all
+has, the times there are compared with those of the region after the same entries. The status is 1 if times differ. With a FOLDER
+the files stay there. The script needs Debian's `mosquitto` and `mosquitto-clients`.
 
-Topics: `feed/N` has the lines of control room N. `board/N/S` has the board of stop S in region N, with all its times in one line; the
-broker keeps the last one. `text/N` has the lines of the text of the region's run.
+Topics: `feed/N` has the lines of control room N. `board/N/S` has the board of stop S in region N, with all its times in one line;
+the broker keeps the last one. `text/N` has the lines of the text of the region's run.
 """
 from __future__ import annotations
 

@@ -1,11 +1,11 @@
 #!/usr/bin/env python3
 """Plays a day that is planned anew every few minutes: python3 play.py DISPATCHER [--trains=2000] [--number=7] [--every=10] [--ahead=40] [FOLDER]
 
-DISPATCHER is the built program. The network and the 500 delays are those of bench/day.py. A delay is reported at the scheduled time
-of its event. Every --every minutes the program plans a window of the next --ahead minutes. The choices of that plan are entered, and
-all others stay as they are. Then the cost of the day is printed beside that of no plan, of one plan of what was reported in the first
-two hours, and of one plan of all that was reported. The bound is that of the last one: no choices of that day cost less. `check`
-judges each text.
+DISPATCHER is the built program. The network and the 500 delays are those of bench/day.py. A delay is reported at the scheduled
+time of its event. Every --every minutes the program plans a window of the next --ahead minutes. The choices of that plan are
+entered, and all others stay as they are. Then the cost of the day is printed beside that of no plan, of one plan of what was
+reported in the first two hours, and of one plan of all that was reported. The bound is that of the last one: no choices of that
+day cost less. `check` judges each text.
 
 With a FOLDER the files stay there: the network, the feed of the day (`text.feed`) and its text.
 """

@@ -1,9 +1,9 @@
 """The least timetable of a day's rows, kept up entry by entry.
 
-It is a second reading of the rules, so that an entry is seen at once. The program's own times follow a moment later, and are compared
-with it. The time of an event is the largest of its floor and of what the active activities into it ask for. An entry changes such
-terms of some events. These events are worked out anew, and then those behind each time that has moved, until none moves. Without a
-cycle of active activities these times are the least timetable.
+It is a second reading of the rules, so that an entry is seen at once. The program's own times follow a moment later, and are
+compared with it. The time of an event is the largest of its floor and of what the active activities into it ask for. An entry
+changes such terms of some events. These events are worked out anew, and then those behind each time that has moved, until none
+moves. Without a cycle of active activities these times are the least timetable.
 """
 from __future__ import annotations
 
