@@ -1,3 +1,4 @@
+pub mod Beside
 pub mod Changing
 pub mod Limits
 pub mod Moves

@@ -1,5 +1,5 @@
 -- Every move keeps a timetable priced, and its sums within their limits.
-use Rattle.std.proofs.Common.{◌≡◌, ℕ, ◌+◌, ◌-◌, ◌*◌, ◌^◌, ◌<◌, ◌≤◌, Bool, false, List, length, sum_by, replicate, sym, ap, ◌∙◌, if◌then◌else◌, arith, slice_index, length-set}
+use Rattle.std.proofs.Common.{◌≡◌, ℕ, ◌+◌, ◌-◌, ◌*◌, ◌^◌, ◌<◌, ◌≤◌, Bool, true, false, List, length, sum_by, replicate, sym, ap, subst, ◌∙◌, if◌then◌else◌, arith, slice_index, length-set}
 use Rattle.std.specs.Prelude.{slice_set}
 use Rattle.std.proofs.lemmas.List.{length-replicate}
 use Rattle.dm_base.specs.declared.limits.TheConstants.{EVENTS, WEIGHT}
@@ -9,7 +9,8 @@ use Rattle.dm_network.specs.Net.{Net, activity_at, places_into, IsWithinLimits}
 use Rattle.dm_settle.specs.Constraints.{ConstraintsValue}
 use Rattle.dm_settle.specs.Settling.{AreEarly}
 use Rattle.dm_priced.specs.Priced.{PricedValue, IsPriced, is_flagged, missed_weight, lateness_of, charged_of, missed_of}
-use Rattle.dm_priced.specs.Inside.Adding.{AreKnown, AreWithin, missed_at}
+use Rattle.dm_priced.specs.Inside.Adding.{AreKnown, AreWithin, HasFlaggedTails, missed_at}
+use Rattle.dm_priced.proofs.Beside.{none_beside, flags_with}
 use Rattle.dm_priced.proofs.Changing.{passed_moves, span_moves, charge_moves, none_charged, none_missed}
 use Rattle.dm_priced.proofs.Limits.{lateness_within, charged_within, missed_within}
 
@@ -29,12 +30,13 @@ within_where_priced net within priced early is =
     within_beside net within priced (omega (arith, a, is_lateness)) is
 
 -- a new one
-pub new_is_priced : (net : Net) (live : LiveValue) (passed charged : List Bool) (lateness : ℕ) (x : List ℕ) → IsLive net live →
-    passed ≡ replicate (length net.events) false → charged ≡ replicate (length net.activities) false → lateness ≡ lateness_of net x → x ≡ live.times →
-    IsPriced net (record { live = live; passed = passed; charged = charged; sums = record { lateness = lateness; charged = 0; missed = 0 } })
-new_is_priced net live passed charged lateness x is passed_are charged_are lateness_is times_are = record {
+pub new_is_priced : (net : Net) (live : LiveValue) (passed beside charged : List Bool) (lateness : ℕ) (x : List ℕ) → IsLive net live →
+    passed ≡ replicate (length net.events) false → beside ≡ replicate (length net.events) false → charged ≡ replicate (length net.activities) false → lateness ≡ lateness_of net x → x ≡ live.times →
+    IsPriced net (record { live = live; passed = passed; beside = beside; charged = charged; sums = record { lateness = lateness; charged = 0; missed = 0 } })
+new_is_priced net live passed beside charged lateness x is passed_are beside_are charged_are lateness_is times_are = record {
   live = is;
   as_many_passed = ap length passed_are ∙ length-replicate (length net.events) false;
+  flags_beside = none_beside net passed beside passed_are beside_are;
   as_many_charged = ap length charged_are ∙ length-replicate (length net.activities) false;
   lateness = lateness_is ∙ ap (lateness_of net) times_are;
   charged = sym (none_charged net charged (length net.activities) charged_are);
@@ -43,10 +45,11 @@ new_is_priced net live passed charged lateness x is passed_are charged_are laten
 
 -- an order that holds more, or less
 pub free_is_priced : (net : Net) (priced : PricedValue) (live : LiveValue) → IsPriced net priced → IsLive net live → live.given ≡ priced.live.given →
-    live.times ≡ priced.live.times → IsPriced net (record { live = live; passed = priced.passed; charged = priced.charged; sums = priced.sums })
+    live.times ≡ priced.live.times → IsPriced net (record { live = live; passed = priced.passed; beside = priced.beside; charged = priced.charged; sums = priced.sums })
 free_is_priced net priced live is lives given times = record {
   live = lives;
   as_many_passed = is.as_many_passed;
+  flags_beside = is.flags_beside;
   as_many_charged = is.as_many_charged;
   lateness = is.lateness ∙ ap (lateness_of net) (sym times);
   charged = is.charged;
@@ -64,12 +67,13 @@ along_is net passed flags spans spans_read x read row flags_are spans_are times_
 
 module _ (net : Net) (priced : PricedValue) (is : IsPriced net priced) where
   -- times that a watcher has been told of
-  pub told_is_priced : (live : LiveValue) (passed : List Bool) (spans x : List ℕ) (lateness missed : ℕ) → IsLive net live →
-      AreKnown net passed spans x lateness missed → passed ≡ priced.passed → spans ≡ live.given.spans → x ≡ live.times →
-      IsPriced net (record { live = live; passed = priced.passed; charged = priced.charged; sums = record { lateness = lateness; charged = priced.sums.charged; missed = missed } })
-  told_is_priced live passed spans x lateness missed is_live known passed_are spans_are times_are = record {
+  pub told_is_priced : (live : LiveValue) (passed beside : List Bool) (spans x : List ℕ) (lateness missed : ℕ) → IsLive net live →
+      AreKnown net passed beside spans x lateness missed → passed ≡ priced.passed → spans ≡ live.given.spans → x ≡ live.times →
+      IsPriced net (record { live = live; passed = priced.passed; beside = priced.beside; charged = priced.charged; sums = record { lateness = lateness; charged = priced.sums.charged; missed = missed } })
+  told_is_priced live passed beside spans x lateness missed is_live known passed_are spans_are times_are = record {
     live = is_live;
     as_many_passed = is.as_many_passed;
+    flags_beside = is.flags_beside;
     as_many_charged = is.as_many_charged;
     lateness = known.is_lateness ∙ ap (lateness_of net) times_are;
     charged = is.charged;
@@ -94,13 +98,18 @@ module _ (net : Net) (priced : PricedValue) (is : IsPriced net priced) where
     pub passed_holds : before ≤ priced.sums.missed + after
     passed_holds = let b = passed_balance in omega (arith, b)
 
-    pub passed_is_priced : IsPriced net (record priced {
-      passed = slice_set priced.passed i flag;
-      sums = record priced.sums { missed = priced.sums.missed + after - before };
-    })
-    passed_is_priced = record {
+    pub passed_is_priced : (found beside : List Bool) → i < length net.events → found ≡ priced.beside →
+        HasFlaggedTails net into (length into) (slice_set found i true) beside →
+        IsPriced net (record priced {
+          passed = slice_set priced.passed i flag;
+          beside = beside;
+          sums = record priced.sums { missed = priced.sums.missed + after - before };
+        })
+    passed_is_priced found beside lt found_is flagged = record {
       live = is.live;
       as_many_passed = length-set priced.passed i flag ∙ is.as_many_passed;
+      flags_beside = flags_with net priced.passed priced.beside beside i flag into into_is lt is.flags_beside
+          (subst (λ (fs : List Bool). HasFlaggedTails net into (length into) (slice_set fs i true) beside) found_is flagged);
       as_many_charged = is.as_many_charged;
       lateness = is.lateness;
       charged = is.charged;
@@ -132,6 +141,7 @@ module _ (net : Net) (priced : PricedValue) (is : IsPriced net priced) where
     charge_is_priced = record {
       live = is.live;
       as_many_passed = is.as_many_passed;
+      flags_beside = is.flags_beside;
       as_many_charged = length-set priced.charged a flag ∙ is.as_many_charged;
       lateness = is.lateness;
       charged = let b = charge_balance in omega (arith, b);
@@ -164,12 +174,14 @@ module _ (net : Net) (priced : PricedValue) (is : IsPriced net priced) where
         IsPriced net (record {
           live = live;
           passed = priced.passed;
+          beside = priced.beside;
           charged = priced.charged;
           sums = record { lateness = priced.sums.lateness; charged = priced.sums.charged; missed = priced.sums.missed + after - before };
         })
     span_is_priced live is_live live_is = record {
       live = is_live;
       as_many_passed = is.as_many_passed;
+      flags_beside = is.flags_beside;
       as_many_charged = is.as_many_charged;
       lateness = is.lateness ∙ ap (λ (l : LiveValue). lateness_of net l.times) (sym live_is);
       charged = is.charged;

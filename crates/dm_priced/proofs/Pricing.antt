@@ -20,7 +20,7 @@ into_are_activities net e row is k lt = (leads_into net e k row is lt).is_activi
 pub out_are_activities : (net : Net) (e : ℕ) (row : List ℕ) → row ≡ places_out_of net e → AreActivities net row
 out_are_activities net e row is k lt = (leads_out net e k row is lt).is_activity
 
-module _ (net : Net) (passed : List Bool) (spans x : List ℕ) (e t lateness missed : ℕ) (knew : AreKnown net passed spans x lateness missed)
+module _ (net : Net) (passed beside : List Bool) (spans x : List ℕ) (e t lateness missed : ℕ) (knew : AreKnown net passed beside spans x lateness missed)
     (is_event : e < length net.events) (many : length x ≡ length net.events) where
   module _ (cost was : ℕ) (cost_is : cost ≡ cost_at net e t) (was_is : was ≡ cost_at net e (slice_index x e)) where
     lateness_balance : lateness_of net (slice_set x e t) + was ≡ lateness + cost

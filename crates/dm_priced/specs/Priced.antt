@@ -1,5 +1,5 @@
 -- A timetable with its price: which events have passed, which activities are charged for, and what this costs.
-use Rattle.std.specs.Prelude.{ℕ, ◌≡◌, ◌+◌, ◌*◌, ◌&&◌, ◌<◌, nat_lt, Bool, false, List, length, slice_index, slice_index_or, sum_by, if◌then◌else◌}
+use Rattle.std.specs.Prelude.{ℕ, ◌≡◌, ◌+◌, ◌*◌, ◌&&◌, ◌<◌, nat_lt, Bool, true, false, List, length, slice_index, slice_index_or, sum_by, if◌then◌else◌}
 use Rattle.std.specs.List.{range_with_len}
 use Rattle.dm_live.specs.Live.{LiveValue, IsLive}
 use Rattle.dm_network.specs.Net.{Net, activity_at, is_change}
@@ -38,10 +38,19 @@ pub record SumsValue : Type 0 where
   pub charged : ℕ
   pub missed : ℕ
 
--- a timetable, the events that have passed, the activities that are charged for, and the sums
+-- The flags take in each event that has passed, and the tail of each change whose head has passed.
+pub record FlagsBeside (net : Net) (passed beside : List Bool) : Type 0 where
+  pub as_many : length beside ≡ length net.events
+  pub events : (i : ℕ) → is_flagged passed i ≡ true → is_flagged beside i ≡ true
+  pub tails : (a : ℕ) → a < length net.activities → is_change (activity_at net a).kind ≡ true →
+      is_flagged passed (activity_at net a).head ≡ true → is_flagged beside (activity_at net a).tail ≡ true
+
+-- a timetable, the events that have passed, those beside which a change may be missed, the activities that are charged for, and
+-- the sums
 pub record PricedValue : Type 0 where
   pub live : LiveValue
   pub passed : List Bool
+  pub beside : List Bool
   pub charged : List Bool
   pub sums : SumsValue
 
@@ -49,6 +58,7 @@ pub record PricedValue : Type 0 where
 pub record IsPriced (net : Net) (priced : PricedValue) : Type 0 where
   pub live : IsLive net priced.live
   pub as_many_passed : length priced.passed ≡ length net.events
+  pub flags_beside : FlagsBeside net priced.passed priced.beside
   pub as_many_charged : length priced.charged ≡ length net.activities
   pub lateness : priced.sums.lateness ≡ lateness_of net priced.live.times
   pub charged : priced.sums.charged ≡ charged_of net priced.charged

@@ -1,11 +1,11 @@
 //! What one event and one activity add to the sums.
-ghost use Rattle.std.specs.Prelude.{◌≡◌, false, ◌&&◌, ◌+◌, ◌*◌, ◌^◌, ◌<◌, ◌≤◌, length, slice_index, sum_by, if◌then◌else◌};
+ghost use Rattle.std.specs.Prelude.{◌≡◌, true, ◌&&◌, ◌+◌, ◌*◌, ◌^◌, ◌<◌, ◌≤◌, length, slice_index, slice_set, sum_by, if◌then◌else◌};
 ghost use Rattle.dm_network.specs.Net.{activity_at, is_change};
 ghost use Rattle.dm_base.specs.declared.limits.TheConstants.{BOUND, DELAY, WEIGHT};
 ghost use Rattle.dm_settle.specs.Constraints.{IsSizedFor};
 ghost use Rattle.dm_settle.specs.Moving.{IsMove, times_after};
-ghost use Rattle.dm_priced.specs.Priced.{is_flagged, missed_of, missed_weight};
-ghost use Rattle.dm_priced.specs.Inside.Adding.{cost_at, missed_at, AreActivities, LeadToNonePassed};
+ghost use Rattle.dm_priced.specs.Priced.{FlagsBeside, is_flagged, missed_of, missed_weight};
+ghost use Rattle.dm_priced.specs.Inside.Adding.{cost_at, missed_at, AreActivities, HasFlaggedTails};
 
 use dm_base::{ActKind, Cost, EventKind, Milli, Secs};
 use dm_network::Network;
@@ -122,62 +122,56 @@ fn missed_by(net: &Network, passed: &[bool], to: &Move<'_>, a: usize) -> Missed
     }
 }
 
-/// Whether an activity of a row is a change whose head has passed.
-fn leads_to_passed(net: &Network, passed: &[bool], row: &[usize]) -> bool
-    requires as_many { length passed.now ≡ length net.now.events }
-    requires activities { AreActivities net.now row.now }
-    ensures { result ≡ false → LeadToNonePassed net.now passed.now row.now }
-{
-    for a in row {
-        if is_change_to_passed(net, passed, *a) {
-            return true;
-        }
-    }
-    false
-}
-
-/// Whether a change that an event moves may be missed, before it moves or from then on: the event has passed, or a change out of
-/// it leads to one that has.
-fn may_be_missed(net: &Network, passed: &[bool], to: &Move<'_>) -> bool
+/// What the activities into an event that moves and out of it add to these.
+fn missed_around(net: &Network, passed: &[bool], to: &Move<'_>) -> Missed
     requires is_move { IsMove net.now to.now }
     requires as_many { length passed.now ≡ length net.now.events }
-    ensures passed { result ≡ false → is_flagged passed.now to.now.event ≡ false }
-    ensures out_of { result ≡ false → LeadToNonePassed net.now passed.now to.now.out_of.now }
-{
-    has_passed(passed, to.event) || leads_to_passed(net, passed, to.out_of)
-}
-
-/// What the activities into an event that moves and out of it add to these.
-#[inline(never)]
-fn missed_around(net: &Network, passed: &[bool], to: Move<'_>) -> Missed
-    requires is_move { IsMove net.now to }
-    requires as_many { length passed.now ≡ length net.now.events }
-    ensures was { result.was ≡ sum_by (missed_weight net.now passed.now to.entry.constraints.now.spans to.entry.times.now) to.entry.into.now
-        + sum_by (missed_weight net.now passed.now to.entry.constraints.now.spans to.entry.times.now) to.entry.out_of.now }
-    ensures now { result.now ≡ sum_by (missed_weight net.now passed.now to.entry.constraints.now.spans (times_after to.entry)) to.entry.into.now
-        + sum_by (missed_weight net.now passed.now to.entry.constraints.now.spans (times_after to.entry)) to.entry.out_of.now }
+    ensures was { result.was ≡ sum_by (missed_weight net.now passed.now to.now.constraints.now.spans to.now.times.now) to.now.into.now
+        + sum_by (missed_weight net.now passed.now to.now.constraints.now.spans to.now.times.now) to.now.out_of.now }
+    ensures now { result.now ≡ sum_by (missed_weight net.now passed.now to.now.constraints.now.spans (times_after to.now)) to.now.into.now
+        + sum_by (missed_weight net.now passed.now to.now.constraints.now.spans (times_after to.now)) to.now.out_of.now }
     ensures now_limit { result.now < 2 ^ 97 }
 {
-    let along_into = missed_into(net, passed, &to);
-    let along_out = missed_between(net, passed, &to, to.out_of);
+    let along_into = missed_into(net, passed, to);
+    let along_out = missed_between(net, passed, to, to.out_of);
     Missed {
         was: along_into.was + along_out.was,
         now: along_into.now + along_out.now,
     }
 }
 
-/// The weight of the changes that are missed once an event has moved, where this is the weight before.
-pub fn missed_then(net: &Network, passed: &[bool], to: &Move<'_>, missed: Cost) -> Cost
+/// The weight of the changes that are missed once an event has moved, where this is the weight before. Beside an event that is not
+/// flagged as such none can be missed.
+pub fn missed_then(
+    net: &Network,
+    passed: &[bool],
+    beside: &[bool],
+    to: &Move<'_>,
+    missed: Cost,
+) -> Cost
     requires is_move { IsMove net.now to.now }
     requires as_many { length passed.now ≡ length net.now.events }
+    requires beside { FlagsBeside net.now passed.now beside.now }
     requires known { missed ≡ missed_of net.now passed.now to.now.constraints.now.spans to.now.times.now }
     ensures { result ≡ missed_of net.now passed.now to.now.constraints.now.spans (times_after to.now) }
 {
-    net.reveal();
-    if !may_be_missed(net, passed, to) {
-        return missed;
+    if is_flagged(beside, to.event) {
+        missed_anew(net, passed, *to, missed)
+    } else {
+        missed
     }
-    let around = missed_around(net, passed, *to);
+}
+
+/// The same by a look at the activities around the event. It stays a call, so that what is inlined above it is short.
+#[inline(never)]
+fn missed_anew(net: &Network, passed: &[bool], to: Move<'_>, missed: Cost) -> Cost
+    requires is_move { IsMove net.now to }
+    requires as_many { length passed.now ≡ length net.now.events }
+    requires known { missed ≡ missed_of net.now passed.now to.constraints.now.spans to.times.now }
+    ensures { result ≡ missed_of net.now passed.now to.entry.constraints.now.spans (times_after to.entry) }
+{
+    net.reveal();
+    let around = missed_around(net, passed, &to);
     missed + around.now - around.was
 }
 
@@ -210,19 +204,47 @@ fn missed_into(net: &Network, passed: &[bool], to: &Move<'_>) -> Missed
     ensures was_limit { result.was < 2 ^ 96 }
     ensures now_limit { result.now < 2 ^ 96 }
 {
-    if has_passed(passed, to.event) {
+    if is_flagged(passed, to.event) {
         missed_between(net, passed, to, to.into)
     } else {
         Missed { was: 0, now: 0 }
     }
 }
 
-/// Whether an event has passed.
-fn has_passed(passed: &[bool], event: usize) -> bool
-    requires { event < length passed.now }
-    ensures { result ≡ is_flagged passed.now event }
+/// Whether an event is flagged.
+fn is_flagged(flags: &[bool], event: usize) -> bool
+    requires { event < length flags.now }
+    ensures { result ≡ is_flagged flags.now event }
 {
-    passed[event]
+    flags[event]
+}
+
+/// Flags an event that has passed or has not, and the tails of the changes into it, whose row this is.
+pub fn flag_beside(net: &Network, beside: &mut [bool], event: usize, into: &[usize])
+    requires as_many { length beside.old ≡ length net.now.events }
+    requires is_event { event < length net.now.events }
+    requires activities { AreActivities net.now into.now }
+    ensures { HasFlaggedTails net.now into.now (length into.now) (slice_set beside.old event true) beside.new }
+{
+    net.reveal();
+    beside[event] = true;
+    for a in into {
+        flag_tail(net, beside, *a);
+    }
+}
+
+/// Flags the tail of an activity if it is a change.
+fn flag_tail(net: &Network, beside: &mut [bool], a: usize)
+    requires as_many { length beside.old ≡ length net.now.events }
+    requires is_activity { a < length net.now.activities }
+    ensures { beside.new ≡ (if is_change (activity_at net.now a).kind then slice_set beside.old (activity_at net.now a).tail true else
+        beside.old) }
+{
+    net.reveal();
+    let activity = net.activity(a);
+    if matches!(activity.kind, ActKind::Change) {
+        beside[activity.tail] = true;
+    }
 }
 
 /// The weights of the activities of a row that are missed.

@@ -8,7 +8,7 @@ ghost use Rattle.dm_settle.specs.Constraints.{arcs_given, graph_given};
 ghost use Rattle.dm_settle.specs.Settling.{AreLeast};
 ghost use Rattle.dm_priced.specs.Priced.{is_flagged, IsPriced, priced_cost};
 
-use crate::adding::{missed_along, missed_with, weight_if};
+use crate::adding::{flag_beside, missed_along, missed_with, weight_if};
 use crate::totals::lateness_of;
 use crate::watch::Watch;
 use dm_base::{Cost, Secs, Steps};
@@ -30,6 +30,10 @@ pub struct PricedTimetable {
     /// The events that have passed.
     passed: Vec<bool>,
 
+    /// The events beside which a change may be missed: those that have passed, and the tails of the changes whose heads have
+    /// passed. Those of an event that is recalled stay.
+    beside: Vec<bool>,
+
     /// The activities that are charged for.
     charged: Vec<bool>,
     lateness: Cost,
@@ -42,6 +46,7 @@ impl Drop for PricedTimetable {
         let PricedTimetable {
             live: _,
             passed: _,
+            beside: _,
             charged: _,
             lateness: _,
             charged_weight: _,
@@ -59,6 +64,7 @@ impl Model for PricedTimetable {
     ghost view = { λ p. record {
       live = p.live;
       passed = p.passed.items;
+      beside = p.beside.items;
       charged = p.charged.items;
       sums = record { lateness = p.lateness; charged = p.charged_weight; missed = p.missed_weight };
     } };
@@ -82,11 +88,13 @@ impl PricedTimetable {
         net.reveal();
         live.times().is_early();
         let passed = vec![in alloc; false; net.events()]?;
+        let beside = vec![in alloc; false; net.events()]?;
         let charged = vec![in alloc; false; net.activities()]?;
         let lateness = lateness_of(net, live.times());
         Ok(PricedTimetable {
             live,
             passed,
+            beside,
             charged,
             lateness,
             charged_weight: 0,
@@ -133,6 +141,7 @@ impl PricedTimetable {
         net.reveal();
         let mut watch = Watch {
             passed: &self.passed,
+            beside: &self.beside,
             lateness: self.lateness,
             missed: self.missed_weight,
         };
@@ -189,6 +198,7 @@ impl PricedTimetable {
         net.reveal();
         let mut watch = Watch {
             passed: &self.passed,
+            beside: &self.beside,
             lateness: self.lateness,
             missed: self.missed_weight,
         };
@@ -287,7 +297,11 @@ impl PricedTimetable {
         requires is_event { i < length net.now.events }
         requires into { into.now ≡ places_into net.now i }
         ensures priced { IsPriced net.now self.new }
-        ensures passed { self.new ≡ record self.old { passed = slice_set self.old.passed i true; sums = self.new.sums } }
+        ensures passed { self.new ≡ record self.old {
+          passed = slice_set self.old.passed i true;
+          beside = self.new.beside;
+          sums = self.new.sums;
+        } }
     {
         self.set_passed(net, i, true, into);
     }
@@ -298,7 +312,11 @@ impl PricedTimetable {
         requires is_event { i < length net.now.events }
         requires into { into.now ≡ places_into net.now i }
         ensures priced { IsPriced net.now self.new }
-        ensures passed { self.new ≡ record self.old { passed = slice_set self.old.passed i false; sums = self.new.sums } }
+        ensures passed { self.new ≡ record self.old {
+          passed = slice_set self.old.passed i false;
+          beside = self.new.beside;
+          sums = self.new.sums;
+        } }
     {
         self.set_passed(net, i, false, into);
     }
@@ -308,7 +326,11 @@ impl PricedTimetable {
         requires is_event { i < length net.now.events }
         requires into { into.now ≡ places_into net.now i }
         ensures priced { IsPriced net.now self.new }
-        ensures passed { self.new ≡ record self.old { passed = slice_set self.old.passed i passed; sums = self.new.sums } }
+        ensures passed { self.new ≡ record self.old {
+          passed = slice_set self.old.passed i passed;
+          beside = self.new.beside;
+          sums = self.new.sums;
+        } }
     {
         net.reveal();
         let constraints = self.live.constraints();
@@ -317,6 +339,7 @@ impl PricedTimetable {
         self.passed[i] = passed;
         let after = missed_along(net, constraints, &self.passed, times, into);
         self.missed_weight = self.missed_weight + after - before;
+        flag_beside(net, &mut self.beside, i, into);
     }
 
     /// Charges for an activity, or no longer.

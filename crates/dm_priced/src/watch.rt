@@ -6,10 +6,12 @@ use dm_base::Cost;
 use dm_network::Network;
 use dm_settle::{Move, Watcher};
 
-/// What the lateness of the arrivals costs, and the weight of the changes that are missed, by the events that have passed.
+/// What the lateness of the arrivals costs, and the weight of the changes that are missed, by the events that have passed and
+/// those beside which one may be missed.
 #[derive(Clone, Copy)]
 pub struct Watch<'a> {
     pub passed: &'a [bool],
+    pub beside: &'a [bool],
     pub lateness: Cost,
     pub missed: Cost,
 }
@@ -17,7 +19,7 @@ pub struct Watch<'a> {
 impl Watcher for Watch<'_> {
     ghost use Rattle.dm_priced.specs.Inside.Adding.{AreKnown};
 
-    ghost knows = { λ w net given x. AreKnown net w.passed.now given.spans x w.lateness w.missed };
+    ghost knows = { λ w net given x. AreKnown net w.passed.now w.beside.now given.spans x w.lateness w.missed };
 
     ghost flags = { λ w. w.passed.now };
 
@@ -30,6 +32,6 @@ impl Watcher for Watch<'_> {
         let cost = cost_at(net, to.event, to.time);
         let was = cost_at(net, to.event, earlier);
         self.lateness = self.lateness + cost - was;
-        self.missed = missed_then(net, self.passed, to, self.missed);
+        self.missed = missed_then(net, self.passed, self.beside, to, self.missed);
     }
 }

@@ -35,6 +35,7 @@ fn set_passed(priced: &mut PricedTimetable, day: &Day<'_>, event: usize, into: &
     ensures priced { IsPriced day.now.net.now priced.new }
     ensures passed { priced.new ≡ record priced.old {
       passed = slice_set priced.old.passed event (has_passed day.now.rows.now event);
+      beside = priced.new.beside;
       sums = priced.new.sums;
     } }
 {

@@ -1,10 +1,10 @@
 -- What one event and one activity add to the sums, and the limits of these.
-use Rattle.std.specs.Prelude.{ℕ, ◌≡◌, ◌+◌, ◌-◌, ◌*◌, ◌^◌, ◌&&◌, ◌<◌, ◌≤◌, nat_lt, Bool, false, List, length, take, slice_index, sum_by, if◌then◌else◌}
+use Rattle.std.specs.Prelude.{ℕ, ◌≡◌, ◌+◌, ◌-◌, ◌*◌, ◌^◌, ◌&&◌, ◌<◌, ◌≤◌, nat_lt, Bool, true, false, List, length, take, slice_index, sum_by, if◌then◌else◌}
 use Rattle.std.specs.List.{range_with_len}
 use Rattle.dm_base.specs.declared.limits.TheConstants.{EVENTS, ACTIVITIES, WEIGHT}
 use Rattle.dm_network.specs.Net.{Net, event_at, activity_at, is_change}
 use Rattle.dm_rows.specs.Cost.{is_arrival}
-use Rattle.dm_priced.specs.Priced.{SumsValue, is_flagged, lateness_of, missed_of}
+use Rattle.dm_priced.specs.Priced.{SumsValue, FlagsBeside, is_flagged, lateness_of, missed_of}
 
 -- what the lateness of an event costs at a time
 abbrev pub cost_at : Net → ℕ → ℕ → ℕ
@@ -17,8 +17,9 @@ missed_at net passed a tail head span =
     then (activity_at net a).weight else 0
 
 -- the sums of the times are known
-pub record AreKnown (net : Net) (passed : List Bool) (spans x : List ℕ) (lateness missed : ℕ) : Type 0 where
+pub record AreKnown (net : Net) (passed beside : List Bool) (spans x : List ℕ) (lateness missed : ℕ) : Type 0 where
   pub as_many : length passed ≡ length net.events
+  pub flags_beside : FlagsBeside net passed beside
   pub is_lateness : lateness ≡ lateness_of net x
   pub is_missed : missed ≡ missed_of net passed spans x
 
@@ -26,14 +27,17 @@ pub record AreKnown (net : Net) (passed : List Bool) (spans x : List ℕ) (laten
 abbrev pub AreActivities : Net → List ℕ → Type 0
 AreActivities net places = (k : ℕ) → k < length places → slice_index places k < length net.activities
 
--- no activity of the first n of a row is a change whose head has passed
-abbrev pub LeadToNonePassedBefore : Net → List Bool → List ℕ → ℕ → Type 0
-LeadToNonePassedBefore net passed row n =
-    (k : ℕ) → k < n → (is_change (activity_at net (slice_index row k)).kind && is_flagged passed (activity_at net (slice_index row k)).head) ≡ false
-
--- none of a row is
+-- no activity of a row is a change whose head has passed
 abbrev pub LeadToNonePassed : Net → List Bool → List ℕ → Type 0
-LeadToNonePassed net passed row = LeadToNonePassedBefore net passed row (length row)
+LeadToNonePassed net passed row =
+    (k : ℕ) → k < length row → (is_change (activity_at net (slice_index row k)).kind && is_flagged passed (activity_at net (slice_index row k)).head) ≡ false
+
+-- beside the flags before, the tails of the changes among the first n of the row are flagged
+pub record HasFlaggedTails (net : Net) (row : List ℕ) (n : ℕ) (before now : List Bool) : Type 0 where
+  pub as_many : length now ≡ length before
+  pub kept : (i : ℕ) → is_flagged before i ≡ true → is_flagged now i ≡ true
+  pub tails : (k : ℕ) → k < n → is_change (activity_at net (slice_index row k)).kind ≡ true →
+      is_flagged now (activity_at net (slice_index row k)).tail ≡ true
 
 -- the total of a function over the first n places of a row, where each adds at most so much
 pub record IsTotalOf (f : ℕ → ℕ) (row : List ℕ) (n most total : ℕ) : Type 0 where

@@ -7,10 +7,10 @@ use Rattle.dm_priced.proofs.adding.missed_into.Goals as goal
 pub missed_between-requires-clause-activities : goal.missed_between-requires-clause-activities
 missed_between-requires-clause-activities c = into_are_activities c.args.net.now c.args.to.now.event c.args.to.now.into.now c.requires.is_move.into
 
-pub returns-else-has_passed-clause-was : goal.returns-else-has_passed-clause-was
-returns-else-has_passed-clause-was c =
-    unpassed_into c.args.net.now c.args.passed.now c.args.to.now.constraints.now.spans c.args.to.now.times.now c.args.to.now.event c.args.to.now.into.now c.requires.is_move.into (sym c.if-has_passed.ensures)
+pub returns-else-is_flagged-clause-was : goal.returns-else-is_flagged-clause-was
+returns-else-is_flagged-clause-was c =
+    unpassed_into c.args.net.now c.args.passed.now c.args.to.now.constraints.now.spans c.args.to.now.times.now c.args.to.now.event c.args.to.now.into.now c.requires.is_move.into (sym c.if-is_flagged.ensures)
 
-pub returns-else-has_passed-clause-now : goal.returns-else-has_passed-clause-now
-returns-else-has_passed-clause-now c =
-    unpassed_into c.args.net.now c.args.passed.now c.args.to.now.constraints.now.spans (times_after c.args.to.now) c.args.to.now.event c.args.to.now.into.now c.requires.is_move.into (sym c.if-has_passed.ensures)
+pub returns-else-is_flagged-clause-now : goal.returns-else-is_flagged-clause-now
+returns-else-is_flagged-clause-now c =
+    unpassed_into c.args.net.now c.args.passed.now c.args.to.now.constraints.now.spans (times_after c.args.to.now) c.args.to.now.event c.args.to.now.into.now c.requires.is_move.into (sym c.if-is_flagged.ensures)

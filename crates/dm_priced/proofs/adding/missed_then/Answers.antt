@@ -1,32 +1,13 @@
-use Rattle.std.proofs.Common.{arith}
-use Rattle.dm_priced.proofs.Limits.{missed_within}
-use Rattle.dm_priced.proofs.Pricing.{missed_holds, missed_now, missed_still}
+use Rattle.std.proofs.Common.{sym, ◌∙◌}
+use Rattle.dm_priced.proofs.Beside.{has_not_passed, leads_to_none}
+use Rattle.dm_priced.proofs.Pricing.{missed_still}
 use Rattle.dm_priced.proofs.adding.missed_then.Goals as goal
 
-pub returns-then-not-may_be_missed : goal.returns-then-not-may_be_missed
-returns-then-not-may_be_missed c =
+pub returns-else-is_flagged : goal.returns-else-is_flagged
+returns-else-is_flagged c =
+    let not = sym c.is_flagged.ensures ∙ c.if-is_flagged.false in
     missed_still c.args.net.now c.args.passed.now c.args.to.now.constraints.now.spans c.args.to.now.times.now c.args.to.now.event c.args.to.now.time c.args.missed
     c.requires.known c.requires.is_move.is_event c.requires.is_move.as_many
     c.args.to.now.into.now c.args.to.now.out_of.now c.requires.is_move.into c.requires.is_move.out_of
-    (c.may_be_missed.ensures.passed c.if-not-may_be_missed.true) (c.may_be_missed.ensures.out_of c.if-not-may_be_missed.true)
-
-pub overflow_add-result : goal.overflow_add-result
-overflow_add-result c =
-    let bound = missed_within c.args.net.now c.reveal.ensures.within c.args.passed.now c.args.to.now.constraints.now.spans c.args.to.now.times.now in
-    let is = c.requires.known in
-    let limit = c.missed_around-around.ensures.now_limit in
-    omega (arith, bound, is, limit)
-
-pub overflow_sub-result : goal.overflow_sub-result
-overflow_sub-result c =
-    missed_holds c.args.net.now c.args.passed.now c.args.to.now.constraints.now.spans c.args.to.now.times.now c.args.to.now.event c.args.to.now.time c.args.missed
-    c.requires.known c.requires.is_move.is_event c.requires.is_move.as_many
-    c.args.to.now.into.now c.args.to.now.out_of.now c.requires.is_move.into c.requires.is_move.out_of
-    c.missed_around-around.result.now c.missed_around-around.result.was c.missed_around-around.ensures.now c.missed_around-around.ensures.was
-
-pub returns : goal.returns
-returns c =
-    missed_now c.args.net.now c.args.passed.now c.args.to.now.constraints.now.spans c.args.to.now.times.now c.args.to.now.event c.args.to.now.time c.args.missed
-    c.requires.known c.requires.is_move.is_event c.requires.is_move.as_many
-    c.args.to.now.into.now c.args.to.now.out_of.now c.requires.is_move.into c.requires.is_move.out_of
-    c.missed_around-around.result.now c.missed_around-around.result.was c.missed_around-around.ensures.now c.missed_around-around.ensures.was
+    (has_not_passed c.args.net.now c.args.passed.now c.args.beside.now c.requires.beside c.args.to.now.event not)
+    (leads_to_none c.args.net.now c.args.passed.now c.args.beside.now c.requires.beside c.args.to.now.event not c.args.to.now.out_of.now c.requires.is_move.out_of)

@@ -8,8 +8,8 @@ use Rattle.dm_priced.proofs.timetable.PricedTimetable.fix.Goals as goal
 
 pub returns-clause-priced : goal.returns-clause-priced
 returns-clause-priced g c =
-    told_is_priced c.args.net.now (record { live = c.self.inside.live; passed = c.self.inside.passed.items; charged = c.self.inside.charged.items; sums = record { lateness = c.self.inside.lateness; charged = c.self.inside.charged_weight; missed = c.self.inside.missed_weight } })
-    (subst (IsPriced c.args.net.now) (sym c.self.view_is) c.requires.priced) c.fix.new.self c.moves.new.self.passed.now
+    told_is_priced c.args.net.now (record { live = c.self.inside.live; passed = c.self.inside.passed.items; beside = c.self.inside.beside.items; charged = c.self.inside.charged.items; sums = record { lateness = c.self.inside.lateness; charged = c.self.inside.charged_weight; missed = c.self.inside.missed_weight } })
+    (subst (IsPriced c.args.net.now) (sym c.self.view_is) c.requires.priced) c.fix.new.self c.moves.new.self.passed.now c.moves.new.self.beside.now
     c.constraints.result.now.spans (slice_set c.times.result.now c.args.i c.args.time)
     c.moves.new.self.lateness c.moves.new.self.missed c.fix.ensures.live c.moves.ensures.knows
     (c.moves.ensures.flags ∙ c.deref.ensures.value)

@@ -6,8 +6,8 @@ use Rattle.dm_priced.proofs.timetable.PricedTimetable.settle_watched.Goals as go
 
 pub returns-clause-priced : goal.returns-clause-priced
 returns-clause-priced g c =
-    told_is_priced c.args.net.now (record { live = c.self.inside.live; passed = c.self.inside.passed.items; charged = c.self.inside.charged.items; sums = record { lateness = c.self.inside.lateness; charged = c.self.inside.charged_weight; missed = c.self.inside.missed_weight } })
-    (subst (IsPriced c.args.net.now) (sym c.self.view_is) c.requires.priced) c.settle_watched.new.self c.settle_watched.new.watcher.passed.now
+    told_is_priced c.args.net.now (record { live = c.self.inside.live; passed = c.self.inside.passed.items; beside = c.self.inside.beside.items; charged = c.self.inside.charged.items; sums = record { lateness = c.self.inside.lateness; charged = c.self.inside.charged_weight; missed = c.self.inside.missed_weight } })
+    (subst (IsPriced c.args.net.now) (sym c.self.view_is) c.requires.priced) c.settle_watched.new.self c.settle_watched.new.watcher.passed.now c.settle_watched.new.watcher.beside.now
     c.settle_watched.new.self.given.spans c.settle_watched.new.self.times
     c.settle_watched.new.watcher.lateness c.settle_watched.new.watcher.missed c.settle_watched.ensures.live c.settle_watched.ensures.knows
     (c.settle_watched.ensures.flags ∙ c.deref.ensures.value) refl refl

@@ -13,7 +13,7 @@ overflow_add-self c =
 
 pub overflow_sub-self : goal.overflow_sub-self
 overflow_sub-self c =
-    lateness_holds c.args.net.now c.args.self.now.passed.now c.args.to.now.constraints.now.spans c.args.to.now.times.now c.args.to.now.event c.args.to.now.time
+    lateness_holds c.args.net.now c.args.self.now.passed.now c.args.self.now.beside.now c.args.to.now.constraints.now.spans c.args.to.now.times.now c.args.to.now.event c.args.to.now.time
     c.args.self.now.lateness c.args.self.now.missed c.requires.knows c.requires.is_move.is_event c.requires.is_move.as_many
     c.cost_at-cost.result c.cost_at-was.result c.cost_at-cost.ensures.cost
     (c.cost_at-was.ensures.cost ∙ ap (cost_at c.args.net.now c.args.to.now.event) c.time-earlier.ensures.value)
@@ -21,8 +21,9 @@ overflow_sub-self c =
 pub returns-clause-knows : goal.returns-clause-knows
 returns-clause-knows c = record {
   as_many = c.requires.knows.as_many;
+  flags_beside = c.requires.knows.flags_beside;
   is_lateness =
-      lateness_now c.args.net.now c.args.self.now.passed.now c.args.to.now.constraints.now.spans c.args.to.now.times.now c.args.to.now.event c.args.to.now.time
+      lateness_now c.args.net.now c.args.self.now.passed.now c.args.self.now.beside.now c.args.to.now.constraints.now.spans c.args.to.now.times.now c.args.to.now.event c.args.to.now.time
       c.args.self.now.lateness c.args.self.now.missed c.requires.knows c.requires.is_move.is_event c.requires.is_move.as_many
       c.cost_at-cost.result c.cost_at-was.result c.cost_at-cost.ensures.cost
       (c.cost_at-was.ensures.cost ∙ ap (cost_at c.args.net.now c.args.to.now.event) c.time-earlier.ensures.value);
