@@ -7,7 +7,7 @@ use Rattle.std.proofs.lemmas.List.{get_or_past, get_or-replicate, ext_get_or, le
 use Rattle.std.proofs.lemmas.Nat.{shr-shr}
 use Rattle.std.proofs.lemmas.Nat.Bits.{bit_at-zero, bit_at-lt, bit_at-trailing_zeros, bit_at_set_same, bit_at_set_other, bit_at_clear_same, bit_at_clear_other}
 use native.Mathlib.Nat.{div-eq_of_lt}
-use Rattle.dm_marks.specs.Marked.{is_marked, IsFirstFrom}
+use Rattle.dm_marks.specs.Marked.{is_marked, IsFirstFrom, NoneFrom}
 use Rattle.dm_marks.specs.Inside.Words.{bit_of, Turns, AreBits, AreCovered, IsFirstBit, NoBitBetween, NoBitFrom}
 use Rattle.dm_marks.proofs.Listing.{none_in}
 use Rattle.dm_marks.proofs.Marking.{mark_here, mark_there}
@@ -58,6 +58,27 @@ bit_behind words from k at lt =
 pub none_in_word : (words : List ℕ) (from : ℕ) → slice_index words (from / 64) / 2 ^ (from % 64) ≡ 0 → NoBitBetween words from (from / 64 * 64 + 64)
 none_in_word words from none k at lt = bit_behind words from k at lt ∙ ap (λ n. bit_at n (k - from)) none ∙ bit_at-zero (k - from)
 
+-- the first bit from one on of a word stands in it
+pub stays_in_word : (words : List ℕ) (from : ℕ) → slice_index words (from / 64) < 2 ^ 64 → slice_index words (from / 64) / 2 ^ (from % 64) ≢ 0 →
+    from % 64 + trailing_zeros w64 (slice_index words (from / 64) / 2 ^ (from % 64)) < 64
+stays_in_word words from fits some =
+    let word = slice_index words (from / 64) in
+    let rest = word / 2 ^ (from % 64) in
+    let less : rest < 2 ^ 64 = omega arith in
+    let lowest = bit_at-trailing_zeros w64 rest (omega (arith, some)) less in
+    let bit : ℕ = trailing_zeros w64 rest in
+    elim (cases_lt (from % 64 + bit) 64) [
+      | inl under ↦ under
+      | inr over ↦ absurd (omega (arith, sym (shifted word (from % 64) bit) ∙ lowest.1, bit_above word (from % 64 + bit) fits over))
+    ]
+
+-- and is taken back there
+pub take_turns : (words : List ℕ) (from place : ℕ) → from / 64 < length words → place / 64 ≡ from / 64 →
+    Turns words (slice_set words (from / 64) (bit_and (slice_index_or words (from / 64) 0) (bit_not w64 (1 * 2 ^ (place % 64) % 2 ^ 64)))) place 0
+take_turns words from place within same =
+    subst (λ (w : ℕ). Turns words (slice_set words w (bit_and (slice_index_or words w 0) (bit_not w64 (1 * 2 ^ (place % 64) % 2 ^ 64)))) place 0) same
+    (clear_turns words place (omega (arith, within, same)))
+
 pub first_of_word : (words : List ℕ) (from : ℕ) → from / 64 < length words → slice_index words (from / 64) < 2 ^ 64 →
     slice_index words (from / 64) / 2 ^ (from % 64) ≢ 0 → IsFirstBit words from (from + trailing_zeros w64 (slice_index words (from / 64) / 2 ^ (from % 64)))
 first_of_word words from within fits some =
@@ -66,10 +87,7 @@ first_of_word words from within fits some =
     let less : rest < 2 ^ 64 = omega arith in
     let lowest = bit_at-trailing_zeros w64 rest (omega (arith, some)) less in
     let bit : ℕ = trailing_zeros w64 rest in
-    let near : from % 64 + bit < 64 = elim (cases_lt (from % 64 + bit) 64) [
-      | inl under ↦ under
-      | inr over ↦ absurd (omega (arith, sym (shifted word (from % 64) bit) ∙ lowest.1, bit_above word (from % 64 + bit) fits over))
-    ] in
+    let near : from % 64 + bit < 64 = stays_in_word words from fits some in
     record {
       not_before = omega arith;
       within = omega (arith, near, within);
@@ -235,6 +253,27 @@ first_marked marks words from place bits first =
 -- the first mark is the first bit of a place's own word
 pub first_near : (marks : List Bool) (words groups : List ℕ) (from place : ℕ) → AreBits marks words × AreCovered words groups → IsFirstBit words from place → IsFirstFrom marks from place
 first_near marks words groups from place are first = first_marked marks words from place are.0 first
+
+-- or the first behind it
+pub first_later : (marks : List Bool) (words groups : List ℕ) (from place : ℕ) → AreBits marks words × AreCovered words groups → NoBitBetween words from (from / 64 * 64 + 64) →
+    IsFirstFrom marks (from / 64 * 64 + 64) place → IsFirstFrom marks from place
+first_later marks words groups from place are near first = record {
+  not_before = let b = first.not_before in omega arith;
+  within = first.within;
+  marked = first.marked;
+  none_between = λ k at lt. elim (cases_lt k (from / 64 * 64 + 64)) [
+    | inl under ↦ false_from_ne_true (is_marked marks k) (λ m. omega (arith, are.0.marked k m, near k at under))
+    | inr over ↦ first.none_between k over lt
+  ];
+}
+
+-- or none
+pub none_later : (marks : List Bool) (words groups : List ℕ) (from : ℕ) → AreBits marks words × AreCovered words groups → NoBitBetween words from (from / 64 * 64 + 64) →
+    NoneFrom marks (from / 64 * 64 + 64) → NoneFrom marks from
+none_later marks words groups from are near none k at = elim (cases_lt k (from / 64 * 64 + 64)) [
+  | inl under ↦ false_from_ne_true (is_marked marks k) (λ m. omega (arith, are.0.marked k m, near k at under))
+  | inr over ↦ none k over
+]
 
 -- or the first of the words behind
 pub first_far : (marks : List Bool) (words groups : List ℕ) (from place : ℕ) → AreBits marks words × AreCovered words groups → NoBitBetween words from (from / 64 * 64 + 64) →

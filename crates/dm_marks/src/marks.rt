@@ -87,8 +87,7 @@ impl Marks {
         ensures { self.new ≡ slice_set self.old place true }
     {
         self.flags[place] = true;
-        tell_word(&self.words, &mut self.groups, place / WORD);
-        set_bit(&mut self.words, place);
+        set_told(&mut self.words, &mut self.groups, place);
     }
 
     /// Takes the mark at a place away.
@@ -148,6 +147,59 @@ impl Marks {
             None => first_behind(&self.words, &mut self.groups, from / WORD + 1),
         }
     }
+
+    /// Takes the first mark from this place on away, and answers where it was. It costs what [`Marks::first_from`] does.
+    // Most marks are near the last one, so this part is short.
+    #[inline(always)]
+    pub fn take_first_from(&mut self, from: usize) -> Option<usize>
+        ensures first { IfSome result (IsFirstFrom self.old from) }
+        ensures taken { IfSome result (λ place. self.new ≡ slice_set self.old place false) }
+        ensures none { IfNone result (NoneFrom self.old from) }
+        ensures same { IfNone result (self.new ≡ self.old) }
+    {
+        if from >= self.flags.len() {
+            return None;
+        }
+        match take_in_word(&mut self.words, from) {
+            Some(place) => {
+                self.flags[place] = false;
+                Some(place)
+            }
+            None => self.take_far(from / WORD * WORD + WORD),
+        }
+    }
+
+    /// The same by a search.
+    #[inline(never)]
+    fn take_far(&mut self, from: usize) -> Option<usize>
+        ensures first { IfSome result (IsFirstFrom self.old from) }
+        ensures taken { IfSome result (λ place. self.new ≡ slice_set self.old place false) }
+        ensures none { IfNone result (NoneFrom self.old from) }
+        ensures same { IfNone result (self.new ≡ self.old) }
+    {
+        let place = self.first_from(from)?;
+        self.clear(place);
+        Some(place)
+    }
+}
+
+/// Takes the first bit that is set, from one on, of its word back.
+fn take_in_word(words: &mut [u64], from: usize) -> Option<usize>
+    requires few { AreFew words.old }
+    requires within { from / WORD < length words.old }
+    ensures first { IfSome result (IsFirstBit words.old from) }
+    ensures taken { IfSome result (λ place. Turns words.old words.new place 0) }
+    ensures none { IfNone result (NoBitBetween words.old from (from / WORD * WORD + WORD)) }
+    ensures same { IfNone result (words.new ≡ words.old) }
+{
+    let word = words[from / WORD];
+    let rest = word >> (from % WORD);
+    if rest == 0 {
+        return None;
+    }
+    let place = from + rest.trailing_zeros() as usize;
+    words[from / WORD] = word & !(1 << (place % WORD));
+    Some(place)
 }
 
 /// Sets a bit.
@@ -166,15 +218,18 @@ fn clear_bit(words: &mut [u64], place: usize)
     words[place / WORD] &= !(1 << (place % WORD));
 }
 
-/// Tells of a word in its group. One that has bits is told already.
-fn tell_word(words: &[u64], groups: &mut [u64], word: usize)
-    requires covered { AreCovered words.now groups.old }
-    requires within { word < length words.now }
-    ensures { Turns groups.old groups.new word 1 }
+/// Sets a bit, and tells of its word in its group. A word that has bits is told already.
+fn set_told(words: &mut [u64], groups: &mut [u64], place: usize)
+    requires covered { AreCovered words.old groups.old }
+    requires within { place / WORD < length words.old }
+    ensures words { Turns words.old words.new place 1 }
+    ensures groups { Turns groups.old groups.new (place / WORD) 1 }
 {
-    if words[word] == 0 {
-        set_bit(groups, word);
+    let word = words[place / WORD];
+    if word == 0 {
+        set_bit(groups, place / WORD);
     }
+    words[place / WORD] = word | 1 << (place % WORD);
 }
 
 /// The first bit that is set, from a word on. A word without bits is told as such, and not looked at again. It stays a call, so

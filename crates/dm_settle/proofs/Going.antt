@@ -19,7 +19,7 @@ module _ (g : Graph) (order ranks : List ℕ) (ranked : AreRanks g.shape.events 
   is_event : slice_index order next < g.shape.events
   is_event = ranked.is_event next below
 
-  is_next : slice_index ranks (slice_index order next) ≡ next
+  pub is_next : slice_index ranks (slice_index order next) ≡ next
   is_next = ranked.is_ranked next below
 
   here : IsSweeping g ranks marks0 marks times (slice_index ranks (slice_index order next))

@@ -1,5 +1,5 @@
 //! The sweep along an order that computes the marked events anew.
-ghost use Rattle.std.specs.Prelude.{ℕ, ◌≡◌, ◌^◌, ◌<◌, true, max, length, slice_index, slice_set};
+ghost use Rattle.std.specs.Prelude.{ℕ, ◌≡◌, ◌^◌, ◌<◌, true, false, Bool, List, max, length, slice_index, slice_set};
 ghost use Rattle.dm_network.specs.Net.{activity_at};
 ghost use Rattle.dm_marks.specs.Marked.{NoneFrom};
 ghost use Rattle.dm_settle.specs.Constraints.{IsSizedFor, graph_given};
@@ -63,14 +63,14 @@ impl Sweep<'_> {
         self.net.reveal();
         self.constraints.within_limits();
         let mut place = 0;
-        while let Some(next) = marks.first_from(place) {
+        while let Some(next) = marks.take_first_from(place) {
             self.renew(self.order[next], marks, times, watcher, other, steps);
             place = next + 1;
         }
         times.is_early();
     }
 
-    /// Computes a marked event anew and takes its mark away. If its time changes, the watchers are told, and the heads that it
+    /// Computes an event anew, whose mark has been taken away. If its time changes, the watchers are told, and the heads that it
     /// may move are marked. Answers whether it does.
     fn renew<L: Ledger, W: Watcher, V: Watcher>(
         &self,
@@ -89,14 +89,14 @@ impl Sweep<'_> {
         requires early { TailsAreEarly (graph_swept self.now) times.old event }
         requires knows { W.knows watcher.old self.now.net.now self.now.constraints.now times.old }
         requires other_knows { V.knows other.old self.now.net.now self.now.constraints.now times.old }
-        ensures renews { Renews result (graph_swept self.now) self.now.ranks.now event
-            (record { marks = marks.old; times = times.old; steps = steps.old })
+        ensures renews { (marked : List Bool) → marks.old ≡ slice_set marked (slice_index self.now.ranks.now event) false →
+            Renews result (graph_swept self.now) self.now.ranks.now event
+            (record { marks = marked; times = times.old; steps = steps.old })
             (record { marks = marks.new; times = times.new; steps = steps.new }) }
         ensures knows { W.knows watcher.new self.now.net.now self.now.constraints.now times.new }
         ensures flags { W.flags watcher.new ≡ W.flags watcher.old }
         ensures other_knows { V.knows other.new self.now.net.now self.now.constraints.now times.new }
     {
-        marks.clear(self.ranks[event]);
         let into = self.net.in_row(event, steps);
         let time = time_of(self.net, self.constraints, times, event, into);
         if time == times.time(event) {

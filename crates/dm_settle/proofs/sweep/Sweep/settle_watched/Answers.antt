@@ -1,8 +1,8 @@
-use Rattle.std.proofs.Common.{Bool, List, refl, subst, ◌∙◌, inl, arith, slice_index}
+use Rattle.std.proofs.Common.{ℕ, false, refl, sym, ap, ◌∙◌, inl, arith}
+use Rattle.std.specs.Prelude.{slice_set}
 use Rattle.dm_settle.specs.Settling.{arcs_swept, graph_swept}
-use Rattle.dm_settle.specs.Inside.Sweep.{Renews}
 use Rattle.dm_settle.proofs.Given.{given_is_bounded}
-use Rattle.dm_settle.proofs.Going.{next_tails_are_early, sweeps_on, reads_on}
+use Rattle.dm_settle.proofs.Going.{is_next, next_tails_are_early, sweeps_on, reads_on}
 use Rattle.dm_settle.proofs.Sweeping.{all_settled, settled_is_least}
 use Rattle.dm_settle.proofs.Reading.{none_read}
 use Rattle.dm_settle.proofs.sweep.Sweep.settle_watched.Goals as goal
@@ -24,11 +24,10 @@ renew-requires-clause-early g c =
 
 pub loop-next-preserved : goal.loop-next-preserved
 loop-next-preserved g c =
-    let renews =
-    subst (λ (marks : List Bool). Renews c.renew.result (graph_swept c.args.self.now) c.args.self.now.ranks.now (slice_index c.args.self.now.order.now c.in-Some.next)
-    (record { marks = marks; times = c.loop-next.times; steps = c.loop-next.steps })
-    (record { marks = c.renew.new.marks; times = c.renew.new.times; steps = c.renew.new.steps }))
-    c.in-Some.ensures.same c.renew.ensures.renews in
+    let at =
+    is_next (graph_swept c.args.self.now) c.args.self.now.order.now c.args.self.now.ranks.now c.requires.begins.ranked c.args.marks.now c.requires.begins.forward
+    c.loop-next.marks c.loop-next.times c.loop-next.place c.in-Some.next c.loop-next.invariant.sweeping c.in-Some.ensures.first in
+    let renews = c.renew.ensures.renews c.loop-next.marks (c.in-Some.ensures.taken ∙ ap (λ (k : ℕ). slice_set c.loop-next.marks k false) (sym at)) in
     record {
       sweeping =
           sweeps_on (graph_swept c.args.self.now) c.args.self.now.order.now c.args.self.now.ranks.now c.requires.begins.ranked c.args.marks.now c.requires.begins.forward
