@@ -165,7 +165,9 @@ impl Page {
     }
 
     /// Prints words and two numbers with a space between, behind all that was printed before. A write
-    /// fault comes only where a write failed.
+    /// fault comes only where a write failed. It is inlined, so that words that a caller writes down
+    /// are stored and not copied.
+    #[inline(always)]
     pub fn put_pair<K: Sink>(
         &mut self,
         sink: &mut K,
