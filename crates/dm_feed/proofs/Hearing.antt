@@ -1,6 +1,6 @@
 -- What is heard in bytes: the reader's functions against what lines say.
-use Rattle.std.proofs.Common.{◌≡◌, ℕ, ◌<◌, ◌≤◌, ◌↔◌, Bool, true, false, cond, leb, eqb, ◌&&◌, List, [], ◌∷◌, length, get_or, Option, Some, None, refl, sym, ap, subst, ◌∙◌, arith}
-use Rattle.std.specs.Prelude.{nat_eq}
+use Rattle.std.proofs.Common.{◌≡◌, ◌≢◌, ℕ, ◌<◌, ◌≤◌, ◌↔◌, Bool, true, false, cond, leb, eqb, ◌&&◌, List, [], ◌∷◌, length, get_or, Option, Some, None, refl, sym, ap, subst, ◌∙◌, arith}
+use Rattle.std.specs.Prelude.{nat_eq, codes}
 use Rattle.std.specs.List.{find}
 use Rattle.std.specs.Option.{option_map}
 use Rattle.std.specs.Cmp.Lexicographic.{pointwise}
@@ -10,7 +10,6 @@ use Rattle.dm_rows.specs.declared.messages.Message.{Message}
 use Rattle.dm_rows.specs.declared.messages.Message.TheVariants as message
 use Rattle.dm_feed.specs.declared.vocabulary.Word.{Word}
 use Rattle.dm_feed.specs.declared.vocabulary.Word.TheVariants.{Delay, Event, Activity, Pass, Recall, Keep, Drop, First, Now, Time, Cost, Read, Plan, Adopt}
-use Rattle.dm_feed.specs.declared.vocabulary.TheConstants.{WORDS}
 use Rattle.dm_feed.specs.declared.grammar.Line.{Line}
 use Rattle.dm_feed.specs.declared.grammar.Line.TheVariants as line
 use Rattle.dm_feed.specs.declared.grammar.Heard.{Heard}
@@ -18,7 +17,7 @@ use Rattle.dm_feed.specs.declared.grammar.Heard.TheVariants as heard
 use Rattle.dm_feed.specs.Words.{spelling_of_word, words_of}
 use Rattle.dm_feed.specs.Parts.{Part, word, id, value, Writes, StandsFor, StandForAll, largest_id, largest_value}
 use Rattle.dm_feed.specs.Lines.{parts_of_message, parts_of_line, IsSaid, IsSpelledLine, IsLineOf, SayNothing, IsQuiet, IsInNoForm, Hears}
-use Rattle.dm_feed.specs.Inside.Reading.{word_named, is_number, number_up_to, id_in, value_in, only, both, two, event, act, alone, delay_of, delay_behind, line_behind, line_with, line_in, heard_line, begins_comment, heard_words, heard_in}
+use Rattle.dm_feed.specs.Inside.Reading.{every_word, word_named, is_number, number_up_to, id_in, value_in, only, both, two, event, act, alone, delay_of, delay_behind, line_behind, line_with, line_in, heard_line, begins_comment, heard_words, heard_in}
 use Rattle.dm_feed.proofs.Digits.{digits-from_number, number_is}
 
 -- ---- words
@@ -47,7 +46,7 @@ found_passes p (v ∷ ws) w e =
 
 -- the word that was found is spelled so
 pub word_found : (text : List ℕ) (w : Word) → word_named text ≡ Some w → text ≡ spelling_of_word w
-word_found text w e = sym (same_list (spelling_of_word w) text (found_passes (λ v. pointwise nat_eq (spelling_of_word v) text) WORDS w e))
+word_found text w e = sym (same_list (spelling_of_word w) text (found_passes (λ v. pointwise nat_eq (spelling_of_word v) text) every_word w e))
 
 -- each word is found by its spelling
 pub word_spelled : (w : Word) → word_named (spelling_of_word w) ≡ Some w
@@ -68,6 +67,53 @@ word_spelled Adopt = refl
 
 pub named : (text : List ℕ) (w : Word) → text ≡ spelling_of_word w → word_named text ≡ Some w
 named text w e = ap word_named e ∙ word_spelled w
+
+-- a text that is no word's spelling names none
+unnamed : (text : List ℕ) → ((w : Word) → text ≢ spelling_of_word w) → None ≡ word_named text
+unnamed text other = by_name (word_named text) refl
+  where
+    by_name : (o : Option Word) → word_named text ≡ o → None ≡ word_named text
+    by_name None e = sym e
+    by_name (Some w) e = absurd (other w (word_found text w e))
+
+other_in_six : (text : List ℕ) → length text ≡ 6 → text ≢ codes "recall" → (w : Word) → text ≢ spelling_of_word w
+other_in_six text n other Delay e = let m = ap length e in omega arith
+other_in_six text n other Event e = let m = ap length e in omega arith
+other_in_six text n other Activity e = let m = ap length e in omega arith
+other_in_six text n other Pass e = let m = ap length e in omega arith
+other_in_six text n other Recall e = other e
+other_in_six text n other Keep e = let m = ap length e in omega arith
+other_in_six text n other Drop e = let m = ap length e in omega arith
+other_in_six text n other First e = let m = ap length e in omega arith
+other_in_six text n other Now e = let m = ap length e in omega arith
+other_in_six text n other Time e = let m = ap length e in omega arith
+other_in_six text n other Cost e = let m = ap length e in omega arith
+other_in_six text n other Read e = let m = ap length e in omega arith
+other_in_six text n other Plan e = let m = ap length e in omega arith
+other_in_six text n other Adopt e = let m = ap length e in omega arith
+
+other_in_more : (text : List ℕ) → 6 < length text → text ≢ codes "activity" → (w : Word) → text ≢ spelling_of_word w
+other_in_more text n other Delay e = let m = ap length e in omega arith
+other_in_more text n other Event e = let m = ap length e in omega arith
+other_in_more text n other Activity e = other e
+other_in_more text n other Pass e = let m = ap length e in omega arith
+other_in_more text n other Recall e = let m = ap length e in omega arith
+other_in_more text n other Keep e = let m = ap length e in omega arith
+other_in_more text n other Drop e = let m = ap length e in omega arith
+other_in_more text n other First e = let m = ap length e in omega arith
+other_in_more text n other Now e = let m = ap length e in omega arith
+other_in_more text n other Time e = let m = ap length e in omega arith
+other_in_more text n other Cost e = let m = ap length e in omega arith
+other_in_more text n other Read e = let m = ap length e in omega arith
+other_in_more text n other Plan e = let m = ap length e in omega arith
+other_in_more text n other Adopt e = let m = ap length e in omega arith
+
+-- one word has six letters, and one has more
+pub unnamed_in_six : (text : List ℕ) → length text ≡ 6 → text ≢ codes "recall" → None ≡ word_named text
+unnamed_in_six text n other = unnamed text (other_in_six text n other)
+
+pub unnamed_in_more : (text : List ℕ) → 6 < length text → text ≢ codes "activity" → None ≡ word_named text
+unnamed_in_more text n other = unnamed text (other_in_more text n other)
 
 -- ---- numbers
 

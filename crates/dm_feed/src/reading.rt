@@ -83,6 +83,7 @@ fn alone(line: Line, words: &[u8]) -> Option<Line>
 }
 
 /// The line that begins with this word, and whose other words are these.
+#[inline(always)]
 pub(crate) fn line_behind(word: Word, words: &[u8]) -> Option<Line>
     ensures { result ≡ line_behind word (words_of words.now) }
 {

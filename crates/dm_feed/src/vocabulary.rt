@@ -1,6 +1,5 @@
 //! The words that lines are made of.
 ghost use Rattle.std.specs.Prelude.{◌≡◌};
-ghost use Rattle.dm_feed.specs.Words.{spelling_of_word};
 ghost use Rattle.dm_feed.specs.Inside.Reading.{word_named};
 
 /// A word of the lines.
@@ -22,54 +21,26 @@ pub enum Word {
     Adopt,
 }
 
-/// Every word.
-pub(crate) const WORDS: [Word; 14] = [
-    Word::Delay,
-    Word::Event,
-    Word::Activity,
-    Word::Pass,
-    Word::Recall,
-    Word::Keep,
-    Word::Drop,
-    Word::First,
-    Word::Now,
-    Word::Time,
-    Word::Cost,
-    Word::Read,
-    Word::Plan,
-    Word::Adopt,
-];
-
-impl Word {
-    /// How the word is spelled.
-    pub(crate) fn spelling(self) -> &'static str
-        ensures { result.now ≡ spelling_of_word self }
-    {
-        match self {
-            Word::Delay => "delay",
-            Word::Event => "event",
-            Word::Activity => "activity",
-            Word::Pass => "pass",
-            Word::Recall => "recall",
-            Word::Keep => "keep",
-            Word::Drop => "drop",
-            Word::First => "first",
-            Word::Now => "now",
-            Word::Time => "time",
-            Word::Cost => "cost",
-            Word::Read => "read",
-            Word::Plan => "plan",
-            Word::Adopt => "adopt",
-        }
-    }
-}
-
 /// The word that is spelled so.
 pub(crate) fn word_of(text: &[u8]) -> Option<Word>
     ensures { result ≡ word_named text.now }
 {
-    WORDS
-        .iter()
-        .copied()
-        .find(|word| word.spelling().as_bytes() == text)
+    let word = match text {
+        b"delay" => Word::Delay,
+        b"event" => Word::Event,
+        b"activity" => Word::Activity,
+        b"pass" => Word::Pass,
+        b"recall" => Word::Recall,
+        b"keep" => Word::Keep,
+        b"drop" => Word::Drop,
+        b"first" => Word::First,
+        b"now" => Word::Now,
+        b"time" => Word::Time,
+        b"cost" => Word::Cost,
+        b"read" => Word::Read,
+        b"plan" => Word::Plan,
+        b"adopt" => Word::Adopt,
+        _ => return None,
+    };
+    Some(word)
 }

@@ -14,7 +14,6 @@ use Rattle.dm_rows.specs.declared.messages.Message.{Message}
 use Rattle.dm_rows.specs.declared.messages.Message.TheVariants as message
 use Rattle.dm_feed.specs.declared.vocabulary.Word.{Word}
 use Rattle.dm_feed.specs.declared.vocabulary.Word.TheVariants.{Delay, Event, Activity, Pass, Recall, Keep, Drop, First, Now, Time, Cost, Read, Plan, Adopt}
-use Rattle.dm_feed.specs.declared.vocabulary.TheConstants.{WORDS}
 use Rattle.dm_feed.specs.declared.grammar.Line.{Line}
 use Rattle.dm_feed.specs.declared.grammar.Line.TheVariants as line
 use Rattle.dm_feed.specs.declared.grammar.Heard.{Heard}
@@ -22,9 +21,12 @@ use Rattle.dm_feed.specs.declared.grammar.Heard.TheVariants as heard
 use Rattle.dm_feed.specs.Words.{spelling_of_word, words_of}
 use Rattle.dm_feed.specs.Parts.{largest_id, largest_value}
 
+abbrev pub every_word : List Word
+every_word = Delay ∷ Event ∷ Activity ∷ Pass ∷ Recall ∷ Keep ∷ Drop ∷ First ∷ Now ∷ Time ∷ Cost ∷ Read ∷ Plan ∷ Adopt ∷ []
+
 -- the word that is spelled so
 abbrev pub word_named : List ℕ → Option Word
-word_named text = find (λ w. pointwise nat_eq (spelling_of_word w) text) WORDS
+word_named text = find (λ w. pointwise nat_eq (spelling_of_word w) text) every_word
 
 -- one or more decimal digits
 abbrev pub is_number : List ℕ → Bool
