@@ -6,7 +6,9 @@
 //!
 //! A [`PricedTimetable`] is a live timetable with a flag for each event that has passed, and a flag for each activity that is
 //! charged for. It keeps three sums: the lateness of the arrivals, the weights of the activities that are charged for, and the
-//! weights of the changes that their passed heads have missed.
+//! weights of the changes that their passed heads have missed. It also flags the events beside which a change may be missed: at
+//! least those that have passed, and the tails of the changes whose heads have passed. So an event that moves and is not flagged
+//! leaves the third sum as it is.
 //!
 //! The moves of dm_live (`set_floor`, `set_span`, `hold`, `release`, `fix`, `free`) do here what they do there. `settle` leaves
 //! the least timetable, and `settle_watched` also tells a watcher of each time that changes. `pass` and `recall` set whether an
