@@ -77,18 +77,16 @@ pub const REASONS: [&str; 13] = [
     "plans",
 ];
 
-/// The word that may be a reason in an answer: `N refused REASON ..`, `N old`, or the reason alone.
+/// The reason in an answer, and nothing where it has none: `N refused REASON ..`, `N old`, or the reason alone.
 fn reason_in(answer: &[u8]) -> &[u8] {
-    if answer.is_empty() {
-        return answer;
+    let (first, rest) = cut(answer, b' ');
+    if !matches!(first, [b'0'..=b'9', ..]) {
+        return first;
     }
-    let word = word_at(answer, 1);
-    if is_same(word, "refused") {
-        word_at(answer, 2)
-    } else if is_same(word, "old") {
-        word
-    } else {
-        word_at(answer, 0)
+    match rest {
+        [b'r', b'e', b'f', b'u', b's', b'e', b'd', b' ', why @ ..] => word_at(why, 0),
+        b"old" => rest,
+        _ => &[],
     }
 }
 
@@ -108,6 +106,9 @@ pub struct Heard {
     line: Line,
     has_first: bool,
     is_run: bool,
+
+    /// Whether nothing that stands behind is heard.
+    is_done: bool,
     feed: usize,
     pub feeds: [FeedHeard; FEEDS],
 
@@ -127,6 +128,7 @@ impl Heard {
             line: Line::new(),
             has_first: false,
             is_run: false,
+            is_done: false,
             feed: 0,
             feeds: [silent; FEEDS],
             refused: [0; 13],
@@ -140,6 +142,9 @@ impl Heard {
 
     /// Hears bytes.
     pub fn hear_all(&mut self, bytes: &[u8]) {
+        if self.is_done {
+            return;
+        }
         let mut from = 0;
         for end in memchr_iter(b'\n', bytes) {
             self.end_line(bytes.get(from..end).unwrap_or_default());
@@ -152,37 +157,53 @@ impl Heard {
     fn end_line(&mut self, rest: &[u8]) {
         if self.line.len == 0 {
             self.hear_line(rest.get(..KEPT).unwrap_or(rest));
-            return;
+        } else {
+            self.end_held(rest);
         }
+    }
+
+    /// Hears a line of which a front is held.
+    fn end_held(&mut self, rest: &[u8]) {
         self.line.hold(rest);
         let line = self.line;
         self.line.len = 0;
         self.hear_line(line.kept());
     }
 
-    /// Hears a line.
+    /// Hears a line. Most lines tell nothing, so it is inlined, and what some lines tell stays a call.
+    #[inline(always)]
     fn hear_line(&mut self, line: &[u8]) {
         if !self.has_first {
-            self.has_first = true;
-            self.first.hold(line);
-            self.is_run = is_same(word_at(line, 0), "dm-run");
-        } else if self.is_run {
+            self.hear_first(line);
+        } else if !self.is_done {
             self.hear_later(line);
         }
     }
 
-    /// Hears a line of a run's text behind the first.
+    /// Hears the first line. Nothing else is heard of a text that is not that of a run.
+    #[inline(never)]
+    fn hear_first(&mut self, line: &[u8]) {
+        self.has_first = true;
+        self.first.hold(line);
+        self.is_run = is_same(word_at(line, 0), "dm-run");
+        self.is_done = !self.is_run;
+    }
+
+    /// Hears a line of a run's text behind the first. The times and the cost, which are its end, tell nothing.
+    #[inline(always)]
     fn hear_later(&mut self, line: &[u8]) {
         match line {
             [b'0'..=b'9', .., b' ', b'o', b'k'] => {}
             [b'0'..=b'9', ..] => self.hear_numbered(line),
             [b'f', ..] => self.hear_feed(line),
             [b'l', ..] if is_same(line, "long") => self.end_feed(Stop::Long),
+            [b't', ..] if is_same(word_at(line, 0), "times") => self.is_done = true,
             _ => {}
         }
     }
 
     /// Hears a line that begins as that of a feed does, or as that of a failed read.
+    #[inline(never)]
     fn hear_feed(&mut self, line: &[u8]) {
         let (front, rest) = cut(line, b' ');
         if is_same(front, "feed") {
@@ -192,13 +213,21 @@ impl Heard {
         }
     }
 
-    /// Hears a line that begins with a number: a time, a malformed line, or a line and its answer.
+    /// Hears a line that begins with a number: a line, an arrow and its answer, or a malformed line.
+    #[inline(never)]
     fn hear_numbered(&mut self, line: &[u8]) {
-        let (front, rest) = cut(line, b' ');
+        let (front, arrow) = cut(line, b'>');
+        match arrow {
+            [b' ', answer @ ..] => self.hear_answer(answer),
+            _ => self.hear_unanswered(front),
+        }
+    }
+
+    /// Hears a line that begins with a number and has no answer.
+    fn hear_unanswered(&mut self, line: &[u8]) {
+        let (number_of_line, rest) = cut(line, b' ');
         if is_same(rest, "malformed") {
-            self.hear_malformed(number(front).unwrap_or(0));
-        } else if !matches!(front, [.., b';']) {
-            self.hear_answer(rest);
+            self.hear_malformed(number(number_of_line).unwrap_or(0));
         }
     }
 
@@ -217,12 +246,10 @@ impl Heard {
         }
     }
 
-    /// Hears what stands behind a number: a line, an arrow and its answer.
-    fn hear_answer(&mut self, rest: &[u8]) {
-        let (_, arrow) = cut(rest, b'>');
-        let answer = arrow.get(1..).unwrap_or_default();
+    /// Hears an answer.
+    fn hear_answer(&mut self, answer: &[u8]) {
         match reason_in(answer) {
-            [] | [b'0'..=b'9', ..] => {}
+            [] => {}
             reason => self.hear_reason(reason),
         }
     }
