@@ -64,10 +64,14 @@ pub(crate) fn cell_of(field: &[u8]) -> &[u8]
     unquoted(trim_end(trim_front(field)))
 }
 
-/// Whether a text is a word; ASCII letters count in either case. Most texts have them in the word's, so this is tried first.
+/// Whether a text is a word; ASCII letters count in either case. A text of another length is none, and most texts have the
+/// letters in the word's case, so this is tried first.
 pub(crate) fn is_word(text: &[u8], word: &str) -> bool
     ensures { IsTrue result ↔ (map to_ascii_lowercase text.now ≡ map to_ascii_lowercase word.now) }
 {
+    if text.len() != word.len() {
+        return false;
+    }
     if text == word.as_bytes() {
         return true;
     }

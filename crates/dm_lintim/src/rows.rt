@@ -1,5 +1,5 @@
 //! The rows of a file, whatever its kind, or the first record that breaks a rule.
-ghost use Rattle.std.specs.Prelude.{ℕ, ◌≡◌, ◌≤◌, ◌<◌, ◌+◌, ◌^◌, ◌⊎◌, List, Option, Result, Ok, Err, [], ◌∷◌, ◌++◌, false, length, OnOk, IfOk, IfErr, IfSome, IfNone};
+ghost use Rattle.std.specs.Prelude.{ℕ, ◌≡◌, ◌≤◌, ◌<◌, ◌+◌, ◌^◌, ◌⊎◌, List, Option, Result, Ok, Err, [], ◌∷◌, ◌++◌, false, length, OnOk, IfOk, IfErr, IfSome, IfNone, slice_index_or};
 ghost use Rattle.csv.specs.Records.{fields_of};
 ghost use Rattle.dm_lintim.specs.declared.columns.Column.{Column};
 ghost use Rattle.dm_lintim.specs.Columns.{HasAll};
@@ -13,11 +13,15 @@ use crate::cells::{field_at, is_passed_over, milli_under, usual_under, whole_und
 use crate::columns::Column;
 use crate::fault::{FileFault, FileKind};
 use crate::field::cell_of;
+use crate::layout::MOST;
 use crate::records::Records;
 use crate::values::Values;
 use csv::ByteRecord;
 use dm_base::limits::FILE;
 use std::alloc::Global;
+
+// The bytes of one record that there is room for at once: most records are shorter, and a longer one takes more.
+const RECORD_BYTES: usize = 256;
 
 /// A row of one kind of file.
 pub(crate) trait Row: Drop {
@@ -67,22 +71,19 @@ fn read_kind<R: Row>(values: &mut Values<R::Kind>, text: &[u8]) -> Result<(), Fi
     }
 }
 
-// Reads the cell of any field under a column. Where the column is passed over, its cell is not looked for.
+// Reads the cell of any field under a column.
 fn read_any<R: Row>(
     values: &mut Values<R::Kind>,
-    column: Option<Column>,
+    column: Column,
     field: &[u8],
 ) -> Result<(), FileKind>
     requires { AreWithin values.old.numbers }
-    ensures takes { OnOk result (TakesField R.is_known column (cell_of field.now)) }
-    ensures puts { OnOk result (PutsCell R.names column (cell_of field.now) values.old.numbers values.old.kind values.new.numbers
+    ensures takes { OnOk result (TakesField R.is_known (Some column) (cell_of field.now)) }
+    ensures puts { OnOk result (PutsCell R.names (Some column) (cell_of field.now) values.old.numbers values.old.kind values.new.numbers
         values.new.kind) }
     ensures within { OnOk result (AreWithin values.new.numbers) }
-    ensures refuses { IfErr result (RefusesField R.is_known column (cell_of field.now)) }
+    ensures refuses { IfErr result (RefusesField R.is_known (Some column) (cell_of field.now)) }
 {
-    let Some(column) = column else {
-        return Ok(());
-    };
     match column {
         Column::PeriodicId | Column::Upper => Ok(()),
         Column::Kind => read_kind::<R>(values, cell_of(field)),
@@ -106,25 +107,43 @@ fn read_any<R: Row>(
 }
 
 // Reads the cell of a field under a column.
-fn read_cell<R: Row>(
+fn read_field<R: Row>(
     values: &mut Values<R::Kind>,
-    column: Option<Column>,
+    column: Column,
     field: &[u8],
 ) -> Result<(), FileKind>
     requires { AreWithin values.old.numbers }
-    ensures takes { OnOk result (TakesField R.is_known column (cell_of field.now)) }
-    ensures puts { OnOk result (PutsCell R.names column (cell_of field.now) values.old.numbers values.old.kind values.new.numbers
+    ensures takes { OnOk result (TakesField R.is_known (Some column) (cell_of field.now)) }
+    ensures puts { OnOk result (PutsCell R.names (Some column) (cell_of field.now) values.old.numbers values.old.kind values.new.numbers
         values.new.kind) }
     ensures within { OnOk result (AreWithin values.new.numbers) }
-    ensures refuses { IfErr result (RefusesField R.is_known column (cell_of field.now)) }
+    ensures refuses { IfErr result (RefusesField R.is_known (Some column) (cell_of field.now)) }
 {
-    if let Some(column) = column {
-        if let Some(number) = usual_under(column, field) {
-            values.put(column, number);
-            return Ok(());
-        }
+    if let Some(number) = usual_under(column, field) {
+        values.put(column, number);
+        return Ok(());
     }
     read_any::<R>(values, column, field)
+}
+
+// Reads the cell at a place of a record, under its column. Where the column is passed over, the field is not looked for.
+fn read_cell<R: Row>(
+    values: &mut Values<R::Kind>,
+    column: Option<Column>,
+    fields: &ByteRecord,
+    place: usize,
+) -> Result<(), FileKind>
+    requires { AreWithin values.old.numbers }
+    ensures takes { OnOk result (TakesField R.is_known column (slice_index_or (cells_of fields.now) place [])) }
+    ensures puts { OnOk result (PutsCell R.names column (slice_index_or (cells_of fields.now) place []) values.old.numbers
+        values.old.kind values.new.numbers values.new.kind) }
+    ensures within { OnOk result (AreWithin values.new.numbers) }
+    ensures refuses { IfErr result (RefusesField R.is_known column (slice_index_or (cells_of fields.now) place [])) }
+{
+    match column {
+        None | Some(Column::PeriodicId) | Some(Column::Upper) => Ok(()),
+        Some(column) => read_field::<R>(values, column, field_at(fields, place)),
+    }
 }
 
 // The values of a record, its cells read in the order of the columns.
@@ -140,7 +159,7 @@ fn read_cells<R: Row>(
 {
     let mut values = Values::new();
     for (place, column) in columns.iter().enumerate() {
-        read_cell::<R>(&mut values, *column, field_at(fields, place))?;
+        read_cell::<R>(&mut values, *column, fields, place)?;
     }
     Ok(values)
 }
@@ -207,7 +226,7 @@ fn read_records<R: Row>(
     ensures fault { IfErr result (λ fault. (fault ≡ no_memory) ⊎ ReadsFile R.is_known R.is_row columns.now bytes.now (Err fault)) }
 {
     let mut records = Records::new(alloc, bytes);
-    let mut fields = ByteRecord::new(alloc);
+    let mut fields = ByteRecord::with_capacity(alloc, RECORD_BYTES, MOST)?;
     let mut rows = Vec::new(alloc);
     while records.next(&mut fields)? {
         add_record(columns, &fields, &mut rows)?;
