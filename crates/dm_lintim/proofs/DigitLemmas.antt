@@ -11,7 +11,7 @@ use Rattle.dm_base.proofs.NumberLemmas.{milli_form, milli_value_is}
 use Rattle.dm_lintim.specs.Inside.Reader.{begins_with_digit}
 use Rattle.dm_lintim.specs.Pieces.{cell_of, is_blank, is_passed_over, is_quoted, unquoted, without_end_blanks, without_front_blanks}
 use Rattle.dm_lintim.specs.Files.{IsNoWord, TakesBy, TakesField, Use, largest_of, passed_over, thousandths, use_of, whole, word}
-use Rattle.dm_lintim.specs.Inside.Values.{HoldsNumber, IsNumberUse, IsUsualUnder, number_by, units_by, units_of}
+use Rattle.dm_lintim.specs.Inside.Values.{HoldsNumber, IsNumberUse, IsNumberUnder, number_by, units_by, units_of}
 use Rattle.dm_lintim.specs.declared.columns.Column.{Column}
 
 no_blank : (c : ℕ) → IsAsciiDigit c → is_blank c ≡ false
@@ -123,7 +123,7 @@ usual_by word column text digits number holds form value is fits = absurd holds
 usual_by passed_over column text digits number holds form value is fits = absurd holds
 
 pub usual_is : (column : Column) (text : List ℕ) (digits number : ℕ) → HoldsNumber column → IsDigits text → digits ≡ whole_value text
-    → number ≡ units_of column * digits → number ≤ largest_of column → IsUsualUnder column text number
+    → number ≡ units_of column * digits → number ≤ largest_of column → IsNumberUnder column text number
 usual_is column text digits number holds form value is fits =
     let both = usual_by (use_of column) column text digits number holds form value is fits in
     record { holds = holds; takes = both.0; value = both.1; fits = fits }
@@ -135,5 +135,5 @@ takes_by thousandths IsKnown column text holds takes = takes
 takes_by word IsKnown column text holds takes = absurd holds
 takes_by passed_over IsKnown column text holds takes = absurd holds
 
-pub usual_takes : (IsKnown : List ℕ → Type 0) (column : Column) (text : List ℕ) (number : ℕ) → IsUsualUnder column text number → TakesField IsKnown (Some column) text
-usual_takes IsKnown column text number usual = takes_by (use_of column) IsKnown column text usual.holds usual.takes
+pub number_takes : (IsKnown : List ℕ → Type 0) (column : Column) (text : List ℕ) (number : ℕ) → IsNumberUnder column text number → TakesField IsKnown (Some column) text
+number_takes IsKnown column text number under = takes_by (use_of column) IsKnown column text under.holds under.takes

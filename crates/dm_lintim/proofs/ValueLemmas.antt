@@ -8,7 +8,7 @@ use Rattle.dm_lintim.specs.declared.columns.Column.{Column}
 use Rattle.dm_lintim.specs.declared.columns.Column.TheVariants as col
 use Rattle.dm_lintim.specs.Columns.{HasAll, column_number, has_column, is_column, same_column}
 use Rattle.dm_lintim.specs.Files.{text_under}
-use Rattle.dm_lintim.specs.Inside.Values.{AreValuesOf, HasKind, HoldsNumber, IsKindOf, IsUsualUnder, KindFrom, LeadsTo, PutsCell, PutsKind, number_from, number_of, put_slot, slot}
+use Rattle.dm_lintim.specs.Inside.Values.{AreValuesOf, HasKind, HoldsNumber, IsKindOf, IsNumberUnder, KindFrom, LeadsTo, PutsCell, PutsKind, number_from, number_of, put_slot, slot}
 use Rattle.dm_lintim.proofs.ColumnLemmas.{same_is}
 
 put_other : (o : Option ℕ) (n : ℕ) → put_slot o false n ≡ o
@@ -142,11 +142,11 @@ kind_stays Names None text = refl
 kind_stays Names (Some k) text = refl
 
 -- the number of a cell under its column is put
-pub usual_puts : {K : Type 0} (Names : K → List ℕ → Type 0) (column : Column) (text : List ℕ) (number : ℕ) (old new : List (Option ℕ)) (old_kind new_kind : Option K)
-    → IsUsualUnder column text number → ((c : Column) → slot new c ≡ put_slot (slot old c) (same_column c column) number) → new_kind ≡ old_kind
+pub number_puts : {K : Type 0} (Names : K → List ℕ → Type 0) (column : Column) (text : List ℕ) (number : ℕ) (old new : List (Option ℕ)) (old_kind new_kind : Option K)
+    → IsNumberUnder column text number → ((c : Column) → slot new c ≡ put_slot (slot old c) (same_column c column) number) → new_kind ≡ old_kind
     → PutsCell Names (Some column) text old old_kind new new_kind
-usual_puts Names column text number old new old_kind new_kind usual put stays = record {
+number_puts Names column text number old new old_kind new_kind under put stays = record {
   numbers = λ c h. put c ∙ put_alike (slot old c) (same_column c column) number (number_of c text)
-      (λ same. usual.value ∙ ap (λ k. number_of k text) (sym (same_is c column same)));
-  kind = rw (no_kind_column column usual.holds, stays) (kind_stays Names old_kind text);
+      (λ same. under.value ∙ ap (λ k. number_of k text) (sym (same_is c column same)));
+  kind = rw (no_kind_column column under.holds, stays) (kind_stays Names old_kind text);
 }

@@ -1,10 +1,10 @@
 //! The cells of a record, and the numbers that they give.
-ghost use Rattle.std.specs.Prelude.{◌≡◌, ◌≤◌, ◌<◌, ◌*◌, ◌^◌, [], slice_index_or, IsTrue, OnOk, IfOk, IfErr, IfSome, MatchResult};
+ghost use Rattle.std.specs.Prelude.{◌≡◌, ◌≤◌, ◌<◌, ◌*◌, ◌^◌, [], Some, slice_index_or, IsTrue, OnOk, IfOk, IfErr, IfSome, MatchResult};
 ghost use Rattle.dm_base.specs.Numbers.{IsDigits, IsMilliText, milli_value, whole_value};
-ghost use Rattle.dm_lintim.specs.Files.{IsNumber, RefusesNumber, largest_of};
+ghost use Rattle.dm_lintim.specs.Files.{IsNoWord, IsNumber, RefusesField, RefusesNumber, largest_of};
 ghost use Rattle.dm_lintim.specs.Pieces.{cell_of, is_passed_over};
 ghost use Rattle.dm_lintim.specs.Inside.Reader.{begins_with_digit, cells_of};
-ghost use Rattle.dm_lintim.specs.Inside.Values.{HoldsNumber, IsUsualUnder, units_of};
+ghost use Rattle.dm_lintim.specs.Inside.Values.{HoldsNumber, IsNumberUnder, units_of};
 
 use crate::columns::{Column, LARGEST_ID};
 use crate::digits::usual_number;
@@ -85,22 +85,26 @@ fn milli_of_text(column: Column, text: &[u8]) -> Result<u64, FileKind>
     }
 }
 
-/// The whole number that the cell of any field gives under a column.
-pub(crate) fn whole_under(column: Column, field: &[u8]) -> Result<u64, FileKind>
-    ensures takes { let text = cell_of field.now in OnOk result (IsNumber (IsDigits text) (whole_value text) (largest_of column)) }
-    ensures value { IfOk result (λ number. number ≡ whole_value (cell_of field.now)) }
-    ensures refuses { let text = cell_of field.now in IfErr result (RefusesNumber (IsDigits text) (whole_value text) column) }
+/// The number that the cell of any field gives under a column of numbers.
+#[inline(never)]
+pub(crate) fn any_number_under(column: Column, field: &[u8]) -> Result<u64, FileKind>
+    requires { HoldsNumber column }
+    ensures number { IfOk result (IsNumberUnder column (cell_of field.now)) }
+    ensures refuses { IfErr result (RefusesField IsNoWord (Some column) (cell_of field.now)) }
 {
-    whole_of_text(column, cell_of(field))
-}
-
-/// The number of thousandths that the cell of any field gives under a column.
-pub(crate) fn milli_under(column: Column, field: &[u8]) -> Result<u64, FileKind>
-    ensures takes { let text = cell_of field.now in OnOk result (IsNumber (IsMilliText text) (milli_value text) (largest_of column)) }
-    ensures value { IfOk result (λ number. number ≡ milli_value (cell_of field.now)) }
-    ensures refuses { let text = cell_of field.now in IfErr result (RefusesNumber (IsMilliText text) (milli_value text) column) }
-{
-    milli_of_text(column, cell_of(field))
+    match column {
+        Column::Weight => milli_of_text(column, cell_of(field)),
+        Column::Id
+        | Column::PeriodicId
+        | Column::Kind
+        | Column::Time
+        | Column::Stop
+        | Column::Tail
+        | Column::Head
+        | Column::Lower
+        | Column::Upper
+        | Column::Delay => whole_of_text(column, cell_of(field)),
+    }
 }
 
 // The number of a text of digits, in the units of the column.
@@ -123,10 +127,11 @@ fn in_units(column: Column, number: u64) -> u64
     }
 }
 
-// The number that the cell of a field gives under a column of numbers, where it is one of a few digits that the column takes.
-fn usual_number_under(column: Column, field: &[u8]) -> Option<u64>
+/// The number that the cell of a field gives under a column of numbers, where it is one of a few digits that the column takes:
+/// most fields of numbers are read so. Others give none, whatever they hold.
+pub(crate) fn usual_number_under(column: Column, field: &[u8]) -> Option<u64>
     requires { HoldsNumber column }
-    ensures { IfSome result (IsUsualUnder column (cell_of field.now)) }
+    ensures { IfSome result (IsNumberUnder column (cell_of field.now)) }
 {
     let Some(digits) = usual_number(field) else {
         return None;
@@ -136,24 +141,6 @@ fn usual_number_under(column: Column, field: &[u8]) -> Option<u64>
         return None;
     }
     Some(number)
-}
-
-/// The number that the cell of a field gives under a column, where it is one of a few digits that the column takes: most fields of
-/// numbers are read so. Others give none, whatever they hold.
-pub(crate) fn usual_under(column: Column, field: &[u8]) -> Option<u64>
-    ensures { IfSome result (IsUsualUnder column (cell_of field.now)) }
-{
-    match column {
-        Column::PeriodicId | Column::Kind | Column::Upper => None,
-        Column::Id
-        | Column::Time
-        | Column::Weight
-        | Column::Stop
-        | Column::Tail
-        | Column::Head
-        | Column::Lower
-        | Column::Delay => usual_number_under(column, field),
-    }
 }
 
 // Whether a field begins with a digit, as the first one of most records does: so does its cell.

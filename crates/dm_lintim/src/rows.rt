@@ -5,16 +5,16 @@ ghost use Rattle.dm_lintim.specs.declared.columns.Column.{Column};
 ghost use Rattle.dm_lintim.specs.Columns.{HasAll};
 ghost use Rattle.dm_lintim.specs.Files.{BreaksRecord, RefusesFirst, IsGood, ReadsFile, RefusesField, TakesField, no_memory};
 ghost use Rattle.dm_lintim.specs.Inside.Rows.{AddsRow, BreaksFile};
-ghost use Rattle.dm_lintim.specs.Inside.Values.{AreValuesOf, AreWithin, HasKind, PutsCell};
+ghost use Rattle.dm_lintim.specs.Inside.Values.{AreValuesOf, AreWithin, HasKind, HoldsNumber, PutsCell};
 ghost use Rattle.dm_lintim.specs.Pieces.{cell_of, has_byte_order_mark};
 ghost use Rattle.dm_lintim.specs.Inside.Reader.{cells_of};
 
-use crate::cells::{field_at, is_passed_over, milli_under, usual_under, whole_under};
+use crate::cells::{any_number_under, field_at, is_passed_over, usual_number_under};
 use crate::columns::Column;
 use crate::fault::{FileFault, FileKind};
 use crate::field::cell_of;
 use crate::layout::MOST;
-use crate::records::Records;
+use crate::records::{read_one, reader_of};
 use crate::values::Values;
 use csv::ByteRecord;
 use dm_base::limits::FILE;
@@ -71,62 +71,30 @@ fn read_kind<R: Row>(values: &mut Values<R::Kind>, text: &[u8]) -> Result<(), Fi
     }
 }
 
-// Reads the cell of any field under a column.
-fn read_any<R: Row>(
+// Reads the number of a field under a column of numbers. Most are a few digits, so these are tried first.
+fn read_number<R: Row>(
     values: &mut Values<R::Kind>,
     column: Column,
     field: &[u8],
 ) -> Result<(), FileKind>
-    requires { AreWithin values.old.numbers }
+    requires within { AreWithin values.old.numbers }
+    requires holds { HoldsNumber column }
     ensures takes { OnOk result (TakesField R.is_known (Some column) (cell_of field.now)) }
     ensures puts { OnOk result (PutsCell R.names (Some column) (cell_of field.now) values.old.numbers values.old.kind values.new.numbers
         values.new.kind) }
     ensures within { OnOk result (AreWithin values.new.numbers) }
     ensures refuses { IfErr result (RefusesField R.is_known (Some column) (cell_of field.now)) }
 {
-    match column {
-        Column::PeriodicId | Column::Upper => Ok(()),
-        Column::Kind => read_kind::<R>(values, cell_of(field)),
-        Column::Weight => {
-            let number = milli_under(column, field)?;
-            values.put(column, number);
-            Ok(())
-        }
-        Column::Id
-        | Column::Time
-        | Column::Stop
-        | Column::Tail
-        | Column::Head
-        | Column::Lower
-        | Column::Delay => {
-            let number = whole_under(column, field)?;
-            values.put(column, number);
-            Ok(())
-        }
-    }
-}
-
-// Reads the cell of a field under a column.
-fn read_field<R: Row>(
-    values: &mut Values<R::Kind>,
-    column: Column,
-    field: &[u8],
-) -> Result<(), FileKind>
-    requires { AreWithin values.old.numbers }
-    ensures takes { OnOk result (TakesField R.is_known (Some column) (cell_of field.now)) }
-    ensures puts { OnOk result (PutsCell R.names (Some column) (cell_of field.now) values.old.numbers values.old.kind values.new.numbers
-        values.new.kind) }
-    ensures within { OnOk result (AreWithin values.new.numbers) }
-    ensures refuses { IfErr result (RefusesField R.is_known (Some column) (cell_of field.now)) }
-{
-    if let Some(number) = usual_under(column, field) {
+    if let Some(number) = usual_number_under(column, field) {
         values.put(column, number);
         return Ok(());
     }
-    read_any::<R>(values, column, field)
+    let number = any_number_under(column, field)?;
+    values.put(column, number);
+    Ok(())
 }
 
-// Reads the cell at a place of a record, under its column. Where the column is passed over, the field is not looked for.
+// Reads the cell at a place of a record under its column. Where the column is passed over, the field is not looked for.
 fn read_cell<R: Row>(
     values: &mut Values<R::Kind>,
     column: Option<Column>,
@@ -140,9 +108,20 @@ fn read_cell<R: Row>(
     ensures within { OnOk result (AreWithin values.new.numbers) }
     ensures refuses { IfErr result (RefusesField R.is_known column (slice_index_or (cells_of fields.now) place [])) }
 {
+    let Some(column) = column else {
+        return Ok(());
+    };
     match column {
-        None | Some(Column::PeriodicId) | Some(Column::Upper) => Ok(()),
-        Some(column) => read_field::<R>(values, column, field_at(fields, place)),
+        Column::PeriodicId | Column::Upper => Ok(()),
+        Column::Kind => read_kind::<R>(values, cell_of(field_at(fields, place))),
+        Column::Id
+        | Column::Time
+        | Column::Weight
+        | Column::Stop
+        | Column::Tail
+        | Column::Head
+        | Column::Lower
+        | Column::Delay => read_number::<R>(values, column, field_at(fields, place)),
     }
 }
 
@@ -225,10 +204,10 @@ fn read_records<R: Row>(
     ensures rows { IfOk result (λ v. ReadsFile R.is_known R.is_row columns.now bytes.now (Ok v.items)) }
     ensures fault { IfErr result (λ fault. (fault ≡ no_memory) ⊎ ReadsFile R.is_known R.is_row columns.now bytes.now (Err fault)) }
 {
-    let mut records = Records::new(alloc, bytes);
+    let mut reader = reader_of(alloc, bytes);
     let mut fields = ByteRecord::with_capacity(alloc, RECORD_BYTES, MOST)?;
     let mut rows = Vec::new(alloc);
-    while records.next(&mut fields)? {
+    while read_one(&mut reader, &mut fields)? {
         add_record(columns, &fields, &mut rows)?;
     }
     Ok(rows)

@@ -1,6 +1,5 @@
 -- What `csv`'s reader has left of a file.
-use Rattle.std.specs.Prelude.{ℕ, ⊤, ◌≡◌, ◌⊎◌, Bool, true, false, List, [], ◌∷◌, map, length, nat_lt, slice_index, ◌&&◌, Option, Some, IsSome, unwrap_or, if◌then◌else◌}
-use Rattle.std.specs.Bool.{MatchBool}
+use Rattle.std.specs.Prelude.{ℕ, ◌≡◌, ◌⊎◌, Bool, true, false, List, [], ◌∷◌, map, length, nat_lt, slice_index, ◌&&◌, Option, Some, IsSome, unwrap_or}
 use Rattle.std.specs.Char.{is_ascii_digit}
 use Rattle.std.specs.Borrow.{Bor}
 use Rattle.csv.specs.Reading.{Ready, reader_config, reader_state, reader_trim, source_of}
@@ -11,7 +10,6 @@ use Rattle.csv.specs.declared.reader.Trim.TheVariants as trim
 use Rattle.csv.specs.Records.{Row, fields_of}
 use Rattle.dm_lintim.specs.Pieces.{cell_of, split_records}
 use Rattle.dm_lintim.specs.Split.{plain_config}
-use Rattle.dm_lintim.specs.declared.records.Records.TheInside.{Inside}
 
 -- between two records
 abbrev pub IsBetween : State → Type 0
@@ -41,14 +39,6 @@ TakesFirst old new fields false = records_of old ≡ []
 -- the cells of a record
 abbrev pub cells_of : Row → List (List ℕ)
 cells_of row = map cell_of (fields_of row)
-
--- the records to come, none where the end was met
-abbrev pub records_left : Inside → List (List (List ℕ))
-records_left a = if a.done then [] else records_of a.reader
-
--- until the end was met
-abbrev pub IsSplitting : Inside → Type 0
-IsSplitting a = MatchBool a.done ⊤ (SplitsPlainly a.reader)
 
 -- whether a text begins with a digit
 abbrev pub begins_with_digit : List ℕ → Bool

@@ -36,8 +36,8 @@ units_by passed_over = 1
 abbrev pub units_of : Column → ℕ
 units_of column = units_by (use_of column)
 
--- the column holds numbers, and takes the text, which is one of digits, for this one
-pub record IsUsualUnder (column : Column) (text : List ℕ) (number : ℕ) : Type 0 where
+-- the column holds numbers, and takes the text for this number
+pub record IsNumberUnder (column : Column) (text : List ℕ) (number : ℕ) : Type 0 where
   pub holds : HoldsNumber column
   pub takes : TakesField IsNoWord (Some column) text
   pub value : number ≡ number_of column text
