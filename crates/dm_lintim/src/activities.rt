@@ -14,11 +14,14 @@ use dm_base::limits::FILE;
 use dm_base::{ActId, ActKind, ActRow, EventId};
 use std::alloc::Global;
 
-// The kind that a type word names; ASCII letters count in either case.
+// The kind that a type word names; ASCII letters count in either case. Headways are the most, so their word is tried first.
 fn activity_kind(text: &[u8]) -> Option<ActKind>
     ensures found { IfSome result (λ k. IsWord (activity_word k) text.now) }
     ensures none { IfNone result (IsActivityWord text.now → ⊥) }
 {
+    if is_word(text, "headway") {
+        return Some(ActKind::Headway);
+    }
     if is_word(text, "drive") {
         return Some(ActKind::Drive);
     }
@@ -30,9 +33,6 @@ fn activity_kind(text: &[u8]) -> Option<ActKind>
     }
     if is_word(text, "change") {
         return Some(ActKind::Change);
-    }
-    if is_word(text, "headway") {
-        return Some(ActKind::Headway);
     }
     None
 }

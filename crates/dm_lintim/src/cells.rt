@@ -86,7 +86,6 @@ fn milli_of_text(column: Column, text: &[u8]) -> Result<u64, FileKind>
 }
 
 /// The number that the cell of any field gives under a column of numbers.
-#[inline(never)]
 pub(crate) fn any_number_under(column: Column, field: &[u8]) -> Result<u64, FileKind>
     requires { HoldsNumber column }
     ensures number { IfOk result (IsNumberUnder column (cell_of field.now)) }

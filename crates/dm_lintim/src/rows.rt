@@ -71,6 +71,26 @@ fn read_kind<R: Row>(values: &mut Values<R::Kind>, text: &[u8]) -> Result<(), Fi
     }
 }
 
+// Reads the number of any field under a column of numbers.
+#[inline(never)]
+fn read_any_number<R: Row>(
+    values: &mut Values<R::Kind>,
+    column: Column,
+    field: &[u8],
+) -> Result<(), FileKind>
+    requires within { AreWithin values.old.numbers }
+    requires holds { HoldsNumber column }
+    ensures takes { OnOk result (TakesField R.is_known (Some column) (cell_of field.now)) }
+    ensures puts { OnOk result (PutsCell R.names (Some column) (cell_of field.now) values.old.numbers values.old.kind values.new.numbers
+        values.new.kind) }
+    ensures within { OnOk result (AreWithin values.new.numbers) }
+    ensures refuses { IfErr result (RefusesField R.is_known (Some column) (cell_of field.now)) }
+{
+    let number = any_number_under(column, field)?;
+    values.put(column, number);
+    Ok(())
+}
+
 // Reads the number of a field under a column of numbers. Most are a few digits, so these are tried first.
 fn read_number<R: Row>(
     values: &mut Values<R::Kind>,
@@ -89,9 +109,7 @@ fn read_number<R: Row>(
         values.put(column, number);
         return Ok(());
     }
-    let number = any_number_under(column, field)?;
-    values.put(column, number);
-    Ok(())
+    read_any_number::<R>(values, column, field)
 }
 
 // Reads the cell at a place of a record under its column. Where the column is passed over, the field is not looked for.

@@ -6,9 +6,6 @@ use Rattle.dm_lintim.proofs.rows.read_number.Goals as goal
 pub put-requires-clause-fits : goal.put-requires-clause-fits
 put-requires-clause-fits g c = c.in-Some.ensures.fits
 
-pub put-requires-2-clause-fits : goal.put-requires-2-clause-fits
-put-requires-2-clause-fits g c = c.in_ok-number.ensures.number.fits
-
 pub returns-in-Some-clause-takes : goal.returns-in-Some-clause-takes
 returns-in-Some-clause-takes g c =
     number_takes g.R.Row.is_known c.args.column (cell_of c.args.field.now) c.in-Some.number c.in-Some.ensures
@@ -17,12 +14,3 @@ pub returns-in-Some-clause-puts : goal.returns-in-Some-clause-puts
 returns-in-Some-clause-puts g c =
     number_puts g.R.Row.names c.args.column (cell_of c.args.field.now) c.in-Some.number c.args.values.now.numbers c.put.new.self.numbers
     c.args.values.now.kind c.put.new.self.kind c.in-Some.ensures c.put.ensures.numbers c.put.ensures.kind
-
-pub returns-clause-takes : goal.returns-clause-takes
-returns-clause-takes g c =
-    number_takes g.R.Row.is_known c.args.column (cell_of c.args.field.now) c.in_ok-number.number c.in_ok-number.ensures.number
-
-pub returns-clause-puts : goal.returns-clause-puts
-returns-clause-puts g c =
-    number_puts g.R.Row.names c.args.column (cell_of c.args.field.now) c.in_ok-number.number c.args.values.now.numbers c.put-2.new.self.numbers
-    c.args.values.now.kind c.put-2.new.self.kind c.in_ok-number.ensures.number c.put-2.ensures.numbers c.put-2.ensures.kind
