@@ -72,7 +72,6 @@ fn read_kind<R: Row>(values: &mut Values<R::Kind>, text: &[u8]) -> Result<(), Fi
 }
 
 // Reads the number of any field under a column of numbers.
-#[inline(never)]
 fn read_any_number<R: Row>(
     values: &mut Values<R::Kind>,
     column: Column,
