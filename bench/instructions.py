@@ -6,12 +6,12 @@ DISPATCHER is the built program, and BEFORE another one, as of the commit before
 2,000 trains. A row is marked if its count is over its bound, and the status is then 1. Beyond another row means the count less
 that row's count:
 
-    load      the files and an empty feed                  230
+    load      the files and an empty feed                  260
     gen       gen 7 2000                                    75
-    delays    a full feed of delays, beyond load            70
-    mixed     a full feed of mixed lines, beyond load      170
+    delays    a full feed of delays, beyond load            62
+    mixed     a full feed of mixed lines, beyond load      160
     read      the check of the text of the empty feed
-    check     that of the text of the delays, beyond read   45
+    check     that of the text of the delays, beyond read   52
 """
 from __future__ import annotations
 
@@ -46,12 +46,12 @@ class Row(NamedTuple):
 
 
 ROWS = [
-    Row('load', ['run', 'net', PENALTY, 'empty'], bound=230),
+    Row('load', ['run', 'net', PENALTY, 'empty'], bound=260),
     Row('gen', ['gen', str(NUMBER), str(TRAINS), PENALTY], bound=75),
-    Row('delays', ['run', 'net', PENALTY, 'full'], 'load', 70),
-    Row('mixed', ['run', 'net', PENALTY, 'mixed'], 'load', 170),
+    Row('delays', ['run', 'net', PENALTY, 'full'], 'load', 62),
+    Row('mixed', ['run', 'net', PENALTY, 'mixed'], 'load', 160),
     Row('read', ['check', 'net', PENALTY, 'empty-text']),
-    Row('check', ['check', 'net', PENALTY, 'full-text'], 'read', 45),
+    Row('check', ['check', 'net', PENALTY, 'full-text'], 'read', 52),
 ]
 
 
