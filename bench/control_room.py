@@ -162,7 +162,7 @@ def visit(browser: Browser, desk: Desk, token: bool = True) -> float:
 # ---- What a dispatcher does
 
 
-def tells_a_delay(browser: Browser, desk: Desk) -> None:
+def reports_a_delay(browser: Browser, desk: Desk) -> None:
     """The reply, the train's line and the board move."""
     choose(browser, 'trains', '2')
     until(browser, has('#train caption', 'Train 41'), 'the train is shown')
@@ -200,7 +200,7 @@ def turns_a_pair(browser: Browser, desk: Desk) -> None:
     until(browser, has('#told tbody tr', 'goes before') + ' && ' + has('#told tbody tr', 'entered as'), 'an order is turned')
 
 
-def tells_what_passed(browser: Browser, desk: Desk) -> None:
+def reports_what_passed(browser: Browser, desk: Desk) -> None:
     fill(browser, 'event', '41')
     fill(browser, 'at', '6:01:30')
     press(browser, 'Has passed')
@@ -270,7 +270,7 @@ def keys(browser: Browser, desk: Desk) -> None:
     for _ in range(12):
         browser.press('Tab')
         reached.append(browser.value("document.activeElement.id || document.activeElement.textContent"))
-    wanted = ['Late trains', 'Train and what to tell', 'wanted', 'Show', 'leave', 'numbers']
+    wanted = ['Late trains', 'Train and what to report', 'wanted', 'Show', 'leave', 'numbers']
     if [name for name in reached if name in wanted] != wanted:
         raise Wrong(f'keys reach {reached}')
     hidden = browser.value("""[...document.querySelectorAll('button,input,select,.scroll,#view')].filter(one => one.checkVisibility() && !one.disabled)
@@ -391,7 +391,7 @@ def pictures(browser: Browser, folder: str, trains: int) -> None:
 
 
 WORK: list[Callable[[Browser, Desk], None]] = [
-    tells_a_delay, takes_it_back, drops_a_change, turns_a_pair, tells_what_passed, plans, tries, is_killed, keys,
+    reports_a_delay, takes_it_back, drops_a_change, turns_a_pair, reports_what_passed, plans, tries, is_killed, keys,
 ]
 
 

@@ -111,8 +111,8 @@ export function showTold(screen) {
     if (rights.mayTell) cells.push(back ? keyed(button('Undo', () => asked(() => post('/undo', { line })), `Undo: ${words}`), `undo ${line}`) : '');
     return [cells, good === null ? 'waits' : good ? 'good' : 'no'];
   });
-  const heads = ['Line', 'Told', 'Answered', ...(rights.mayTell ? [''] : [])];
-  const none = day.tells ? 'Nothing was told here yet.' : 'This desk only shows: it was started without a token.';
+  const heads = ['Line', 'Says', 'Answered', ...(rights.mayTell ? [''] : [])];
+  const none = day.tells ? 'Nothing was reported here yet.' : 'This desk only shows: it was started without a token.';
   replace(element('told').querySelector('.scroll'), rows.length ? table('', heads, rows) : made('p', none));
   for (const [line, words, , answer] of screen.told) {
     if (answered.get(line) === '' && answer) say(`${words}: ${answer}`);

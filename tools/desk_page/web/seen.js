@@ -110,7 +110,7 @@ function withBold(before, bold, behind, classes = '') {
 function showJournal(screen) {
   const rows = screen.journal.map(([number, feed, words, line]) =>
     [[String(number), withNumber(words, line), feed], number > lastEntries && lastEntries ? 'new' : '']);
-  replace(body('journal'), table('', ['Entry', 'Says', 'Told by'], rows));
+  replace(body('journal'), table('', ['Entry', 'Says', 'Reported by'], rows));
   lastEntries = screen.entries;
 }
 
