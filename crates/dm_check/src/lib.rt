@@ -16,9 +16,9 @@
 //! rows at this penalty and this number of plans. Nothing is asked of the text but its size. `good` does not say that the logs
 //! hold the feeds' bytes, nor that they keep to rounds.
 //!
-//! [`are_true_logs`] tells exactly whether logs are true of entries, as both stand in memory. It takes no text and makes none, so
-//! it takes less memory and less time than [`check`]. It does not tell where the first fault is, and it does not ask whether
-//! the entries are accepted: whoever calls it knows that, or `check` tells it.
+//! [`are_true_logs`] tells exactly whether logs are true of entries (`AreTrueLogs`), as both stand in memory, or it wants memory.
+//! It takes no text and makes none. It asks that the logs are of at most 64 feeds, and that their items have a spelling. It does
+//! not tell where the first fault is. It does not ask whether the entries are accepted: whoever calls it knows that.
 //!
 //! Laws:
 //!

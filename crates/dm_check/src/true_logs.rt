@@ -31,9 +31,10 @@ use dm_tree::Plan;
 use std::alloc::{AllocError, Global};
 
 /// Whether logs are true of these entries over a network, from these rows at the start and at this penalty, in seconds for each
-/// passenger and at most 1,000,000, where a feed may have so many plans, at most 4,096, of as many nodes as in a text of version 2.
-/// It is told of the logs as they stand in memory, without their text: so of at most 64 feeds whose items have a spelling. `Err` is
-/// want of memory alone; it is taken for the network, a flag for each entry, what is claimed of rows, and the latest plan.
+/// passenger and at most 1,000,000. A feed may have so many plans, at most 4,096, of as many nodes as in a text of version 2. The
+/// logs stand in memory, without their text. They are of at most 64 feeds, and their items have a spelling. `Err` is want of
+/// memory alone. Memory is taken for rows and times, a flag for each entry, what is claimed of rows, and the cycles and plans
+/// that are judged.
 pub fn are_true_logs(
     alloc: Global,
     net: &Network,

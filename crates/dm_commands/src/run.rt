@@ -72,9 +72,9 @@ pub fn run_feeds<
     }
 }
 
-/// Answers the feeds of a run over a network in rounds, from the rows before any message. In a round each feed has a thread of its
-/// own where two or more are still read and one can be made; else the caller answers it. Boards are shown the times before the
-/// first round and after each.
+/// Answers the feeds of a run over a network in rounds, from the rows before any message. In a round each feed has a thread of
+/// its own where two or more are still read and one can be made; else the caller answers it. Boards are shown the times before
+/// the first round and after each.
 pub fn answer_run<
     'n,
     R: Threads + Wait + Sync,

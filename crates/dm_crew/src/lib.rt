@@ -4,16 +4,17 @@
 //!
 //! # What is promised
 //!
-//! A [`Crew`] is what feeds are answered with: threads, memory, what makes plans, and how many lines a round takes of each feed.
+//! A [`Crew`] is what feeds are answered with: threads, memory, what makes plans, how many plans a feed may have, a gate, and how
+//! many lines a round takes of each feed.
 //!
-//! [`answer_at_once`] answers a day's feeds over a server of its rows, in rounds. In a round each feed has a pass of its own, split
-//! from the main one; then all passes are joined. Before the first round it publishes the times on a list of boards. After each
-//! round it publishes those that have moved.
+//! [`answer_at_once`] answers a day's feeds over a server of its rows, in rounds. In a round each feed has a pass of its own,
+//! split from the main one; then all passes are joined. Before the first round it publishes the times on a list of boards. After
+//! each round it publishes those that have moved.
 //!
 //! The clause `answers` (`AnswersDay`) says:
 //!
-//! - Each log answers the due lines of its feed's bytes: all of them, or after a failed read the first ones. A feed that could
-//!   not be opened has an empty log.
+//! - Each log answers the due lines of its feed's bytes: all of them, of a feed that is too long those that end within the limit,
+//!   or after a failed read the first ones. A feed that could not be opened has an empty log.
 //! - Every log is true of the one history that the table has in the end, and has a spelling.
 //! - Each entry is named by one item.
 //! - Rounds are kept: no number of a later round is below one of an earlier round.

@@ -34,7 +34,7 @@ AreQuiet lines = All (λ bytes. IsUnended bytes × IsQuiet (without_return bytes
 -- ---- the reader
 
 -- What contracts see of a reader: its source, the bytes that were taken and not yet answered, how many bytes were
--- taken and how many lines passed, and its stop.
+-- taken and how many lines were consumed, and its stop.
 pub record ReaderValue (S : Type 0) : Type 0 where
   pub source : S
   pub pending : List ℕ
@@ -59,7 +59,7 @@ pub record IsFrontLine (text front rest : List ℕ) (left : Option (List ℕ)) :
 abbrev pub GoesOn : {S : Type 0} → (S → Option (List ℕ)) → ReaderValue S → Type 0
 GoesOn left now = (now.stop ≡ None) ⊎ ((now.stop ≡ Some End) × (now.pending ≡ []) × IsAtEnd (left now.source))
 
--- The next due line is given, with its number and meaning: it and the blank lines and comments before it are passed. Behind
+-- The next due line is given, with its number and meaning: it and the blank lines and comments before it are consumed. Behind
 -- a line without a line feed the reader has stopped at the end.
 pub record GivesDue {S : Type 0} (left : S → Option (List ℕ)) (before now : ReaderValue S) (line : ℕ) (heard : Heard) : Type 0 where
   pub given : List ℕ

@@ -7,8 +7,9 @@
 //!
 //! # What is promised
 //!
-//! `Marks`: `first_from` finds the first mark from a place on, or tells that there is none. `is` tells exactly whether a place is
-//! marked, and `is_any` whether some place is. `mark`, `clear`, `mark_all` and `clear_all` change exactly what they name.
+//! `Marks`: `first_from` finds the first mark from a place on, or tells that there is none. `take_first_from` finds the same, and
+//! takes that mark away and no other. `is` tells exactly whether a place is marked, and `is_any` whether some place is. `mark`,
+//! `clear`, `mark_all` and `clear_all` change exactly what they name.
 //!
 //! `PlaceSet`: `insert` puts one place in, and `clear` takes all out. `places` lists exactly those that are in, in no more
 //! entries than there are places (`reveal`).

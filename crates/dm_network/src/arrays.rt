@@ -84,6 +84,7 @@ fn standings(alloc: Global, events: &[Event]) -> Result<Vec<Standing>, AllocErro
     Ok(standings)
 }
 
+/// The same place in half the room.
 fn short(place: usize) -> u32
     requires { place < 2 ^ 32 }
     ensures { result ≡ place }

@@ -140,8 +140,8 @@ fn missed_around(net: &Network, passed: &[bool], to: &Move<'_>) -> Missed
     }
 }
 
-/// The weight of the changes that are missed once an event has moved, where this is the weight before. Beside an event that is not
-/// flagged as such none can be missed.
+/// The weight of the changes that are missed once an event has moved, where this is the weight before. Beside an event that is
+/// not flagged none can be missed.
 pub fn missed_then(
     net: &Network,
     passed: &[bool],

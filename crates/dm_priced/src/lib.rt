@@ -14,7 +14,8 @@
 //! the least timetable, and `settle_watched` also tells a watcher of each time that changes. `pass` and `recall` set whether an
 //! event has passed, and `charge` whether an activity is charged for. Every move keeps each sum exactly what its definition adds
 //! up, and works on what it changes alone. [`PricedTimetable::cost`] is the cost of the timetable at any time, without a look at
-//! the network: it adds up three kept numbers. It is exactly `priced_cost`, below 2^100.
+//! the network: it adds up three kept numbers. It is exactly `priced_cost`, below 2^100. [`PricedTimetable::live`] lends the live
+//! timetable.
 //!
 //! Laws: where flags and spans are those of rows, the cost is `cost_charging` of the rows with these charges. With the dropped
 //! changes charged, it is `cost_of` the rows.

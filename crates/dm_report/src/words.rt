@@ -22,8 +22,8 @@ pub fn put_number<'w, K: Sink>(
     page.put_bytes(sink, after.as_bytes())
 }
 
-/// Prints numbers, each behind its words, and then a last text, behind all that was printed through the page before. A write fault
-/// comes only where a write failed. It is inlined, so that words that a caller writes down are stored and not copied.
+/// Prints numbers, each behind its words, and then a last text, behind all that was printed through the page before. A write
+/// fault comes only where a write failed. It is inlined, so that words that a caller writes down are stored and not copied.
 #[inline(always)]
 pub fn put_labelled<'w, K: Sink>(
     sink: &mut K,

@@ -16,7 +16,7 @@ pub struct Scheduled {
     pub event: usize,
 }
 
-/// More than the places of events, so that a time and a place make one number.
+/// Above every place of an event, so that a time and a place make one number.
 const PLACES: u64 = 4_294_967_296;
 
 /// The events of a network in ascending order of their scheduled times.
@@ -57,6 +57,7 @@ fn scheduled_by(alloc: Global, keys: &[u64]) -> Result<Vec<Scheduled>, AllocErro
     keys.iter().map(scheduled_of).collect(alloc)
 }
 
+/// The event of a key, with its scheduled time.
 fn scheduled_of(key: &u64) -> Scheduled
     ensures { result ≡ scheduled_of key.now }
 {

@@ -118,8 +118,8 @@ impl Sweep<'_> {
         true
     }
 
-    /// Marks the heads of the held activities out of an event that moves, but for those that stay, whatever the event does: those
-    /// that are later than the activity allows.
+    /// Marks the heads of the held activities out of an event that moves. A head that is later than its activity asks for, with
+    /// both times of the event, is not marked: the event does not move it.
     fn mark_heads(&self, to: &Move<'_>, marks: &mut Marks)
         requires is_move { IsMove self.now.net.now to.now }
         requires as_many_ranks { length self.now.ranks.now ≡ length self.now.net.now.events }
@@ -148,7 +148,7 @@ impl Sweep<'_> {
     }
 }
 
-/// Whether an activity out of an event that moves is held, and its head is no later than it allows beside the later one of the
+/// Whether an activity out of an event that moves is held, and its head is no later than it asks for with the later one of the
 /// event's two times.
 fn pulls(net: &Network, to: &Move<'_>, latest: Secs, a: usize) -> bool
     requires is_move { IsMove net.now to.now }

@@ -21,6 +21,7 @@ use Rattle.dm_feed.specs.declared.grammar.Heard.TheVariants as heard
 use Rattle.dm_feed.specs.Words.{spelling_of_word, words_of}
 use Rattle.dm_feed.specs.Parts.{largest_id, largest_value}
 
+-- the words that lines are made of
 abbrev pub every_word : List Word
 every_word = Delay ∷ Event ∷ Activity ∷ Pass ∷ Recall ∷ Keep ∷ Drop ∷ First ∷ Now ∷ Time ∷ Cost ∷ Read ∷ Plan ∷ Adopt ∷ []
 

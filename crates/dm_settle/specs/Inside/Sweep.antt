@@ -62,7 +62,7 @@ pub record Stays (g : Graph) (ranks : List ℕ) (event : ℕ) (before after : St
   pub marks : after.marks ≡ slice_set before.marks (slice_index ranks event) false
   pub counted : after.steps ≡ before.steps + 1
 
--- an arc out of an event that moves may move its head: it is held, and the head is no later than it allows beside the later one
+-- an arc out of an event that moves may move its head: it is held, and the head is no later than it asks for with the later one
 -- of the event's two times
 abbrev pub pulls : Graph → List ℕ → ℕ → ℕ → ℕ → Bool
 pulls g times event time a =
