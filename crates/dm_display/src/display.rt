@@ -42,7 +42,8 @@ impl<'n> Display<'n> {
         })
     }
 
-    /// Shows boards the times of a table, whatever they have shown. It takes no memory.
+    /// Shows boards the times of a table: boards that this display has shown none, or that still show the times that it showed them
+    /// last. It takes no memory.
     pub fn show(&mut self, table: &Table<'_>, boards: &mut Vec<Box<dyn Board>>)
         requires fits { IsFor table.now.network (vec_len boards.old) self.old }
         ensures { Shows place times faults is_sound table.now self.old self.new boards.old.items boards.new.items }
