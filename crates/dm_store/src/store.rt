@@ -8,7 +8,8 @@ use std::alloc::Global;
 
 /// A journal on a disk, and a reply file for each feed.
 pub trait Store {
-    /// The store tells what the other members say. Where it does not, the clauses `cause` alone hold of it: so it is with a real one.
+    /// The store tells what the other members say. Where it does not, the clauses `cause` alone hold of it: so it is with a real
+    /// one.
     ghost tells: { Self → Type 0 };
 
     /// The bytes of the journal that a read returns.
