@@ -206,8 +206,9 @@ fn serve_over<
     ensures ends { Ends K.taken K.faults S.faults T.faults
         (λ status text. IsDueOver S.tells S.seen S.shown S.may_leave S.faults T.given T.faults
         (⟦<BoardList as Shown>⟧.up boards.old boards.new) (asked_in serving.now).run.feeds (asked_in serving.now).store feeds.items
-        result.tails.items journal.old journal.new status (setting_for (asked_in serving.now) (record { net = serving.now.net.now; rows = rows }))
-        text) out.old out.new journal.old journal.new result.status }
+        result.tails.items journal.old journal.new status
+        (setting_for (asked_in serving.now) (record { net = serving.now.net.now; rows = rows })) text)
+        out.old out.new journal.old journal.new result.status }
     ensures keeps { KeepsBooks S.tells S.seen S.shown S.may_leave S.moment S.left_since
         (setting_for (asked_in serving.now) (record { net = serving.now.net.now; rows = rows })) (length (asked_in serving.now).run.feeds)
         journal.old.store journal.new.store }

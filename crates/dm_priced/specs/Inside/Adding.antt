@@ -30,7 +30,8 @@ AreActivities net places = (k : ℕ) → k < length places → slice_index place
 -- no activity of a row is a change whose head has passed
 abbrev pub LeadToNonePassed : Net → List Bool → List ℕ → Type 0
 LeadToNonePassed net passed row =
-    (k : ℕ) → k < length row → (is_change (activity_at net (slice_index row k)).kind && is_flagged passed (activity_at net (slice_index row k)).head) ≡ false
+    (k : ℕ) → k < length row →
+    (is_change (activity_at net (slice_index row k)).kind && is_flagged passed (activity_at net (slice_index row k)).head) ≡ false
 
 -- beside the flags before, the tails of the changes among the first n of the row are flagged
 pub record HasFlaggedTails (net : Net) (row : List ℕ) (n : ℕ) (before now : List Bool) : Type 0 where

@@ -78,7 +78,8 @@ pub record Moves (g : Graph) (ranks : List ℕ) (event : ℕ) (before after : St
   pub join : IsJoin g (slice_index before.times) event time
   pub differs : slice_index before.times event ≢ time
   pub times : after.times ≡ slice_set before.times event time
-  pub marks : MarksHeads (pulling g before.times event time) (slice_index ranks) event (slice_set before.marks (slice_index ranks event) false) after.marks
+  pub marks : MarksHeads (pulling g before.times event time) (slice_index ranks) event
+      (slice_set before.marks (slice_index ranks event) false) after.marks
   pub counted : after.steps ≡ before.steps + 2
 
 -- the event was computed anew, and it has moved or not
