@@ -1,0 +1,4 @@
+pub mod Alike
+pub mod Adding
+pub mod Listed
+pub mod WorkedParts
