@@ -1,0 +1,1 @@
+-- Nothing is promised of the tree of a part.

@@ -1,0 +1,1 @@
+-- Nothing is promised of what a mover tells.
