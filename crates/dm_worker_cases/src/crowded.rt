@@ -24,7 +24,18 @@ const WAITING: u32 = 65;
 const LEAST: Cost = 500_650;
 
 /// The nodes of its tree: below all changes before it each is dropped, or kept, which costs more than the plan.
-const NODES: usize = 131;
+pub const NODES: usize = 131;
+
+/// Room for 50 choices and 51 leaves, and the bound of the plan with that room: with 50 changes dropped all others cost nothing.
+const LITTLE_BUDGET: u64 = 101;
+
+const LITTLE_BOUND: Cost = 500_500;
+
+/// What the plan of the late day costs, and how many nodes its tree has, with which `bench/judge.py` shows that no choices cost
+/// less.
+const LATE_LEAST: Cost = 4_804_000_000;
+
+const LATE_NODES: usize = 161;
 
 /// The trains of a generated day, of which every third leaves a quarter of an hour late.
 const TRAINS: u32 = 240;
@@ -37,16 +48,37 @@ pub fn crowd_is_planned<R: Threads + Wait + Sync + AllocGlobal>(
 ) -> Result<(), Failure>
     requires { (1 ≤ workers) × (workers ≤ WORKERS) }
 {
-    let (events, activities) = crowd(rt.alloc())?;
-    let net = network_of(rt.alloc(), events, activities)?;
-    let late = late_rows(rt.alloc(), &net)?;
+    let (net, late) = late_crowd(rt.alloc())?;
     let gate = Passing::new(rt.alloc(), workers)?;
     let plan = planned(rt, &net, &late, workers, DAY_BUDGET, &gate)?;
     gate.end(NODES as u64, NODES as u64)?;
     is_least(&plan)
 }
 
-fn is_least(plan: &Plan) -> Result<(), Failure> {
+/// The day, with its first train a minute late.
+pub fn late_crowd(alloc: Global) -> Result<(Network, Snapshot), Failure>
+    ensures { IfOk result (λ r. IsSized r.0 r.1.rows) }
+{
+    let (events, activities) = crowd(alloc)?;
+    let net = network_of(alloc, events, activities)?;
+    let late = late_rows(alloc, &net)?;
+    Ok((net, late))
+}
+
+/// One worker, with room for 50 choices, expands the nodes of these and the 49 leaves beside them. The two nodes below the last
+/// choice are given up: what goes on from there plans the rest.
+pub fn little_room_is_used<R: Threads + Wait + Sync + AllocGlobal>(rt: &R) -> Result<(), Failure> {
+    let (net, late) = late_crowd(rt.alloc())?;
+    let gate = Passing::new(rt.alloc(), 1)?;
+    let plan = planned(rt, &net, &late, 1, LITTLE_BUDGET, &gate)?;
+    gate.end(99, 99)?;
+    if (plan.cost, plan.bound, plan.mark) != (LEAST, LITTLE_BOUND, Mark::Open) {
+        return Err(Failure::Differs(0));
+    }
+    Ok(())
+}
+
+pub fn is_least(plan: &Plan) -> Result<(), Failure> {
     if (plan.cost, plan.bound, plan.mark) != (LEAST, LEAST, Mark::Optimal) {
         return Err(Failure::Differs(0));
     }
@@ -56,7 +88,7 @@ fn is_least(plan: &Plan) -> Result<(), Failure> {
     Ok(())
 }
 
-/// The same on a day whose plan is not known: it is a good one, and the same when it is searched again, by one worker.
+/// The same on a generated day, whose plan is the same when it is searched again, by one worker.
 pub fn late_day_is_planned<R: Threads + Wait + Sync + AllocGlobal>(
     rt: &R,
     workers: u32,
@@ -70,6 +102,11 @@ pub fn late_day_is_planned<R: Threads + Wait + Sync + AllocGlobal>(
     let plan = planned(rt, &net, &late, workers, DAY_BUDGET, &gate)?;
     gate.end(DAY_BUDGET / 2, DAY_BUDGET)?;
     is_good_plan(&plan, own, 0)?;
+    if (plan.cost, plan.bound, plan.mark) != (LATE_LEAST, LATE_LEAST, Mark::Optimal)
+        || plan.tree.as_slice().len() != LATE_NODES
+    {
+        return Err(Failure::Differs(4));
+    }
     let again = planned(rt, &net, &late, 1, DAY_BUDGET, &OpenGate)?;
     is_same(&plan, &again)
 }

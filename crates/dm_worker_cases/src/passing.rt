@@ -56,7 +56,7 @@ impl Gate for Passing {
 }
 
 /// Counts for one of those numbered from 1.
-fn count(all: &[AtomicU64], who: u32) {
+pub fn count(all: &[AtomicU64], who: u32) {
     if let Some(one) = all.get((who as usize).wrapping_sub(1)) {
         one.fetch_add(1, Ordering::SeqCst);
     }
@@ -66,7 +66,7 @@ fn all_are(all: &[AtomicU64], due: u64) -> bool {
     all.iter().all(|one| one.load(Ordering::SeqCst) == due)
 }
 
-fn zeros(alloc: Global, many: u32) -> Result<Vec<AtomicU64>, AllocError> {
+pub fn zeros(alloc: Global, many: u32) -> Result<Vec<AtomicU64>, AllocError> {
     let mut all = Vec::new(alloc);
     for _ in 0..many {
         all.push(AtomicU64::new(0))?;

@@ -1,7 +1,8 @@
 -- A worker that begins.
-use Rattle.std.proofs.Common.{◌≡◌, ◌⊎◌, ℕ, ◌≤◌, Bool, List, [], ◌∷◌, refl, ap, sym, ◌∙◌, subst, arith}
-use Rattle.std.specs.Prelude.{map, All, IfSome}
+use Rattle.std.proofs.Common.{◌≡◌, ◌⊎◌, ℕ, ◌≤◌, List, [], ◌∷◌, refl, ap, sym, ◌∙◌, subst, arith}
+use Rattle.std.specs.Prelude.{map, sum_by, All, IfSome}
 use Rattle.std.proofs.lemmas.List.Elements.{All-nil}
+use Rattle.std.proofs.lemmas.List.Sums.{sum_by-cons}
 use Rattle.atomic_table.specs.Seated.{TableId}
 use Rattle.atomic_blocks.specs.Lent.{RowsId}
 use Rattle.dm_network.specs.Net.{Net}
@@ -16,15 +17,14 @@ use Rattle.dm_guide.specs.declared.tree.Hint.{Hint}
 use Rattle.dm_guide.specs.Posed.{task_beside, choices_beside}
 use Rattle.dm_bound.specs.Words.{HandValue, nothing_looked}
 use Rattle.dm_deques.specs.Deques.{TallyValue}
-use Rattle.dm_deques.specs.Rule.{WasEmpty}
 use Rattle.dm_deques.specs.Sharing.{new_tally, deque_of}
 use Rattle.dm_search.specs.Moving.{IsOver}
-use Rattle.dm_workers.specs.Ways.{paths_on, leaves_on}
+use Rattle.dm_workers.specs.Accounts.{Path, Weight, IsBranching, leaves_by}
 use Rattle.dm_workers.specs.Nodes.{GuidedTask}
 use Rattle.dm_workers.specs.declared.working.Worker.{Worker}
 use Rattle.dm_workers.specs.Inside.Workers.{IsWorking, IsSameWorker, IsNewWorker, IsDone}
-use Rattle.dm_workers.specs.Found.{IsHandedIn, AreKept}
-use Rattle.dm_workers.specs.Inside.Working.{Path, AreListed, AreFindings, IsAtWork, nothing}
+use Rattle.dm_workers.specs.Found.{IsHandedIn, AreKept, AreListed}
+use Rattle.dm_workers.specs.Inside.Working.{tallies_taken, AreFindings, IsAtWork, nothing}
 
 some_of_none : (xs : List Choice) → AreSomeOf xs []
 some_of_none [] = refl
@@ -60,11 +60,23 @@ module _ (net : Net) (rows : RowsValue) (penalty : ℕ) (base : List Decision) (
     no_dearer = omega arith;
   }
 
-  pub begun : (word : TableId) (owner : TallyValue Path) (tallies : List (TallyValue Path)) (ds : List RowsId) (hand : HandValue) (leaves : List Leaf) (choices : List Decision) (cost : ℕ)
-      → tallies ≡ map new_tally ds → leaves ≡ [] → hand.word ≡ word → hand.room ≡ 1 → hand.lowered ≡ [] → choices ≡ [] → cost ≡ own
-      → IsAtWork task own word hand.start (λ s. paths_on s owner.account.put) nothing owner tallies hand leaves choices cost
-  begun word owner tallies ds hand leaves choices cost t l w r low ch c = record {
-    fair = λ s. omega (arith, ap (leaves_on s) l);
+  -- new tallies have taken nothing
+  none_taken : (h : Weight) (ds : List RowsId) → tallies_taken h (map (new_tally {T = Path}) ds) ≡ 0
+  none_taken h [] = refl
+  none_taken h (d ∷ ds) = omega (
+    arith,
+    none_taken h ds,
+    sum_by-cons (λ (t : TallyValue Path). sum_by h t.account.taken) (new_tally d) (map (new_tally {T = Path}) ds),
+  )
+
+  pub begun : (word : TableId) (owner : TallyValue Path) (tallies : List (TallyValue Path)) (ds : List RowsId) (hand : HandValue) (leaves : List Leaf) (given_up : List Path) (choices : List Decision) (cost : ℕ)
+      → owner.account.taken ≡ [] → tallies ≡ map new_tally ds → leaves ≡ [] → given_up ≡ [] → hand.word ≡ word → hand.room ≡ 1 → hand.lowered ≡ [] → choices ≡ [] → cost ≡ own
+      → IsAtWork task own word hand.start (λ h. sum_by h owner.account.put) nothing owner tallies hand leaves given_up choices cost
+  begun word owner tallies ds hand leaves given_up choices cost o t l u w r low ch c = record {
+    branched = [];
+    branchings = All-nil (IsBranching task);
+    taken = λ h. omega (arith, ap (sum_by h) o, ap (tallies_taken h) t, none_taken h ds, ap (leaves_by h) l, ap (sum_by h) u);
+    put = λ h. omega arith;
     found = none_found task own word hand.start 1 hand leaves choices cost
         (subst (λ (ds : List Decision). AreKept task.task own ds cost) (sym ch) (subst (AreKept task.task own []) (sym c) own_kept)) l w refl r
         (subst (AreListed cost) (sym low) (All-nil (λ k. (cost ≤ k) ⊎ (k ≡ nothing_looked))));
@@ -72,16 +84,15 @@ module _ (net : Net) (rows : RowsValue) (penalty : ℕ) (base : List Decision) (
 
   -- a worker that began so and has done its work
   pub done_from : {F : Type 0} (word : TableId) (start : ℕ) (ds : List RowsId) (self after : Worker F) → IsSameWorker self after → IsNewWorker task.task own word start ds self
-      → WasEmpty after.owner.account → IfSome after.evaluator (IsOver task.task)
-      → ((given : List Bool → ℕ) (from : ℕ) → IsWorking task own word from given nothing self → IsWorking task own word from given nothing after)
+      → IfSome after.evaluator (IsOver task.task)
+      → ((given : Weight → ℕ) (from : ℕ) → IsWorking task own word from given nothing self → IsWorking task own word from given nothing after)
       → IsDone task own word start ds self after
-  done_from {F} word start ds self after same new empty evaluator works =
-      let put : List Bool → ℕ = λ s. paths_on s self.owner.account.put in
-      let at = begun word self.owner self.tallies.items ds self.hand self.leaves.items self.best.choices self.best.cost new.tallies new.leaves new.word_is new.room new.lowered new.choices new.cost in
+  done_from {F} word start ds self after same new evaluator works =
+      let put : Weight → ℕ = λ h. sum_by h self.owner.account.put in
+      let at = begun word self.owner self.tallies.items ds self.hand self.leaves.items self.given_up.items self.best.choices self.best.cost new.taken new.tallies new.leaves new.given_up new.word_is new.room new.lowered new.choices new.cost in
       record {
         works = works put start
-            (subst (λ (from : ℕ). IsAtWork task own word from put nothing self.owner self.tallies.items self.hand self.leaves.items self.best.choices self.best.cost) new.start_is at);
-        empty = empty;
+            (subst (λ (from : ℕ). IsAtWork task own word from put nothing self.owner self.tallies.items self.hand self.leaves.items self.given_up.items self.best.choices self.best.cost) new.start_is at);
         evaluator = evaluator;
         deque = same.deque;
         lent = same.lent;

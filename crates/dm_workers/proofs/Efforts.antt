@@ -1,6 +1,7 @@
 -- What each step of a worker does to what it has done.
-use Rattle.std.proofs.Common.{◌≡◌, ◌⊎◌, ℕ, ◌+◌, ◌≤◌, ◌<◌, Bool, List, [], ◌∷◌, ◌++◌, min, All, ap, sym, subst, arith, inl, inr, ⊎_elim}
+use Rattle.std.proofs.Common.{◌≡◌, ◌⊎◌, ℕ, ◌+◌, ◌≤◌, ◌<◌, List, [], ◌∷◌, ◌++◌, min, All, ap, sym, subst, arith, inl, inr, ⊎_elim}
 use Rattle.std.proofs.lemmas.List.Elements.{All-push, All-weaker}
+use Rattle.std.specs.Prelude.{sum_by}
 use Rattle.std.proofs.lemmas.List.Sums.{sum_by_push}
 use Rattle.atomic_table.specs.Seated.{TableId}
 use Rattle.dm_rows.specs.declared.messages.Choice.{Choice}
@@ -11,12 +12,12 @@ use Rattle.dm_tree.specs.declared.forms.Node.TheVariants.{Inner, Cycle, Bound, O
 use Rattle.dm_tree.specs.declared.forms.Leaf.{Leaf}
 use Rattle.dm_bound.specs.Words.{HandValue, nothing_looked}
 use Rattle.dm_deques.specs.Deques.{TallyValue, having_put}
-use Rattle.dm_workers.specs.Ways.{GoesDown, on_way, paths_on, leaves_on}
-use Rattle.dm_workers.proofs.Ways.{below_weight}
+use Rattle.dm_workers.specs.Ways.{GoesDown}
 use Rattle.dm_workers.specs.Nodes.{GuidedTask, IsChosen}
 use Rattle.dm_workers.specs.Expanding.{having_looked}
-use Rattle.dm_workers.specs.Found.{IsEnd, IsHandedIn, AreKept}
-use Rattle.dm_workers.specs.Inside.Working.{Path, taken_on, AreListed, IsAtWork, nothing}
+use Rattle.dm_workers.specs.Accounts.{Path, Weight, Branching, IsBranching, below_by, leaves_by}
+use Rattle.dm_workers.specs.Found.{IsEnd, IsHandedIn, AreKept, AreListed}
+use Rattle.dm_workers.specs.Inside.Working.{tallies_taken, IsAtWork, nothing, only}
 
 module _ (task : GuidedTask) where
   -- less is kept, or was looked at
@@ -37,16 +38,19 @@ module _ (task : GuidedTask) where
   listed_lower best best' lowered b all = All-weaker (λ c. (best ≤ c) ⊎ (c ≡ nothing_looked)) (λ c. (best' ≤ c) ⊎ (c ≡ nothing_looked))
       (λ c h. ⊎_elim (λ (k : best ≤ c). inl (omega (arith, b, k))) inr h) lowered all
 
-module _ (task : GuidedTask) (own : ℕ) (word : TableId) (start : ℕ) (given : List Bool → ℕ) where
-  abbrev Works : (List Bool → ℕ) → TallyValue Path → List (TallyValue Path) → HandValue → List Leaf → List Decision → ℕ → Type 0
+module _ (task : GuidedTask) (own : ℕ) (word : TableId) (start : ℕ) (given : Weight → ℕ) where
+  abbrev Works : (Weight → ℕ) → TallyValue Path → List (TallyValue Path) → HandValue → List Leaf → List Path → List Decision → ℕ → Type 0
   Works = IsAtWork task own word start given
 
-  module _ (owner : TallyValue Path) (tallies : List (TallyValue Path)) (hand : HandValue) (leaves : List Leaf) (choices : List Decision) (cost : ℕ) where
+  module _ (owner : TallyValue Path) (tallies : List (TallyValue Path)) (hand : HandValue) (leaves : List Leaf) (given_up : List Path) (choices : List Decision) (cost : ℕ) where
     -- a look at the word
-    pub looked_on : (in_hand : List Bool → ℕ) (seen : ℕ) → Works in_hand owner tallies hand leaves choices cost
-        → Works in_hand owner tallies (having_looked hand seen) leaves choices cost
+    pub looked_on : (in_hand : Weight → ℕ) (seen : ℕ) → Works in_hand owner tallies hand leaves given_up choices cost
+        → Works in_hand owner tallies (having_looked hand seen) leaves given_up choices cost
     looked_on in_hand seen w = record {
-      fair = w.fair;
+      branched = w.branched;
+      branchings = w.branchings;
+      taken = w.taken;
+      put = w.put;
       found = record {
         ends = ends_lower task cost cost hand.looked (min hand.looked seen) leaves (omega arith) (omega arith) w.found.ends;
         kept = w.found.kept;
@@ -58,10 +62,13 @@ module _ (task : GuidedTask) (own : ℕ) (word : TableId) (start : ℕ) (given :
     }
 
     -- the path that is in hand is handed in as a leaf
-    pub handed : (path : Path) (n : Node) (now : List Leaf) → Works (λ s. on_way s path) owner tallies hand leaves choices cost → GoesDown (IsChosen task) [] path
-        → IsEnd task.task cost hand.looked path n → now ≡ leaves ++ record { path = path; node = n } ∷ [] → Works nothing owner tallies hand now choices cost
+    pub handed : (path : Path) (n : Node) (now : List Leaf) → Works (only path) owner tallies hand leaves given_up choices cost → GoesDown (IsChosen task) [] path
+        → IsEnd task.task cost hand.looked path n → now ≡ leaves ++ record { path = path; node = n } ∷ [] → Works nothing owner tallies hand now given_up choices cost
     handed path n now w way end is = record {
-      fair = λ s. omega (arith, w.fair s, ap (leaves_on s) is, sum_by_push (λ (l : Leaf). on_way s l.path) leaves (record { path = path; node = n }));
+      branched = w.branched;
+      branchings = w.branchings;
+      taken = λ h. omega (arith, w.taken h, ap (leaves_by h) is, sum_by_push (λ (l : Leaf). h l.path) leaves (record { path = path; node = n }));
+      put = w.put;
       found = record {
         ends = subst (All (IsHandedIn task cost hand.looked)) (sym is)
             (All-push (IsHandedIn task cost hand.looked) leaves (record { path = path; node = n }) w.found.ends (record { way = way; end = end }));
@@ -73,26 +80,45 @@ module _ (task : GuidedTask) (own : ℕ) (word : TableId) (start : ℕ) (given :
       };
     }
 
-    -- the two paths below it are put
-    pub branched : (path : Path) (c : Choice) (owner' : TallyValue Path) → Works (λ s. on_way s path) owner tallies hand leaves choices cost → IsOrdered c
-        → owner' ≡ record owner { account = having_put (having_put owner.account ((path ++ second_decision c ∷ []) ∷ [])) ((path ++ first_decision c ∷ []) ∷ []) }
-        → Works nothing owner' tallies hand leaves choices cost
-    branched path c owner' w ordered is = subst (λ (o : TallyValue Path). Works nothing o tallies hand leaves choices cost) (sym is) (record {
-      fair = λ s. omega (
-        arith,
-        w.fair s,
-        below_weight c ordered s path,
-        sum_by_push (on_way s) owner.account.put (path ++ second_decision c ∷ []),
-        sum_by_push (on_way s) (owner.account.put ++ (path ++ second_decision c ∷ []) ∷ []) (path ++ first_decision c ∷ []),
-      );
+    -- or it is given up
+    pub left : (path : Path) (now : List Path) → Works (only path) owner tallies hand leaves given_up choices cost → now ≡ given_up ++ path ∷ []
+        → Works nothing owner tallies hand leaves now choices cost
+    left path now w is = record {
+      branched = w.branched;
+      branchings = w.branchings;
+      taken = λ h. omega (arith, w.taken h, ap (sum_by h) is, sum_by_push h given_up path);
+      put = w.put;
       found = w.found;
-    })
+    }
+
+    -- or the two paths below it are put
+    pub branched : (path : Path) (c : Choice) (owner' : TallyValue Path) → Works (only path) owner tallies hand leaves given_up choices cost → IsChosen task path c → IsOrdered c
+        → owner' ≡ record owner { account = having_put (having_put owner.account ((path ++ second_decision c ∷ []) ∷ [])) ((path ++ first_decision c ∷ []) ∷ []) }
+        → Works nothing owner' tallies hand leaves given_up choices cost
+    branched path c owner' w chosen ordered is =
+        let b : Branching = record { path = path; choice = c } in
+        subst (λ (o : TallyValue Path). Works nothing o tallies hand leaves given_up choices cost) (sym is) (record {
+          branched = w.branched ++ b ∷ [];
+          branchings = All-push (IsBranching task) w.branched b w.branchings (record { chosen = chosen; ordered = ordered });
+          taken = λ h. omega (arith, w.taken h, sum_by_push (λ (x : Branching). h x.path) w.branched b);
+          put = λ h. omega (
+            arith,
+            w.put h,
+            sum_by_push (below_by h) w.branched b,
+            sum_by_push h owner.account.put (path ++ second_decision c ∷ []),
+            sum_by_push h (owner.account.put ++ (path ++ second_decision c ∷ []) ∷ []) (path ++ first_decision c ∷ []),
+          );
+          found = w.found;
+        })
 
     -- choices that cost no more are kept
-    pub bettered : (in_hand : List Bool → ℕ) (choices' : List Decision) (cost' : ℕ) → Works in_hand owner tallies hand leaves choices cost → AreKept task.task own choices' cost'
-        → cost' ≤ cost → Works in_hand owner tallies hand leaves choices' cost'
+    pub bettered : (in_hand : Weight → ℕ) (choices' : List Decision) (cost' : ℕ) → Works in_hand owner tallies hand leaves given_up choices cost → AreKept task.task own choices' cost'
+        → cost' ≤ cost → Works in_hand owner tallies hand leaves given_up choices' cost'
     bettered in_hand choices' cost' w kept less = record {
-      fair = w.fair;
+      branched = w.branched;
+      branchings = w.branchings;
+      taken = w.taken;
+      put = w.put;
       found = record {
         ends = ends_lower task cost cost' hand.looked hand.looked leaves less (omega arith) w.found.ends;
         kept = kept;
@@ -104,10 +130,13 @@ module _ (task : GuidedTask) (own : ℕ) (word : TableId) (start : ℕ) (given :
     }
 
     -- the word is lowered by a cost that the kept choices do not exceed, or that prunes nothing
-    pub told : (in_hand : List Bool → ℕ) (c : ℕ) → Works in_hand owner tallies hand leaves choices cost → (cost ≤ c) ⊎ (c ≡ nothing_looked)
-        → Works in_hand owner tallies (record hand { lowered = hand.lowered ++ c ∷ [] }) leaves choices cost
+    pub told : (in_hand : Weight → ℕ) (c : ℕ) → Works in_hand owner tallies hand leaves given_up choices cost → (cost ≤ c) ⊎ (c ≡ nothing_looked)
+        → Works in_hand owner tallies (record hand { lowered = hand.lowered ++ c ∷ [] }) leaves given_up choices cost
     told in_hand c w low = record {
-      fair = w.fair;
+      branched = w.branched;
+      branchings = w.branchings;
+      taken = w.taken;
+      put = w.put;
       found = record {
         ends = w.found.ends;
         kept = w.found.kept;
@@ -119,11 +148,14 @@ module _ (task : GuidedTask) (own : ℕ) (word : TableId) (start : ℕ) (given :
     }
 
     -- a path is taken from some deque
-    pub taken : (path : Path) (owner' : TallyValue Path) (tallies' : List (TallyValue Path)) → Works nothing owner tallies hand leaves choices cost
+    pub taken : (path : Path) (owner' : TallyValue Path) (tallies' : List (TallyValue Path)) → Works nothing owner tallies hand leaves given_up choices cost
         → owner'.account.put ≡ owner.account.put
-        → ((s : List Bool) → paths_on s owner'.account.taken + taken_on s tallies' ≡ paths_on s owner.account.taken + taken_on s tallies + on_way s path)
-        → Works (λ s. on_way s path) owner' tallies' hand leaves choices cost
+        → ((h : Weight) → sum_by h owner'.account.taken + tallies_taken h tallies' ≡ sum_by h owner.account.taken + tallies_taken h tallies + h path)
+        → Works (only path) owner' tallies' hand leaves given_up choices cost
     taken path owner' tallies' w put weighs = record {
-      fair = λ s. omega (arith, w.fair s, weighs s, ap (paths_on s) put);
+      branched = w.branched;
+      branchings = w.branchings;
+      taken = λ h. omega (arith, w.taken h, weighs h);
+      put = λ h. omega (arith, w.put h, ap (sum_by h) put);
       found = w.found;
     }

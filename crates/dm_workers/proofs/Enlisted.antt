@@ -1,19 +1,18 @@
 -- Loops over workers and their deques.
-use Rattle.std.proofs.Common.{◌≡◌, ℕ, ◌+◌, ◌-◌, ◌≤◌, Bool, List, [], ◌∷◌, ◌++◌, length, map, All, refl, sym, ap, subst, ◌∙◌, arith, append_assoc, length-append}
+use Rattle.std.proofs.Common.{◌≡◌, ℕ, ◌+◌, ◌-◌, List, [], ◌∷◌, ◌++◌, length, map, All, refl, sym, ap, subst, ◌∙◌, arith, append_assoc, length-append}
 use Rattle.std.specs.Prelude.{sum_by}
-use Rattle.std.proofs.lemmas.List.{map-append, nil_from_length}
+use Rattle.std.proofs.lemmas.List.{map-append}
 use Rattle.std.proofs.lemmas.List.Elements.{All-nil, All-cons, All-head, All-tail, All-push}
 use Rattle.std.proofs.lemmas.List.Sums.{sum_by-cons, sum_by_push}
 use Rattle.atomic_blocks.specs.Lent.{RowsId}
 use Rattle.dm_bound.specs.Words.{HandValue}
 use Rattle.dm_deques.specs.declared.account.Account.{Account}
 use Rattle.dm_deques.specs.Deques.{TallyValue}
-use Rattle.dm_deques.specs.Rule.{opening, WasEmpty}
+use Rattle.dm_deques.specs.Rule.{opening}
 use Rattle.dm_deques.specs.Sharing.{deque_of, new_tally, having_lent, settling_each}
-use Rattle.dm_workers.specs.Ways.{paths_on}
-use Rattle.dm_workers.specs.Found.{IsDrained}
-use Rattle.dm_workers.specs.Inside.Gathering.{owners_put, owners_taken, all_taken, HasLent, HasLentOnly, AreEquipped}
-use Rattle.dm_workers.specs.Inside.Working.{Path, taken_on}
+use Rattle.dm_workers.specs.Accounts.{Path, Weight, owners_put, owners_taken}
+use Rattle.dm_workers.specs.Inside.Gathering.{all_taken, HasLent, HasLentOnly, AreEquipped}
+use Rattle.dm_workers.specs.Inside.Working.{tallies_taken}
 use Rattle.dm_workers.proofs.Gathered.{settles, settles_deques, settles_lent}
 
 -- what is made of each element, and the elements that are left
@@ -33,13 +32,13 @@ one_split start hand next n m is split more =
     split ∙ (ap (λ (h : HandValue). record h { room = h.room - 1 }) is ∙ ap (λ (r : ℕ). record start { room = r }) room)
 
 -- one list of tallies that was settled, and those that are left
-pub one_settled : (s : List Bool) (settled now : List (TallyValue Path)) (ts : List (TallyValue Path)) (rest next : List (List (TallyValue Path))) → rest ≡ ts ∷ next
+pub one_settled : (h : Weight) (settled now : List (TallyValue Path)) (ts : List (TallyValue Path)) (rest next : List (List (TallyValue Path))) → rest ≡ ts ∷ next
     → map deque_of ts ≡ map deque_of settled → now ≡ settling_each settled ts
-    → (owners_put s now ≡ owners_put s settled) × (owners_taken s now + all_taken s next ≡ owners_taken s settled + all_taken s rest)
-one_settled s settled now ts rest next is deques new =
-    let h = settles s settled ts deques in (
-      ap (owners_put s) new ∙ h.0,
-      omega (arith, ap (owners_taken s) new, h.1, ap (all_taken s) is, sum_by-cons (taken_on s) ts next),
+    → (owners_put h now ≡ owners_put h settled) × (owners_taken h now + all_taken h next ≡ owners_taken h settled + all_taken h rest)
+one_settled h settled now ts rest next is deques new =
+    let done = settles h settled ts deques in (
+      ap (owners_put h) new ∙ done.0,
+      omega (arith, ap (owners_taken h) new, done.1, ap (all_taken h) is, sum_by-cons (tallies_taken h) ts next),
     )
 
 pub settled_deques : (settled now ts : List (TallyValue Path)) (whole : List RowsId) → now ≡ settling_each settled ts → map deque_of settled ≡ whole → map deque_of now ≡ whole
@@ -56,18 +55,18 @@ all_more P xs now x is all p = subst (All P) (sym is) (All-push P xs x all p)
 
 -- one deque more, which is empty
 pub one_enlisted : (owners now : List (TallyValue Path)) (thieves thieves_now : List RowsId) (o : TallyValue Path) (t : RowsId) → now ≡ owners ++ o ∷ [] → thieves_now ≡ thieves ++ t ∷ []
-    → t ≡ o.deque → o.account ≡ opening → map deque_of owners ≡ thieves → ((s : List Bool) → owners_put s owners ≤ 1) → All (HasLentOnly 0) owners
-    → (map deque_of now ≡ thieves_now) × ((s : List Bool) → owners_put s now ≤ 1) × All (HasLentOnly 0) now × (length now ≡ length owners + 1)
+    → t ≡ o.deque → o.account ≡ opening → map deque_of owners ≡ thieves → ((h : Weight) → owners_put h owners ≡ h []) → All (HasLentOnly 0) owners
+    → (map deque_of now ≡ thieves_now) × ((h : Weight) → owners_put h now ≡ h []) × All (HasLentOnly 0) now × (length now ≡ length owners + 1)
 one_enlisted owners now thieves thieves_now o t is thief same account deques root none = (
   ap (map deque_of) is
       ∙ (map-append deque_of owners (o ∷ [])
       ∙ (ap (λ (ds : List RowsId). ds ++ o.deque ∷ []) deques ∙ sym (thief ∙ ap (λ (d : RowsId). thieves ++ d ∷ []) same))),
-  λ s. omega (
+  λ h. omega (
     arith,
-    root s,
-    ap (owners_put s) is,
-    sum_by_push (λ (x : TallyValue Path). paths_on s x.account.put) owners o,
-    ap (λ (v : Account Path). paths_on s v.put) account,
+    root h,
+    ap (owners_put h) is,
+    sum_by_push (λ (x : TallyValue Path). sum_by h x.account.put) owners o,
+    ap (λ (v : Account Path). sum_by h v.put) account,
   ),
   all_more (HasLentOnly 0) owners now o is none (record { taken = ap (λ (v : Account Path). v.taken) account; lent = ap (λ (v : Account Path). v.lent) account }),
   ap length is ∙ length-append owners (o ∷ []),
@@ -77,11 +76,11 @@ lent_deques : (owners : List (TallyValue Path)) → map deque_of (map having_len
 lent_deques [] = refl
 lent_deques (o ∷ os) = ap (λ (ds : List RowsId). o.deque ∷ ds) (lent_deques os)
 
-lent_put : (s : List Bool) (owners : List (TallyValue Path)) → owners_put s (map having_lent owners) ≡ owners_put s owners
-lent_put s [] = refl
-lent_put s (o ∷ os) =
-    let put = λ (x : TallyValue Path). paths_on s x.account.put in
-    omega (arith, lent_put s os, sum_by-cons put (having_lent o) (map having_lent os), sum_by-cons put o os)
+lent_put : (h : Weight) (owners : List (TallyValue Path)) → owners_put h (map having_lent owners) ≡ owners_put h owners
+lent_put h [] = refl
+lent_put h (o ∷ os) =
+    let put = λ (x : TallyValue Path). sum_by h x.account.put in
+    omega (arith, lent_put h os, sum_by-cons put (having_lent o) (map having_lent os), sum_by-cons put o os)
 
 one_out : (n : ℕ) (owners : List (TallyValue Path)) → All (HasLentOnly n) owners → All (HasLentOnly (n + 1)) (map having_lent owners)
 one_out n [] all = All-nil (HasLentOnly (n + 1))
@@ -97,7 +96,7 @@ IsPurse owners ts = ts ≡ map new_tally (map deque_of owners)
 pub none_equipped : (owners : List (TallyValue Path)) (purses : List (List (TallyValue Path))) → purses ≡ [] → All (HasLentOnly 0) owners → AreEquipped owners owners 0 purses
 none_equipped owners purses none new = record {
   deques = refl;
-  put = λ s. refl;
+  put = λ h. refl;
   new = new;
   each = subst (All (IsPurse owners)) (sym none) (All-nil (IsPurse owners));
   many = ap length none;
@@ -110,7 +109,7 @@ one_equipped before owners now n purses purses_now ts h is tallies more =
     let same : map deque_of now ≡ map deque_of owners = ap (map deque_of) is ∙ lent_deques owners in
     record {
       deques = same ∙ h.deques;
-      put = λ s. ap (owners_put s) is ∙ (lent_put s owners ∙ h.put s);
+      put = λ w. ap (owners_put w) is ∙ (lent_put w owners ∙ h.put w);
       new = subst (All (HasLentOnly (n + 1))) (sym is) (one_out n owners h.new);
       each = subst (λ (ds : List RowsId). All (λ ts. ts ≡ map new_tally ds) purses_now) (sym same)
           (all_more (IsPurse owners) purses purses_now ts more h.each tallies);
@@ -143,24 +142,3 @@ one_less_out n settled now ts rest next is deques new all =
 
 pub none_out : (n : ℕ) (owners : List (TallyValue Path)) (rest : List (List (TallyValue Path))) → rest ≡ [] → All (HasLent (n + length rest)) owners → All (HasLent n) owners
 none_out n owners rest none all = subst (λ (k : ℕ). All (HasLent k) owners) (omega (arith, ap length none)) all
-
--- where no tally is out, an owner that found its deque empty has taken what it put
-pub drained : (o : TallyValue Path) → WasEmpty o.account → HasLent 0 o → IsDrained o
-drained o e none =
-    let nothing : e.by_tallies ≡ [] = nil_from_length e.by_tallies (e.out ∙ none) in
-    record {
-      lent = none;
-      balance = λ h. omega (arith, e.balance h, ap (sum_by (λ (taken : List Path). sum_by h taken)) nothing);
-    }
-
-pub one_emptied : (s : List Bool) (rest next : List (TallyValue Path)) (o : TallyValue Path) → rest ≡ o ∷ next → paths_on s o.account.taken ≡ paths_on s o.account.put
-    → owners_taken s next ≡ owners_put s next → owners_taken s rest ≡ owners_put s rest
-one_emptied s rest next o is here others = omega (
-  arith,
-  ap (owners_taken s) is,
-  ap (owners_put s) is,
-  here,
-  others,
-  sum_by-cons (λ (x : TallyValue Path). paths_on s x.account.taken) o next,
-  sum_by-cons (λ (x : TallyValue Path). paths_on s x.account.put) o next,
-)

@@ -1,6 +1,6 @@
 -- What workers that are done hand in, before it is put together.
 use Rattle.std.proofs.Common.{◌≡◌, ℕ, List, [], ◌∷◌, length, Some, Result, Ok, Err, ap, sym, ◌∙◌, subst, arith, All, slice_get, get_or}
-use Rattle.std.specs.Prelude.{map, IfOk, IfSome}
+use Rattle.std.specs.Prelude.{map, sum_by, IfOk, IfSome}
 use Rattle.std.proofs.lemmas.List.Elements.{All-nil, All-cons}
 use Rattle.std.proofs.lemmas.Result.{IfOk-weaker}
 use Rattle.std.proofs.lemmas.Option.{slice_get_within, get_or_from_slice_get}
@@ -14,15 +14,14 @@ use Rattle.dm_bound.specs.Words.{HandValue}
 use Rattle.dm_deques.specs.Deques.{TallyValue}
 use Rattle.dm_deques.specs.Sharing.{deque_of}
 use Rattle.dm_search.specs.Moving.{IsOver}
-use Rattle.dm_workers.specs.Ways.{leaves_on}
 use Rattle.dm_workers.specs.Nodes.{GuidedTask}
 use Rattle.dm_workers.specs.declared.gathering.Gathered.{Gathered}
 use Rattle.dm_workers.specs.declared.working.Worker.{Worker}
-use Rattle.dm_workers.specs.Inside.Gathering.{owners_put, lent_of}
+use Rattle.dm_workers.specs.Accounts.{Path, IsBranching, leaves_by, owners_put, owners_taken}
+use Rattle.dm_workers.specs.Inside.Gathering.{all_taken, lent_of}
 use Rattle.dm_workers.specs.Inside.Together.{IsGatheredFrom, HandsIn, AreHandedIn}
 use Rattle.dm_workers.specs.Inside.Workers.{IsDone}
-use Rattle.dm_workers.specs.Found.{AreKept}
-use Rattle.dm_workers.specs.Inside.Working.{Path, AreListed}
+use Rattle.dm_workers.specs.Found.{AreKept, AreListed}
 use Rattle.dm_workers.proofs.Begun.{none_found}
 use Rattle.dm_workers.proofs.Ends.{pairs}
 
@@ -49,15 +48,18 @@ module _ {F : Type 0} (task : GuidedTask) (own : ℕ) (word : TableId) (start : 
 
   -- nothing is gathered yet
   pub none_gathered : (g : Gathered F) (hand : HandValue) (choices : List Decision) (best : ℕ)
-      → (g.owners.items ≡ []) × (g.tallies.items ≡ []) × (g.hand ≡ hand) × (g.leaves.items ≡ []) × (g.best.choices ≡ choices) × (g.best.cost ≡ best)
+      → (g.owners.items ≡ []) × (g.tallies.items ≡ []) × (g.hand ≡ hand) × (g.leaves.items ≡ []) × (g.given_up.items ≡ []) × (g.best.choices ≡ choices) × (g.best.cost ≡ best)
       → hand.word ≡ word → hand.start ≡ start → AreListed best hand.lowered → AreKept task.task own choices best → IsGatheredFrom task own word start hand.room theirs [] g
   none_gathered g hand choices best e w s listed kept = record {
     gathered = record {
-      fair = λ s. omega (arith, ap (owners_put s) e.0, ap (leaves_on s) e.3);
+      branched = [];
+      branchings = All-nil (IsBranching task);
+      taken = λ h. omega (arith, ap (owners_taken h) e.0, ap (all_taken h) e.1, ap (leaves_by h) e.3, ap (sum_by h) e.4);
+      put = λ h. omega (arith, ap (owners_put h) e.0);
       found = none_found task own word start _ g.hand g.leaves.items g.best.choices g.best.cost
-          (subst (λ (ds : List Decision). AreKept task.task own ds g.best.cost) (sym e.4) (subst (AreKept task.task own choices) (sym e.5) kept)) e.3
+          (subst (λ (ds : List Decision). AreKept task.task own ds g.best.cost) (sym e.5) (subst (AreKept task.task own choices) (sym e.6) kept)) e.3
           (ap (λ (k : HandValue). k.word) e.2 ∙ w) (ap (λ (k : HandValue). k.start) e.2 ∙ s) (omega (arith, ap (λ (k : HandValue). k.room) e.2))
-          (subst (λ (n : ℕ). AreListed n g.hand.lowered) (sym e.5) (subst (λ (k : HandValue). AreListed best k.lowered) (sym e.2) listed));
+          (subst (λ (n : ℕ). AreListed n g.hand.lowered) (sym e.6) (subst (λ (k : HandValue). AreListed best k.lowered) (sym e.2) listed));
     };
     deques = ap (map deque_of) e.0;
     lent = ap (map lent_of) e.0;

@@ -13,3 +13,6 @@ pub mod Handing
 pub mod Enlisted
 pub mod Whole
 pub mod Guiding
+pub mod Guided
+pub mod Draining
+pub mod Planned

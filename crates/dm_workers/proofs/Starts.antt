@@ -29,6 +29,12 @@ one_cost : (net : Net) (rows : RowsValue) (penalty a b : ℕ) → Costs net rows
 one_cost net rows penalty a b p q =
     p.cost ∙ (ap (λ x. cost_of net rows x penalty) (one_least net rows (is_active net rows) p.times q.times p.least q.least) ∙ sym q.cost)
 
+-- what costs no more than kept choices costs no more than the rows by themselves
+pub no_dearer_than_rows : (net : Net) (rows : RowsValue) (penalty own best cost : ℕ) → Costs net rows penalty own → best ≤ own → cost ≤ best
+    → (other : ℕ) → Costs net rows penalty other → cost ≤ other
+no_dearer_than_rows net rows penalty own best cost of_rows kept low other costs =
+    omega (arith, one_cost net rows penalty own other of_rows costs, kept, low)
+
 module _ (net : Net) (network : IsNetwork net) (rows : RowsValue) (penalty : ℕ) (base : List Decision) (budget : ℕ) (hints : List Hint) (posed : IsPosed net rows penalty base budget) where
   abbrev task : GuidedTask
   task = record { task = task_beside net rows penalty base budget; hints = hints }

@@ -1,14 +1,13 @@
 -- What a worker takes.
 use Rattle.std.proofs.Common.{◌≡◌, ℕ, zero, suc, ◌<◌, List, [], ◌∷◌, length, set, get_or, ap, ◌∙◌, arith}
-use Rattle.std.specs.Prelude.{map, Option}
+use Rattle.std.specs.Prelude.{map, sum_by, Option}
 use Rattle.std.proofs.lemmas.List.Sums.{sum_by-cons, sum_by_push}
 use Rattle.atomic_blocks.specs.Lent.{RowsId}
 use Rattle.dm_deques.specs.Deques.{TallyValue, having_taken}
 use Rattle.dm_deques.specs.Sharing.{deque_of}
 use Rattle.dm_evaluate.specs.Evaluator.{EvaluatorValue}
-use Rattle.dm_workers.specs.Ways.{on_way, paths_on}
 use Rattle.dm_workers.specs.declared.working.Worker.{Worker}
-use Rattle.dm_workers.specs.Inside.Working.{Path}
+use Rattle.dm_workers.specs.Accounts.{Path}
 use Rattle.dm_workers.specs.Inside.Workers.{HasStolen, HasTaken, HasFoundNone, IsSameWorker}
 
 -- one tally has taken a path
@@ -17,24 +16,24 @@ pub stolen_at : (tallies : List (TallyValue Path)) (k : ℕ) (t u : TallyValue P
 stolen_at [] k t u path lt is new = absurd (omega (arith, lt))
 stolen_at (x ∷ xs) zero t u path lt is new = record {
   deques = ap (λ (d : RowsId). d ∷ map deque_of xs) (ap deque_of new ∙ ap deque_of is);
-  weighs = λ s. omega (
+  weighs = λ h. omega (
     arith,
-    sum_by-cons (λ (y : TallyValue Path). paths_on s y.account.taken) x xs,
-    sum_by-cons (λ (y : TallyValue Path). paths_on s y.account.taken) u xs,
-    ap (λ (y : TallyValue Path). paths_on s y.account.taken) new,
-    sum_by_push (on_way s) t.account.taken path,
-    ap (λ (y : TallyValue Path). paths_on s y.account.taken) is,
+    sum_by-cons (λ (y : TallyValue Path). sum_by h y.account.taken) x xs,
+    sum_by-cons (λ (y : TallyValue Path). sum_by h y.account.taken) u xs,
+    ap (λ (y : TallyValue Path). sum_by h y.account.taken) new,
+    sum_by_push h t.account.taken path,
+    ap (λ (y : TallyValue Path). sum_by h y.account.taken) is,
   );
 }
 stolen_at (x ∷ xs) (suc k) t u path lt is new =
     let rest = stolen_at xs k t u path (omega (arith, lt)) is new in
     record {
       deques = ap (λ (ds : List RowsId). x.deque ∷ ds) rest.deques;
-      weighs = λ s. omega (
+      weighs = λ h. omega (
         arith,
-        rest.weighs s,
-        sum_by-cons (λ (y : TallyValue Path). paths_on s y.account.taken) x xs,
-        sum_by-cons (λ (y : TallyValue Path). paths_on s y.account.taken) x (set xs k u),
+        rest.weighs h,
+        sum_by-cons (λ (y : TallyValue Path). sum_by h y.account.taken) x xs,
+        sum_by-cons (λ (y : TallyValue Path). sum_by h y.account.taken) x (set xs k u),
       );
     }
 

@@ -1,5 +1,5 @@
 -- What each step of a worker keeps.
-use Rattle.std.proofs.Common.{◌≡◌, ◌⊎◌, ℕ, ◌+◌, ◌≤◌, ◌<◌, Bool, List, ◌++◌, min, refl, ap, sym, ◌∙◌, subst, arith, inl, inr, ⊎_elim, ne_eqb, eqb}
+use Rattle.std.proofs.Common.{◌≡◌, ◌⊎◌, ℕ, ◌≤◌, ◌<◌, List, ◌++◌, min, refl, ap, sym, ◌∙◌, subst, arith, inl, inr, ⊎_elim, ne_eqb, eqb}
 use Rattle.std.specs.Prelude.{Option, Some}
 use Rattle.std.proofs.lemmas.Bool.{cases_lt}
 use Rattle.atomic_table.specs.Seated.{TableId}
@@ -16,14 +16,14 @@ use Rattle.dm_guide.specs.Posed.{task_beside, IsPosed}
 use Rattle.dm_bound.specs.Words.{HandValue, nothing_looked}
 use Rattle.dm_search.specs.declared.steps.Outcome.{Outcome}
 use Rattle.dm_search.specs.declared.steps.Outcome.TheVariants.{Cycle as CycleFound, Pruned, Solved, Branch}
-use Rattle.dm_workers.specs.Ways.{on_way}
 use Rattle.dm_workers.specs.declared.working.Worker.{Worker}
 use Rattle.dm_workers.specs.Nodes.{GuidedTask, branching_at, IsChosen, IsNode}
 use Rattle.dm_workers.specs.Expanding.{IsSeenBy, having_looked, limit_of}
+use Rattle.dm_workers.specs.Accounts.{Path, Weight}
 use Rattle.dm_workers.specs.Found.{IsShown, IsEnd, AreKept}
-use Rattle.dm_workers.specs.Inside.Working.{Path, IsAtWork, nothing}
-use Rattle.dm_workers.specs.Inside.Workers.{IsWorking, IsHandedTo, IsBetterOf, HasBranched, HasTaken, HasFoundNone}
-use Rattle.dm_workers.proofs.Efforts.{looked_on, handed, branched, bettered, told, taken}
+use Rattle.dm_workers.specs.Inside.Working.{IsAtWork, nothing, only}
+use Rattle.dm_workers.specs.Inside.Workers.{IsWorking, IsHandedTo, HasGivenUp, IsBetterOf, HasBranched, HasTaken, HasFoundNone}
+use Rattle.dm_workers.proofs.Efforts.{looked_on, handed, left, branched, bettered, told, taken}
 use Rattle.dm_workers.proofs.Outcomes.{chosen_is_ordered, pruned_costs, solved_costs, branch_costs, solved_kept, branch_violates, branch_chosen}
 
 -- a capped cost is no less than the least one, or is that which prunes nothing
@@ -36,34 +36,39 @@ capped_low best c le = by_case (cases_lt c nothing_looked) where
 limit_below : (seen : ℕ) → seen < nothing_looked → limit_of seen ≡ seen
 limit_below seen lt = let other : eqb seen nothing_looked ≡ Rattle.std.proofs.Common.false = ne_eqb seen nothing_looked (λ e. omega (arith, e, lt)) in rw other refl
 
-module _ {F : Type 0} (task : GuidedTask) (own : ℕ) (word : TableId) (start : ℕ) (given : List Bool → ℕ) where
-  abbrev Work : (List Bool → ℕ) → Worker F → Type 0
+module _ {F : Type 0} (task : GuidedTask) (own : ℕ) (word : TableId) (start : ℕ) (given : Weight → ℕ) where
+  abbrev Work : (Weight → ℕ) → Worker F → Type 0
   Work = IsWorking task own word start given
 
   -- a leaf is handed in, from a worker whose hand is this
-  leaf_in : (old new : Worker F) (h : HandValue) (path : Path) (n : Node) → IsAtWork task own word start given (λ s. on_way s path) old.owner old.tallies.items h old.leaves.items old.best.choices old.best.cost
+  leaf_in : (old new : Worker F) (h : HandValue) (path : Path) (n : Node) → IsAtWork task own word start given (only path) old.owner old.tallies.items h old.leaves.items old.given_up.items old.best.choices old.best.cost
       → IsNode task path → IsEnd task.task old.best.cost h.looked path n → IsHandedTo (record old { hand = h }) new path n → Work nothing new
   leaf_in old new h path n w node end put = subst (Work nothing) (sym put.same)
-      (handed task own word start given old.owner old.tallies.items h old.leaves.items old.best.choices old.best.cost path n new.leaves.items w node.way end put.leaves)
+      (handed task own word start given old.owner old.tallies.items h old.leaves.items old.given_up.items old.best.choices old.best.cost path n new.leaves.items w node.way end put.leaves)
 
   -- the worker has looked at the word
-  looking : (old : Worker F) (h : HandValue) (path : Path) (seen : ℕ) → h ≡ having_looked old.hand seen → Work (λ s. on_way s path) old
-      → IsAtWork task own word start given (λ s. on_way s path) old.owner old.tallies.items h old.leaves.items old.best.choices old.best.cost
+  looking : (old : Worker F) (h : HandValue) (path : Path) (seen : ℕ) → h ≡ having_looked old.hand seen → Work (only path) old
+      → IsAtWork task own word start given (only path) old.owner old.tallies.items h old.leaves.items old.given_up.items old.best.choices old.best.cost
   looking old h path seen is w = subst
-      (λ (k : HandValue). IsAtWork task own word start given (λ s. on_way s path) old.owner old.tallies.items k old.leaves.items old.best.choices old.best.cost)
+      (λ (k : HandValue). IsAtWork task own word start given (only path) old.owner old.tallies.items k old.leaves.items old.given_up.items old.best.choices old.best.cost)
       (sym is)
-      (looked_on task own word start given old.owner old.tallies.items old.hand old.leaves.items old.best.choices old.best.cost (λ s. on_way s path) seen w)
+      (looked_on task own word start given old.owner old.tallies.items old.hand old.leaves.items old.given_up.items old.best.choices old.best.cost (only path) seen w)
 
   -- no path was found
   pub none_taken : (old new : Worker F) → HasFoundNone old new → Work nothing old → Work nothing new
   none_taken old new n w = subst (Work nothing) (sym n.same)
-      (subst (λ (o : _). IsAtWork task own word start given nothing o new.tallies.items old.hand old.leaves.items old.best.choices old.best.cost) (sym n.owner)
-      (subst (λ (ts : _). IsAtWork task own word start given nothing old.owner ts old.hand old.leaves.items old.best.choices old.best.cost) (sym n.tallies) w))
+      (subst (λ (o : _). IsAtWork task own word start given nothing o new.tallies.items old.hand old.leaves.items old.given_up.items old.best.choices old.best.cost) (sym n.owner)
+      (subst (λ (ts : _). IsAtWork task own word start given nothing old.owner ts old.hand old.leaves.items old.given_up.items old.best.choices old.best.cost) (sym n.tallies) w))
+
+  -- the path in hand is given up
+  pub path_left : (old new : Worker F) (path : Path) → HasGivenUp old new path → Work (only path) old → Work nothing new
+  path_left old new path g w = subst (Work nothing) (sym g.same)
+      (left task own word start given old.owner old.tallies.items old.hand old.leaves.items old.given_up.items old.best.choices old.best.cost path new.given_up.items w g.given_up)
 
   -- a path is taken
-  pub path_taken : (old new : Worker F) (path : Path) → HasTaken old new path → Work nothing old → Work (λ s. on_way s path) new
-  path_taken old new path t w = subst (Work (λ s. on_way s path)) (sym t.same)
-      (taken task own word start given old.owner old.tallies.items old.hand old.leaves.items old.best.choices old.best.cost path new.owner new.tallies.items w t.put t.weighs)
+  pub path_taken : (old new : Worker F) (path : Path) → HasTaken old new path → Work nothing old → Work (only path) new
+  path_taken old new path t w = subst (Work (only path)) (sym t.same)
+      (taken task own word start given old.owner old.tallies.items old.hand old.leaves.items old.given_up.items old.best.choices old.best.cost path new.owner new.tallies.items w t.put t.weighs)
 
 -- what the guide says at a path that is told by an equation
 pub guide_says : (hints : List Hint) (path there : List Decision) (hint : Option Choice) (choice : Choice) → there ≡ path → hint ≡ branching_at hints there → hint ≡ Some choice
@@ -81,13 +86,13 @@ module _ {F : Type 0} (net : Net) (network : IsNetwork net) (rows : RowsValue) (
   task = record { task = task_beside net rows penalty base budget; hints = hints }
 
   pub cycle_in : IsSeenBy net rows (base ++ path) penalty hint old.hand h seen CycleFound → IsHandedTo (record old { hand = h }) new path Cycle
-      → (given : List Bool → ℕ) (start : ℕ) → IsWorking task own word start given (λ s. on_way s path) old → IsWorking task own word start given nothing new
+      → (given : Weight → ℕ) (start : ℕ) → IsWorking task own word start given (only path) old → IsWorking task own word start given nothing new
   cycle_in found put given start w =
       leaf_in task own word start given old new h path Cycle (looking task own word start given old h path seen found.hand w) node
       (record { cycle = found.is.cycle; is_cycle = found.is.is_cycle }) put
 
   pub pruned_in : (c : ℕ) → IsSeenBy net rows (base ++ path) penalty hint old.hand h seen (Pruned c) → (seen < nothing_looked) ⊎ (own ≤ c) → IsHandedTo (record old { hand = h }) new path (Bound c)
-      → (given : List Bool → ℕ) (start : ℕ) → IsWorking task own word start given (λ s. on_way s path) old → IsWorking task own word start given nothing new
+      → (given : Weight → ℕ) (start : ℕ) → IsWorking task own word start given (only path) old → IsWorking task own word start given nothing new
   pruned_in c found why put given start w =
       let at = looking task own word start given old h path seen found.hand w in
       let looked : h.looked ≡ min old.hand.looked seen = ap (λ (k : HandValue). k.looked) found.hand in
@@ -97,39 +102,45 @@ module _ {F : Type 0} (net : Net) (network : IsNetwork net) (rows : RowsValue) (
       leaf_in task own word start given old new h path (Bound c) at node (pruned_costs net network rows penalty base budget hints posed path (limit_of seen) c found.is, shown) put
 
   pub dear_in : (c : ℕ) (choice : Choice) → IsSeenBy net rows (base ++ path) penalty hint old.hand h seen (Branch c choice) → own ≤ c → IsHandedTo (record old { hand = h }) new path (Bound c)
-      → (given : List Bool → ℕ) (start : ℕ) → IsWorking task own word start given (λ s. on_way s path) old → IsWorking task own word start given nothing new
+      → (given : Weight → ℕ) (start : ℕ) → IsWorking task own word start given (only path) old → IsWorking task own word start given nothing new
   dear_in c choice found dear put given start w =
       let at = looking task own word start given old h path seen found.hand w in
       let low = at.found.kept.no_dearer in
       leaf_in task own word start given old new h path (Bound c) at node (branch_costs net network rows penalty base budget hints posed path (limit_of seen) c choice found.is, inl (omega (arith, low, dear))) put
 
+  -- a node is given up that no cost prunes
+  pub given_up_in : (c : ℕ) → IsSeenBy net rows (base ++ path) penalty hint old.hand h seen (Pruned c) → HasGivenUp (record old { hand = h }) new path
+      → (given : Weight → ℕ) (start : ℕ) → IsWorking task own word start given (only path) old → IsWorking task own word start given nothing new
+  given_up_in c found put given start w =
+      path_left task own word start given (record old { hand = h }) new path put (looking task own word start given old h path seen found.hand w)
+
   -- a node below which the guide's tree does not go on is left open
   pub open_in : (c : ℕ) (choice : Choice) → IsSeenBy net rows (base ++ path) penalty hint old.hand h seen (Branch c choice) → IsHandedTo (record old { hand = h }) new path (Open c)
-      → (given : List Bool → ℕ) (start : ℕ) → IsWorking task own word start given (λ s. on_way s path) old → IsWorking task own word start given nothing new
+      → (given : Weight → ℕ) (start : ℕ) → IsWorking task own word start given (only path) old → IsWorking task own word start given nothing new
   open_in c choice found put given start w =
       let at = looking task own word start given old h path seen found.hand w in
       leaf_in task own word start given old new h path (Open c) at node (choice, branch_violates net network rows penalty base budget hints posed path (limit_of seen) c choice found.is) put
 
   pub branch_in : (c : ℕ) (choice : Choice) → IsSeenBy net rows (base ++ path) penalty hint old.hand h seen (Branch c choice) → c < own → branching_at hints path ≡ Some choice
       → HasBranched (record old { hand = h }) new path choice
-      → (given : List Bool → ℕ) (start : ℕ) → IsWorking task own word start given (λ s. on_way s path) old → IsWorking task own word start given nothing new
+      → (given : Weight → ℕ) (start : ℕ) → IsWorking task own word start given (only path) old → IsWorking task own word start given nothing new
   branch_in c choice found cheap hinted put given start w =
       let at = looking task own word start given old h path seen found.hand w in
       let chosen : IsChosen task path choice = branch_chosen net network rows penalty base budget hints posed path own (limit_of seen) c choice of_rows found.is cheap hinted in
       subst (IsWorking task own word start given nothing) (sym put.same)
-      (branched task own word start given old.owner old.tallies.items h old.leaves.items old.best.choices old.best.cost path choice new.owner at
+      (branched task own word start given old.owner old.tallies.items h old.leaves.items old.given_up.items old.best.choices old.best.cost path choice new.owner at chosen
       (chosen_is_ordered net network rows penalty base budget hints posed path choice chosen) put.owner)
 
   pub solved_in : (c : ℕ) (choices : List Decision) (mid : Worker F) → IsSeenBy net rows (base ++ path) penalty hint old.hand h seen (Solved c choices)
       → IsBetterOf (record old { hand = h }) mid c choices → IsHandedTo mid new path (Bound c)
-      → (given : List Bool → ℕ) (start : ℕ) → IsWorking task own word start given (λ s. on_way s path) old → IsWorking task own word start given nothing new
+      → (given : Weight → ℕ) (start : ℕ) → IsWorking task own word start given (only path) old → IsWorking task own word start given nothing new
   solved_in c choices mid found better put given start w =
-      let at = looked_on task own word start given old.owner old.tallies.items old.hand old.leaves.items old.best.choices old.best.cost (λ s. on_way s path) seen w in
+      let at = looked_on task own word start given old.owner old.tallies.items old.hand old.leaves.items old.given_up.items old.best.choices old.best.cost (only path) seen w in
       let low = at.found.kept.no_dearer in
-      let kept : IsAtWork task own word start given (λ s. on_way s path) old.owner old.tallies.items (having_looked old.hand seen) old.leaves.items mid.best.choices mid.best.cost = ⊎_elim
-      (λ (e : (mid.best ≡ old.best) × (old.best.cost ≤ c)). subst (λ (b : _). IsAtWork task own word start given (λ s. on_way s path) old.owner old.tallies.items (having_looked old.hand seen) old.leaves.items b.choices b.cost) (sym e.0) at)
+      let kept : IsAtWork task own word start given (only path) old.owner old.tallies.items (having_looked old.hand seen) old.leaves.items old.given_up.items mid.best.choices mid.best.cost = ⊎_elim
+      (λ (e : (mid.best ≡ old.best) × (old.best.cost ≤ c)). subst (λ (b : _). IsAtWork task own word start given (only path) old.owner old.tallies.items (having_looked old.hand seen) old.leaves.items old.given_up.items b.choices b.cost) (sym e.0) at)
       (λ (e : (mid.best.choices ≡ choices) × (mid.best.cost ≡ c) × (c < old.best.cost)).
-      bettered task own word start given old.owner old.tallies.items (having_looked old.hand seen) old.leaves.items old.best.choices old.best.cost (λ s. on_way s path) mid.best.choices mid.best.cost at
+      bettered task own word start given old.owner old.tallies.items (having_looked old.hand seen) old.leaves.items old.given_up.items old.best.choices old.best.cost (only path) mid.best.choices mid.best.cost at
       (subst (λ (k : ℕ). AreKept task.task own mid.best.choices k) (sym e.1) (subst (λ (ds : List Decision). AreKept task.task own ds c) (sym e.0)
       (solved_kept net network rows penalty base budget hints posed path own (limit_of seen) c choices node.list found.is (let less = e.2 in omega (arith, less, low)))))
       (let less = e.2 in omega (arith, less, e.1)))
@@ -137,11 +148,11 @@ module _ {F : Type 0} (net : Net) (network : IsNetwork net) (rows : RowsValue) (
       let cheaper : mid.best.cost ≤ c = ⊎_elim
       (λ (e : (mid.best ≡ old.best) × (old.best.cost ≤ c)). let less = e.1 in omega (arith, less, ap (λ (b : _). b.cost) e.0))
       (λ (e : (mid.best.choices ≡ choices) × (mid.best.cost ≡ c) × (c < old.best.cost)). omega (arith, e.1)) better.cheaper in
-      let listed = told task own word start given old.owner old.tallies.items (having_looked old.hand seen) old.leaves.items mid.best.choices mid.best.cost (λ s. on_way s path) (min c nothing_looked) kept
+      let listed = told task own word start given old.owner old.tallies.items (having_looked old.hand seen) old.leaves.items old.given_up.items mid.best.choices mid.best.cost (only path) (min c nothing_looked) kept
       (capped_low mid.best.cost c cheaper) in
-      let here : IsAtWork task own word start given (λ s. on_way s path) old.owner old.tallies.items h old.leaves.items mid.best.choices mid.best.cost =
-      subst (λ (k : HandValue). IsAtWork task own word start given (λ s. on_way s path) old.owner old.tallies.items k old.leaves.items mid.best.choices mid.best.cost) (sym found.hand) listed in
-      let middle : IsWorking task own word start given (λ s. on_way s path) mid = subst (IsWorking task own word start given (λ s. on_way s path)) (sym better.same) here in
+      let here : IsAtWork task own word start given (only path) old.owner old.tallies.items h old.leaves.items old.given_up.items mid.best.choices mid.best.cost =
+      subst (λ (k : HandValue). IsAtWork task own word start given (only path) old.owner old.tallies.items k old.leaves.items old.given_up.items mid.best.choices mid.best.cost) (sym found.hand) listed in
+      let middle : IsWorking task own word start given (only path) mid = subst (IsWorking task own word start given (only path)) (sym better.same) here in
       subst (IsWorking task own word start given nothing) (sym put.same)
-      (handed task own word start given mid.owner mid.tallies.items mid.hand mid.leaves.items mid.best.choices mid.best.cost path (Bound c) new.leaves.items middle node.way
+      (handed task own word start given mid.owner mid.tallies.items mid.hand mid.leaves.items mid.given_up.items mid.best.choices mid.best.cost path (Bound c) new.leaves.items middle node.way
       (solved_costs net network rows penalty base budget hints posed path (limit_of seen) c choices found.is, inl cheaper) put.leaves)

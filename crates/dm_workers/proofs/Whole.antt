@@ -1,6 +1,6 @@
 -- All that workers have handed in, from what they were given.
-use Rattle.std.proofs.Common.{◌≡◌, ◌⊎◌, ◌++◌, min, ℕ, ◌+◌, ◌-◌, ◌≤◌, Bool, List, [], ◌∷◌, length, map, All, Result, refl, ap, sym, subst, ◌∙◌, arith}
-use Rattle.std.specs.Prelude.{IfOk, IfSome}
+use Rattle.std.proofs.Common.{◌≡◌, ◌⊎◌, ◌++◌, min, ℕ, ◌+◌, ◌≤◌, List, [], ◌∷◌, length, map, All, Result, refl, ap, sym, subst, ◌∙◌, arith}
+use Rattle.std.specs.Prelude.{sum_by, IfOk, IfSome}
 use Rattle.std.proofs.lemmas.List.{length-map}
 use Rattle.std.proofs.lemmas.List.Elements.{All-nil, All-push, All-cons, All-head, All-tail, All-weaker}
 use Rattle.atomic_table.specs.Seated.{TableId}
@@ -8,7 +8,7 @@ use Rattle.atomic_blocks.specs.Lent.{RowsId}
 use Rattle.dm_network.specs.Net.{Net}
 use Rattle.dm_rows.specs.declared.messages.Decision.{Decision}
 use Rattle.dm_rows.specs.Rows.{RowsValue}
-use Rattle.dm_bound.specs.Words.{HandValue, lowest, nothing_looked}
+use Rattle.dm_bound.specs.Words.{HandValue, nothing_looked}
 use Rattle.dm_deques.specs.Deques.{TallyValue}
 use Rattle.dm_deques.specs.Sharing.{deque_of}
 use Rattle.dm_tree.specs.Plans.{Task}
@@ -18,12 +18,12 @@ use Rattle.dm_guide.specs.Posed.{task_beside}
 use Rattle.dm_workers.specs.Nodes.{GuidedTask}
 use Rattle.dm_workers.specs.declared.gathering.Gathered.{Gathered}
 use Rattle.dm_workers.specs.declared.working.Worker.{Worker}
-use Rattle.dm_workers.specs.Found.{AreKept, IsFound}
-use Rattle.dm_workers.specs.Inside.Gathering.{all_taken, owners_put, owners_taken, lent_of, HasTakenNothing, HasLent, HasLentOnly, AreEquipped}
+use Rattle.dm_workers.specs.Accounts.{Path, Weight, owners_put, owners_taken, IsAccounted, IsDrained}
+use Rattle.dm_workers.specs.Found.{AreKept, AreListed, IsFound}
+use Rattle.dm_workers.specs.Inside.Gathering.{all_taken, lent_of, HasTakenNothing, HasLent, HasLentOnly, AreEquipped}
 use Rattle.dm_workers.specs.Inside.Together.{deque_of_worker, lent_of_worker, IsGatheredFrom, AreHandedIn, AreDone, IsFirstHand}
 use Rattle.dm_workers.specs.Inside.Workers.{owner_of, IsNewWorker}
-use Rattle.dm_workers.specs.Inside.Working.{Path, AreListed}
-use Rattle.dm_workers.proofs.Ends.{deques_agree, found_of}
+use Rattle.dm_workers.proofs.Ends.{deques_agree, accounted_of, found_of}
 use Rattle.dm_workers.proofs.Handing.{handed_words, handed_evaluators, none_gathered}
 use Rattle.dm_workers.proofs.Joined.{given_is}
 use Rattle.dm_workers.proofs.Steps.{capped_low}
@@ -56,14 +56,14 @@ lent_each {F} n (o ∷ os) (w ∷ ws) e all =
     All-cons (HasLent n) o os (here ∙ All-head (λ (v : Worker F). lent_of_worker v ≡ n) w ws all)
     (lent_each n os ws (cc) (All-tail (λ (v : Worker F). lent_of_worker v ≡ n) w ws all))
 
--- new workers who were given no more than one path on each way have done their work
+-- new workers who were given the root have done their work
 pub are_done : {F E : Type 0} (task : GuidedTask) (own : ℕ) (word : TableId) (start : ℕ) (mustered : List (Worker F)) (worked : List (Result (Worker F) E)) (owners : List (TallyValue Path)) (theirs : List RowsId)
-    → map owner_of mustered ≡ owners → map deque_of owners ≡ theirs → ((s : List Bool) → owners_put s owners ≤ 1) → All (HasLentOnly (length owners)) owners
+    → map owner_of mustered ≡ owners → map deque_of owners ≡ theirs → ((h : Weight) → owners_put h owners ≡ h []) → All (HasLentOnly (length owners)) owners
     → AreHandedIn task own word start theirs mustered worked → AreDone task own word start worked
-are_done {F} {E} task own word start mustered worked owners theirs of_mustered deques one lent handed = record {
+are_done {F} {E} task own word start mustered worked owners theirs of_mustered deques root lent handed = record {
   jobs = mustered;
   handed = subst (λ (ds : List RowsId). AreHandedIn {E = E} task own word start ds mustered worked) (sym (worker_deques mustered ∙ (ap (map deque_of) of_mustered ∙ deques))) handed;
-  one = λ s. omega (arith, given_is s mustered, ap (owners_put s) of_mustered, one s);
+  root = λ h. given_is h mustered ∙ (ap (owners_put h) of_mustered ∙ root h);
   lent = workers_lent (length mustered) mustered
       (subst (All (HasLentOnly (length mustered))) (sym of_mustered)
       (subst (λ (n : ℕ). All (HasLentOnly n) owners) (ap length (sym of_mustered) ∙ length-map mustered owner_of) lent));
@@ -85,16 +85,15 @@ pub new_there : {F : Type 0} (task : Task) (own : ℕ) (word : TableId) (from st
 new_there task own word from start ds theirs mustered e d all =
     subst (λ (n : ℕ). All (IsNewWorker task own word n theirs) mustered) e (subst (λ (l : List RowsId). All (IsNewWorker task own word from l) mustered) d all)
 
-pub one_given : (before owners : List (TallyValue Path)) → ((s : List Bool) → owners_put s owners ≡ owners_put s before) → ((s : List Bool) → owners_put s before ≤ 1)
-    → (s : List Bool) → owners_put s owners ≤ 1
-one_given before owners same one s = omega (arith, same s, one s)
+pub root_given : (before owners : List (TallyValue Path)) → ((h : Weight) → owners_put h owners ≡ owners_put h before) → ((h : Weight) → owners_put h before ≡ h [])
+    → (h : Weight) → owners_put h owners ≡ h []
+root_given before owners same root h = same h ∙ root h
 
--- each hand that was split off comes back
-pub rooms_are : {F E : Type 0} (task : GuidedTask) (own : ℕ) (word : TableId) (start : ℕ) (theirs : List RowsId) (mustered : List (Worker F)) (worked : List (Result (Worker F) E)) (owners : List (TallyValue Path)) (workers seats first room : ℕ)
-    → map owner_of mustered ≡ owners → length owners ≡ workers → AreHandedIn task own word start theirs mustered worked → seats ≡ workers + 1 → first ≡ workers + 1 → room ≡ first - length owners
-    → room + length worked ≡ seats
-rooms_are task own word start theirs mustered worked owners workers seats first room of_mustered many handed all has split =
-    omega (arith, ap length of_mustered, length-map mustered owner_of, many, handed_many task own word start theirs mustered worked handed, all, has, split)
+-- there are as many results as deques
+pub results_are : {F E : Type 0} (task : GuidedTask) (own : ℕ) (word : TableId) (start : ℕ) (theirs : List RowsId) (mustered : List (Worker F)) (worked : List (Result (Worker F) E)) (owners : List (TallyValue Path)) (workers : ℕ)
+    → map owner_of mustered ≡ owners → length owners ≡ workers → AreHandedIn task own word start theirs mustered worked → length worked ≡ workers
+results_are task own word start theirs mustered worked owners workers of_mustered many handed =
+    omega (arith, ap length of_mustered, length-map mustered owner_of, many, handed_many task own word start theirs mustered worked handed)
 
 pub all_words : {F E : Type 0} (task : GuidedTask) (own : ℕ) (word : TableId) (start : ℕ) (worked : List (Result (Worker F) E)) → AreDone task own word start worked
     → All (λ r. IfOk r (λ w. w.hand.word ≡ word)) worked
@@ -108,7 +107,7 @@ module _ {F E : Type 0} (net : Net) (rows : RowsValue) (penalty : ℕ) (base : L
     (word : TableId) (hand : HandValue) (choices : List Decision) (best : ℕ) (kept : AreKept (task_beside net rows penalty base budget) own choices best) (first : IsFirstHand own best word hand)
     (worked : List (Result (Worker F) E)) (done : AreDone (record { task = task_beside net rows penalty base budget; hints = hints }) own word hand.start worked)
     (none all : Gathered F)
-    (nothing : (none.owners.items ≡ []) × (none.tallies.items ≡ []) × (none.hand ≡ hand) × (none.leaves.items ≡ []) × (none.best.choices ≡ choices) × (none.best.cost ≡ best))
+    (nothing : (none.owners.items ≡ []) × (none.tallies.items ≡ []) × (none.hand ≡ hand) × (none.leaves.items ≡ []) × (none.given_up.items ≡ []) × (none.best.choices ≡ choices) × (none.best.cost ≡ best))
     (made : (task : GuidedTask) (own start rooms : ℕ) (theirs : List RowsId) (jobs : List (Worker F)) → AreHandedIn task own word start theirs jobs worked → IsGatheredFrom task own word start rooms theirs [] none
     → IsGatheredFrom task own word start rooms theirs jobs all) where
   abbrev task : GuidedTask
@@ -133,23 +132,35 @@ module _ {F E : Type 0} (net : Net) (rows : RowsValue) (penalty : ℕ) (base : L
   pub word_there : all.hand.word ≡ word
   word_there = gathered.gathered.found.word_is
 
-  pub all_rooms : (seats : ℕ) → hand.room + length worked ≡ seats → all.hand.room ≡ seats
-  all_rooms seats is = omega (arith, is, gathered.gathered.found.room, handed_many task own word hand.start theirs done.jobs worked done.handed)
+  pub all_rooms : all.hand.room ≡ hand.room + length worked
+  all_rooms = omega (arith, gathered.gathered.found.room, handed_many task own word hand.start theirs done.jobs worked done.handed)
 
-  pub all_found : (owners : List (TallyValue Path)) → ((s : List Bool) → owners_put s owners ≡ owners_put s all.owners.items)
-      → ((s : List Bool) → owners_taken s owners ≡ owners_taken s all.owners.items + all_taken s all.tallies.items) → ((s : List Bool) → owners_taken s owners ≡ owners_put s owners)
-      → (end : ℕ) → end ≡ lowest all.hand.start all.hand.lowered → end ≤ all.hand.looked → IsFound task own all.leaves.items all.best.choices all.best.cost
-  all_found owners put took within end is looked = found_of task own word hand.start hand.room theirs done.jobs all gathered first.start_is done.one owners put took within end is looked
+  pub all_owners : length all.owners.items ≡ length worked
+  all_owners = omega (
+    arith,
+    ap length gathered.deques,
+    length-map all.owners.items (deque_of {T = Path}),
+    length-map done.jobs (deque_of_worker {F = F}),
+    handed_many task own word hand.start theirs done.jobs worked done.handed,
+  )
+
+  module _ (settled owners : List (TallyValue Path)) (left : List Path) (put : (h : Weight) → owners_put h settled ≡ owners_put h all.owners.items)
+      (took : (h : Weight) → owners_taken h settled ≡ owners_taken h all.owners.items + all_taken h all.tallies.items) (put_there : (h : Weight) → owners_put h owners ≡ owners_put h settled)
+      (took_there : (h : Weight) → owners_taken h owners + sum_by h all.given_up.items ≡ owners_taken h settled + sum_by h left) where
+    pub all_accounted : IsAccounted task owners all.leaves.items left
+    all_accounted = accounted_of task own word hand.start hand.room theirs done.jobs all gathered done.root settled owners left put took put_there took_there
+
+    pub all_found : All IsDrained owners → IsFound task own all.hand all.leaves.items all.best.choices all.best.cost
+    all_found drained = found_of task own word hand.start hand.room theirs done.jobs all gathered first.start_is owners left all_accounted drained
 
 -- the first hand, once the word is lowered by what the choices cost that are kept and so many hands are split off
-pub first_hand : (own best room start k : ℕ) (word : TableId) (new lower last : HandValue) → start ≡ min own nothing_looked → k ≡ min best nothing_looked
-    → new ≡ record { word = word; start = start; lowered = []; looked = nothing_looked; room = room }
+pub first_hand : (own best k : ℕ) (word : TableId) (new lower last : HandValue) → new.word ≡ word → new.start ≡ min own nothing_looked → new.lowered ≡ [] → k ≡ min best nothing_looked
     → lower ≡ record new { lowered = new.lowered ++ k ∷ [] } → (n : ℕ) → last ≡ record lower { room = n } → IsFirstHand own best word last
-first_hand own best room start k word new lower last starts capped is low n split = record {
-  word_is = ap (λ (h : HandValue). h.word) split ∙ (ap (λ (h : HandValue). h.word) low ∙ ap (λ (h : HandValue). h.word) is);
-  start_is = ap (λ (h : HandValue). h.start) split ∙ (ap (λ (h : HandValue). h.start) low ∙ (ap (λ (h : HandValue). h.start) is ∙ starts));
+first_hand own best k word new lower last here starts none capped low n split = record {
+  word_is = ap (λ (h : HandValue). h.word) split ∙ (ap (λ (h : HandValue). h.word) low ∙ here);
+  start_is = ap (λ (h : HandValue). h.start) split ∙ (ap (λ (h : HandValue). h.start) low ∙ starts);
   lowered = subst (AreListed best) (sym (ap (λ (h : HandValue). h.lowered) split ∙ (ap (λ (h : HandValue). h.lowered) low
-      ∙ ap (λ (h : HandValue). h.lowered ++ k ∷ []) is)))
+      ∙ ap (λ (ks : List ℕ). ks ++ k ∷ []) none)))
       (All-push (λ c. (best ≤ c) ⊎ (c ≡ nothing_looked)) [] k (All-nil (λ c. (best ≤ c) ⊎ (c ≡ nothing_looked)))
       (subst (λ (c : ℕ). (best ≤ c) ⊎ (c ≡ nothing_looked)) (sym capped) (capped_low best best (omega arith))));
 }

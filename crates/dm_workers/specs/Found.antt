@@ -1,5 +1,5 @@
 -- What the workers of a search have found, and what the plan has of it.
-use Rattle.std.specs.Prelude.{ℕ, ◌≡◌, ◌<◌, ◌≤◌, ◌⊎◌, List, [], length, map, sum_by, All}
+use Rattle.std.specs.Prelude.{ℕ, ◌≡◌, ◌<◌, ◌≤◌, ◌⊎◌, List, [], length, map, min, All}
 use Rattle.dm_rows.specs.declared.messages.Decision.{Decision}
 use Rattle.dm_rows.specs.Cost.{Costs}
 use Rattle.dm_rows.specs.Decide.{choice_of}
@@ -9,8 +9,7 @@ use Rattle.dm_tree.specs.declared.forms.Node.{Node}
 use Rattle.dm_tree.specs.declared.forms.Node.TheVariants.{Inner, Cycle, Bound, Open, Hole}
 use Rattle.dm_tree.specs.Plans.{Task, AreSomeOf, DiffersFrom, CostsWith, CostsRelaxed, IsTrueCycle, IsViolatedThere}
 use Rattle.dm_tree.specs.Trees.{Assembles}
-use Rattle.dm_bound.specs.Words.{nothing_looked}
-use Rattle.dm_deques.specs.Deques.{TallyValue}
+use Rattle.dm_bound.specs.Words.{HandValue, nothing_looked}
 use Rattle.dm_search.specs.Finish.{GoesOnFrom}
 use Rattle.dm_workers.specs.Ways.{GoesDown, StandApart}
 use Rattle.dm_workers.specs.Nodes.{GuidedTask, IsChosen}
@@ -42,21 +41,18 @@ pub record AreKept (task : Task) (own : ℕ) (choices : List Decision) (cost : �
   pub costs : CostsWith task choices cost
   pub no_dearer : cost ≤ own
 
--- Leaves that stand apart, of which each is known, whose bounds are no less than what the kept choices cost. So is a value at
--- which bounds may have been shown; that it is the least which a worker has looked at is no part of this.
-pub record IsFound (task : GuidedTask) (own : ℕ) (leaves : List Leaf) (choices : List Decision) (cost : ℕ) : Type 0 where
-  pub looked : ℕ
-  pub pruned : looked < nothing_looked → cost ≤ looked
-  pub apart : StandApart leaves
-  pub ends : All (IsHandedIn task cost looked) leaves
-  pub shown : (c : ℕ) → IsShown cost looked c → cost ≤ c
-  pub kept : AreKept task.task own choices cost
+-- each cost by which the word was lowered is no less than what the kept choices cost, or prunes nothing
+abbrev pub AreListed : ℕ → List ℕ → Type 0
+AreListed best lowered = All (λ c. (best ≤ c) ⊎ (c ≡ nothing_looked)) lowered
 
--- No tally of the deque is out, and however paths are weighed, what was put on it weighs what was taken: each path that was put
--- was taken, once, and the deque is empty.
-pub record IsDrained (owner : TallyValue (List Decision)) : Type 0 where
-  pub lent : owner.account.lent ≡ 0
-  pub balance : (h : List Decision → ℕ) → sum_by h owner.account.put ≡ sum_by h owner.account.taken
+-- Leaves that stand apart, of which each is known, and choices that are kept, by the hand of all workers: the word started at
+-- what the rows cost by themselves, and was lowered only by what such choices cost, or more.
+pub record IsFound (task : GuidedTask) (own : ℕ) (hand : HandValue) (leaves : List Leaf) (choices : List Decision) (cost : ℕ) : Type 0 where
+  pub start : hand.start ≡ min own nothing_looked
+  pub listed : AreListed cost hand.lowered
+  pub apart : StandApart leaves
+  pub ends : All (IsHandedIn task cost hand.looked) leaves
+  pub kept : AreKept task.task own choices cost
 
 -- a tree is the least one with the leaves, where that one keeps to the budget; and one goes on from it
 pub record BeginsFrom (budget : ℕ) (leaves : List Leaf) (tree : List Node) : Type 0 where

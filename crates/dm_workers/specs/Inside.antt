@@ -3,3 +3,4 @@ pub mod Workers
 pub mod Gathering
 pub mod Together
 pub mod Teams
+pub mod Planning

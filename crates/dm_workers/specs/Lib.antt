@@ -1,6 +1,7 @@
--- What a reader must believe: Ways, Nodes, Expanding, Found. What a worker has done and what is gathered: Inside.
+-- What a reader must believe: Ways, Nodes, Accounts, Expanding, Found. What a worker has done and what is gathered: Inside.
 pub mod Ways
 pub mod Nodes
+pub mod Accounts
 pub mod Expanding
 pub mod Found
 pub mod Inside

@@ -24,10 +24,7 @@ on_way [] (d ∷ path) = 0
 on_way (true ∷ sides) (d ∷ path) = if is_first_decision d then on_way sides path else 0
 on_way (false ∷ sides) (d ∷ path) = if is_first_decision d then 0 else on_way sides path
 
--- how many of the paths lie on the way, and how many of the leaves
-abbrev pub paths_on : List Bool → List (List Decision) → ℕ
-paths_on sides paths = sum_by (on_way sides) paths
-
+-- how many of the leaves lie on the way
 abbrev pub leaves_on : List Bool → List Leaf → ℕ
 leaves_on sides leaves = sum_by (λ l. on_way sides l.path) leaves
 

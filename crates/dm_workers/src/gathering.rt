@@ -1,15 +1,14 @@
 //! What the workers hand in, put together.
-ghost use Rattle.std.specs.Prelude.{ℕ, ◌≡◌, ◌+◌, ◌<◌, ◌≤◌, ◌⊎◌, Bool, List, [], ◌∷◌, ◌++◌, length, map, All, IfOk, IfSome, None, OnOk};
+ghost use Rattle.std.specs.Prelude.{ℕ, ◌≡◌, ◌+◌, ◌<◌, ◌≤◌, ◌⊎◌, List, [], ◌∷◌, ◌++◌, length, map, sum_by, All, IfOk, IfSome, None, OnOk};
 ghost use Rattle.atomic_blocks.specs.Lent.{RowsId};
 ghost use Rattle.dm_deques.specs.Sharing.{deque_of};
 ghost use Rattle.dm_search.specs.Moving.{IsOver};
 ghost use Rattle.dm_tree.specs.Plans.{Task};
-ghost use Rattle.dm_workers.specs.Ways.{paths_on};
 ghost use Rattle.dm_workers.specs.Nodes.{GuidedTask};
-ghost use Rattle.dm_workers.specs.Found.{IsDrained};
+ghost use Rattle.dm_workers.specs.Accounts.{Weight, IsDrained, owners_put, owners_taken};
 ghost use Rattle.dm_workers.specs.Inside.Working.{nothing};
 ghost use Rattle.dm_workers.specs.Inside.Workers.{IsWorking};
-ghost use Rattle.dm_workers.specs.Inside.Gathering.{owners_put, owners_taken, all_taken, HasLent};
+ghost use Rattle.dm_workers.specs.Inside.Gathering.{all_taken, HasLent, HasLeft};
 ghost use Rattle.dm_workers.specs.Inside.Together.{IsGathered, IsGatheredFrom, AreHandedIn};
 
 use crate::working::{Best, Path, Worker};
@@ -20,14 +19,15 @@ use dm_search::{BoundWord, Hand};
 use dm_tree::Leaf;
 use std::alloc::{AllocError, Global};
 
-/// What all workers have: their deques, what each has taken from all of them, their hands made one, their leaves, the cheapest of
-/// their choices, and the evaluator of one that has any.
+/// What all workers have: their deques, what each has taken from all of them, their hands made one, their leaves, the nodes that
+/// they have given up, the cheapest of their choices, and the evaluator of one that has any.
 #[derive(Drop)]
 pub(crate) struct Gathered<F: Grown<Path>> {
     pub(crate) owners: Vec<Owner<Path, F>>,
     pub(crate) tallies: Vec<Items<Tally<Path>>>,
     pub(crate) hand: Hand,
     pub(crate) leaves: Vec<Leaf>,
+    pub(crate) given_up: Vec<Path>,
     pub(crate) best: Best,
     pub(crate) evaluator: Option<Evaluator>,
 }
@@ -39,18 +39,20 @@ impl<F: Grown<Path>> Gathered<F> {
         ensures word { IfOk result (λ g. g.hand.word ≡ word.now.id) }
         ensures owners { IfOk result (λ g. g.owners.items ≡ self.owners.items ++ worker.owner ∷ []) }
         ensures tallies { IfOk result (λ g. g.tallies.items ≡ self.tallies.items ++ worker.tallies.items ∷ []) }
+        ensures no_dearer { IfOk result (λ g. g.best.cost ≤ self.best.cost) }
         ensures evaluator { IfOk result (λ g. (task : Task) → IfSome self.evaluator (IsOver task)
             → IfSome worker.evaluator (IsOver task) → IfSome g.evaluator (IsOver task)) }
-        ensures gathered { IfOk result (λ g. (task : GuidedTask) (own start rooms : ℕ) (given more : List Bool → ℕ)
+        ensures gathered { IfOk result (λ g. (task : GuidedTask) (own start rooms : ℕ) (given more : Weight → ℕ)
             → IsGathered task own word.now.id start rooms given self
             → IsWorking task own word.now.id start more nothing worker
-            → IsGathered task own word.now.id start (rooms + 1) (λ s. given s + more s) g) }
+            → IsGathered task own word.now.id start (rooms + 1) (λ h. given h + more h) g) }
     {
         let Gathered {
             mut owners,
             mut tallies,
             mut hand,
             mut leaves,
+            mut given_up,
             best,
             evaluator,
         } = self;
@@ -61,6 +63,7 @@ impl<F: Grown<Path>> Gathered<F> {
             tallies: taken,
             hand: other,
             leaves: mut more,
+            given_up: mut left,
             best: found,
             evaluator: lent,
         } = worker;
@@ -68,12 +71,14 @@ impl<F: Grown<Path>> Gathered<F> {
         owners.push(owner)?;
         tallies.push(Items::from_vec(taken))?;
         leaves.append(&mut more)?;
+        given_up.append(&mut left)?;
         let best = cheaper(best, found);
         Ok(Gathered {
             owners,
             tallies,
             hand,
             leaves,
+            given_up,
             best,
             evaluator: either(evaluator, lent),
         })
@@ -83,7 +88,7 @@ impl<F: Grown<Path>> Gathered<F> {
 /// What is gathered before any worker's, with a hand and choices that are kept.
 pub(crate) fn nothing_gathered<F: Grown<Path>>(alloc: Global, best: Best, hand: Hand) -> Gathered<F>
     ensures nothing { (result.owners.items ≡ []) × (result.tallies.items ≡ []) × (result.hand ≡ hand)
-        × (result.leaves.items ≡ []) × (result.best.choices ≡ best.choices) × (result.best.cost ≡ best.cost) }
+        × (result.leaves.items ≡ []) × (result.given_up.items ≡ []) × (result.best.choices ≡ best.choices) × (result.best.cost ≡ best.cost) }
     ensures evaluator { result.evaluator ≡ None }
 {
     Gathered {
@@ -91,6 +96,7 @@ pub(crate) fn nothing_gathered<F: Grown<Path>>(alloc: Global, best: Best, hand: 
         tallies: Vec::new(alloc),
         hand,
         leaves: Vec::new(alloc),
+        given_up: Vec::new(alloc),
         best,
         evaluator: None,
     }
@@ -104,6 +110,7 @@ pub(crate) fn gather<F: Grown<Path>>(
 ) -> Result<Gathered<F>, AllocError>
     requires word { first.hand.word ≡ word.now.id }
     requires words { All (λ r. IfOk r (λ w. w.hand.word ≡ word.now.id)) worked.items }
+    ensures no_dearer { IfOk result (λ g. g.best.cost ≤ first.best.cost) }
     ensures evaluator { IfOk result (λ g. (task : Task) → IfSome first.evaluator (IsOver task)
         → All (λ r. IfOk r (λ w. IfSome w.evaluator (IsOver task))) worked.items → IfSome g.evaluator (IsOver task)) }
     ensures gathered { IfOk result (λ g. (task : GuidedTask) (own start rooms : ℕ) (theirs : List RowsId) (jobs : List (Worker F))
@@ -146,9 +153,10 @@ pub(crate) fn settle_all<F: Grown<Path>>(
     tallies: Vec<Items<Tally<Path>>>,
 ) -> Result<Vec<Owner<Path, F>>, AllocError>
     requires deques { All (λ ts. map deque_of ts ≡ map deque_of owners.items) tallies.items }
-    ensures put { IfOk result (λ r. (s : List Bool) → owners_put s r.items ≡ owners_put s owners.items) }
-    ensures taken { IfOk result (λ r. (s : List Bool)
-        → owners_taken s r.items ≡ owners_taken s owners.items + all_taken s tallies.items) }
+    ensures many { IfOk result (λ r. length r.items ≡ length owners.items) }
+    ensures put { IfOk result (λ r. (h : Weight) → owners_put h r.items ≡ owners_put h owners.items) }
+    ensures taken { IfOk result (λ r. (h : Weight)
+        → owners_taken h r.items ≡ owners_taken h owners.items + all_taken h tallies.items) }
     ensures lent { IfOk result (λ r. (n : ℕ) → All (HasLent (n + length tallies.items)) owners.items → All (HasLent n) r.items) }
 {
     let mut settled = owners;
@@ -159,32 +167,44 @@ pub(crate) fn settle_all<F: Grown<Path>>(
     Ok(settled)
 }
 
-/// The owners, where each finds its deque empty and has no tally out: what was put was then taken. No worker stops while there is a
-/// path on its own deque, so that it is.
-pub(crate) fn check_empty<F: Grown<Path>>(
+/// The owners, with no tally out, once each has taken what is left on its deque, which is given up.
+pub(crate) fn drain_all<F: Grown<Path>>(
     alloc: Global,
     owners: Vec<Owner<Path, F>>,
+    given_up: &mut Vec<Path>,
 ) -> Result<Vec<Owner<Path, F>>, AllocError>
     requires { All (HasLent 0) owners.items }
     ensures drained { IfOk result (λ r. All IsDrained r.items) }
-    ensures all { OnOk result ((s : List Bool) → owners_taken s owners.items ≡ owners_put s owners.items) }
+    ensures many { IfOk result (λ r. length r.items ≡ length owners.items) }
+    ensures put { IfOk result (λ r. (h : Weight) → owners_put h r.items ≡ owners_put h owners.items) }
+    ensures taken { IfOk result (λ r. (h : Weight) → owners_taken h r.items + sum_by h given_up.old.items
+        ≡ owners_taken h owners.items + sum_by h given_up.new.items) }
 {
     let mut drained = Vec::with_capacity(alloc, owners.len())?;
     for owner in owners {
-        let empty = check_one(owner)?;
-        drained.push(empty)?;
+        let mut owner = owner;
+        drain(&mut owner, given_up)?;
+        drained.push(owner)?;
     }
     Ok(drained)
 }
 
-fn check_one<F: Grown<Path>>(owner: Owner<Path, F>) -> Result<Owner<Path, F>, AllocError>
-    requires { HasLent 0 owner }
-    ensures drained { IfOk result IsDrained }
-    ensures same { OnOk result ((s : List Bool) → paths_on s owner.account.taken ≡ paths_on s owner.account.put) }
+/// Has an owner with no tally out take what is left on its deque, which is given up.
+fn drain<F: Grown<Path>>(
+    owner: &mut Owner<Path, F>,
+    given_up: &mut Vec<Path>,
+) -> Result<(), AllocError>
+    requires { HasLent 0 owner.old }
+    ensures drained { OnOk result (IsDrained owner.new) }
+    ensures left { OnOk result (HasLeft owner.old owner.new given_up.old.items given_up.new.items) }
 {
-    let mut owner = owner;
-    match owner.take() {
-        None => Ok(owner),
-        Some(_path) => Err(AllocError),
+    let many = owner.count();
+    for _path in 0..many {
+        match owner.take() {
+            Some(path) => given_up.push(path)?,
+            None => return Ok(()),
+        }
     }
+    let _none = owner.count();
+    Ok(())
 }

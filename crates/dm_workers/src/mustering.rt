@@ -1,7 +1,8 @@
 //! The workers of a search, before it begins.
-ghost use Rattle.std.specs.Prelude.{◌≡◌, ◌-◌, ◌<◌, ◌≤◌, Bool, List, [], ◌∷◌, map, All, length, IfOk, OnOk};
+ghost use Rattle.std.specs.Prelude.{◌≡◌, ◌-◌, ◌<◌, ◌≤◌, List, [], ◌∷◌, map, All, length, IfOk, OnOk};
 ghost use Rattle.dm_deques.specs.Sharing.{deque_of, new_tally};
-ghost use Rattle.dm_workers.specs.Inside.Gathering.{owners_put, HasTakenNothing, HasLentOnly, AreEquipped};
+ghost use Rattle.dm_workers.specs.Accounts.{Weight, owners_put};
+ghost use Rattle.dm_workers.specs.Inside.Gathering.{HasTakenNothing, HasLentOnly, AreEquipped};
 ghost use Rattle.dm_search.specs.Moving.{IsOver};
 ghost use Rattle.dm_tree.specs.Plans.{Task};
 ghost use Rattle.dm_workers.specs.Inside.Workers.{IsNewWorker, owner_of};
@@ -22,7 +23,7 @@ pub(crate) fn enlist<F: Grown<Path>>(
     requires some { 1 ≤ workers }
     ensures many { IfOk result (λ r. length r.0.items ≡ workers) }
     ensures thieves { IfOk result (λ r. map deque_of r.0.items ≡ r.1.items) }
-    ensures root { IfOk result (λ r. (s : List Bool) → owners_put s r.0.items ≤ 1) }
+    ensures root { IfOk result (λ r. (h : Weight) → owners_put h r.0.items ≡ h []) }
     ensures new { IfOk result (λ r. All (HasLentOnly 0) r.0.items) }
 {
     let first = begin(alloc)?;
@@ -42,7 +43,7 @@ pub(crate) fn enlist<F: Grown<Path>>(
 fn begin<F: Grown<Path>>(alloc: Global) -> Result<Owner<Path, F>, AllocError>
     requires root { F.fits [] }
     ensures new { IfOk result (HasLentOnly 0) }
-    ensures root { IfOk result (λ o. (s : List Bool) → owners_put s (o ∷ []) ≤ 1) }
+    ensures root { IfOk result (λ o. (h : Weight) → owners_put h (o ∷ []) ≡ h []) }
 {
     let mut owner = Owner::new(alloc)?;
     let Ok(()) = owner.put(Items::from_vec(Vec::new(alloc))) else {
@@ -110,10 +111,6 @@ pub(crate) fn muster<F: Grown<Path>>(
             unreachable!()
         };
         who = who.saturating_add(1);
-        let best = Best {
-            choices: Items::from_vec(Vec::new(alloc)),
-            cost: own,
-        };
         let part = word.split(hand);
         workers.push(Worker {
             who,
@@ -122,7 +119,8 @@ pub(crate) fn muster<F: Grown<Path>>(
             tallies: tallies.into_vec(),
             hand: part,
             leaves: Vec::new(alloc),
-            best,
+            given_up: Vec::new(alloc),
+            best: Best::of_rows(alloc, own),
             evaluator: lend(&mut evaluators),
         })?;
     }

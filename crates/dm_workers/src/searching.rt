@@ -1,6 +1,7 @@
 //! A search by several workers that ends with a true plan.
-ghost use Rattle.std.specs.Prelude.{◌≡◌, ◌≤◌, [], ◌∷◌, All, IfOk, IfSome};
+ghost use Rattle.std.specs.Prelude.{ℕ, ◌≡◌, ◌<◌, ◌≤◌, [], ◌∷◌, min, All, IfOk, IfSome};
 ghost use Rattle.dm_base.specs.declared.limits.TheConstants.{BUDGET, PENALTY, WORKERS};
+ghost use Rattle.dm_bound.specs.Words.{nothing_looked};
 ghost use Rattle.dm_search.specs.Finish.{IsStart};
 ghost use Rattle.dm_search.specs.Moving.{IsOver};
 ghost use Rattle.dm_tree.specs.Plans.{IsTruePlan, whole_task};
@@ -8,21 +9,24 @@ ghost use Rattle.dm_tree.specs.Trees.{Assembles};
 ghost use Rattle.dm_tree.specs.declared.forms.Node.TheVariants.{Hole};
 ghost use Rattle.dm_guide.specs.Tasks.{task_of, IsPosedTask};
 ghost use Rattle.dm_rows.specs.Active.{HasNoCycle};
+ghost use Rattle.dm_rows.specs.Cost.{Costs};
 ghost use Rattle.dm_rows.specs.Rows.{IsSized};
 ghost use Rattle.dm_workers.specs.Nodes.{guided_by, PicksNodes};
 ghost use Rattle.dm_workers.specs.Found.{IsOwnCost, AreKept, IsFound, BeginsFrom, GrowsFrom};
+ghost use Rattle.dm_workers.specs.Inside.Planning.{IsBestOf, IsLed, IsClosed};
 
+use crate::expanding::capped;
 use crate::finding::{Beginning, Found, find};
 use crate::rounds::{begin, judge_and_guide};
 use crate::working::{Best, Path, lend, made};
-use dm_base::{Cost, Items};
+use dm_base::Cost;
 use dm_deques::Grown;
 use dm_desk::HoldPoint;
 use dm_evaluate::Evaluator;
 use dm_guide::Guide;
 use dm_network::Network;
 use dm_rows::{Decision, Snapshot};
-use dm_search::{Outcome, Task, finish_with, step_along, whole};
+use dm_search::{BoundWord, Outcome, Task, finish_with, step_along, whole};
 use dm_tree::{AssembleFault, Leaf, Partial, Plan, assemble};
 use std::alloc::{AllocError, Global};
 use std::marker::Brand;
@@ -49,6 +53,7 @@ pub fn search<R: Threads + Wait + Sync, H: HoldPoint + Sync>(
     requires workers { (1 ≤ workers) × (workers ≤ WORKERS) }
     ensures plan { IfOk result (IsTruePlan (whole_task net.now snapshot.now.rows penalty budget)) }
     ensures entry { IfOk result (λ plan. plan.entry ≡ snapshot.now.entry) }
+    ensures no_dearer { IfOk result (λ plan. (own : ℕ) → Costs net.now snapshot.now.rows penalty own → plan.cost ≤ own) }
 {
     let rows = &snapshot.rows;
     let task = whole(alloc, net, rows, penalty, budget);
@@ -70,36 +75,49 @@ pub fn search_task<R: Threads + Wait + Sync, H: HoldPoint + Sync>(
     requires workers { (1 ≤ workers) × (workers ≤ WORKERS) }
     ensures plan { IfOk result (IsTruePlan (task_of task.now)) }
     ensures entry { IfOk result (λ plan. plan.entry ≡ entry) }
+    ensures no_dearer { IfOk result (λ plan. (own : ℕ) → IsOwnCost (task_of task.now) own → plan.cost ≤ own) }
 {
     let (own, searchers) = begin(rt, task, workers)?;
     let mut searchers = searchers;
     let (evaluators, guide) = judge_and_guide(rt, task, own, searchers.as_mut_slice())?;
-    let beginning = begin_with(task, own, evaluators, &guide)?;
-    go_on::<Brand, R, H>(rt, task, entry, guide, beginning, workers, gate)
+    let (word, hand) = BoundWord::new(task.alloc, capped(own), workers + 1)?;
+    let beginning = Beginning {
+        workers,
+        own,
+        best: Best::of_rows(task.alloc, own),
+        hand,
+        evaluators,
+    };
+    let beginning = led_by(task, &guide, beginning)?;
+    go_on::<Brand, R, H>(rt, task, entry, guide, beginning, word, gate)
 }
 
-/// What workers begin with who are led by a guide.
-fn begin_with(
-    task: &Task<'_>,
-    own: Cost,
-    evaluators: Vec<Evaluator>,
-    guide: &Guide,
-) -> Result<Beginning, AllocError>
+/// What workers begin with who are led by a guide: with the choices to which it leads.
+fn led_by(task: &Task<'_>, guide: &Guide, beginning: Beginning) -> Result<Beginning, AllocError>
     requires posed { IsPosedTask task.now }
     requires no_cycle { HasNoCycle task.now.net.now task.now.rows.now }
-    requires own { IsOwnCost (task_of task.now) own }
-    requires evaluators { All (IsOver (task_of task.now)) evaluators.items }
-    ensures own { IfOk result (λ b. b.own ≡ own) }
-    ensures kept { IfOk result (λ b. AreKept (task_of task.now) own b.best.choices b.best.cost) }
+    requires own { IsOwnCost (task_of task.now) beginning.own }
+    requires evaluators { All (IsOver (task_of task.now)) beginning.evaluators.items }
+    ensures same { IfOk result (λ b. (b.workers ≡ beginning.workers) × (b.own ≡ beginning.own) × (b.hand ≡ beginning.hand)) }
+    ensures own { IfOk result (λ b. IsOwnCost (task_of task.now) b.own) }
+    ensures kept { IfOk result (λ b. AreKept (task_of task.now) b.own b.best.choices b.best.cost) }
     ensures evaluators { IfOk result (λ b. All (IsOver (task_of task.now)) b.evaluators.items) }
 {
-    let mut evaluators = evaluators;
+    let Beginning {
+        workers,
+        own,
+        best: _,
+        hand,
+        mut evaluators,
+    } = beginning;
     let mut evaluator = made(task, lend(&mut evaluators))?;
     let best = choices_of(task, own, &mut evaluator, guide)?;
     evaluators.push(evaluator)?;
     Ok(Beginning {
+        workers,
         own,
         best,
+        hand,
         evaluators,
     })
 }
@@ -111,23 +129,27 @@ fn go_on<F: Grown<Path> + Send + Sync, R: Threads + Wait + Sync, H: HoldPoint + 
     entry: u32,
     guide: Guide,
     beginning: Beginning,
-    workers: u32,
+    word: BoundWord,
     gate: &H,
 ) -> Result<Plan, AllocError>
     requires posed { IsPosedTask task.now }
     requires no_cycle { HasNoCycle task.now.net.now task.now.rows.now }
     requires some { 1 ≤ task.now.budget }
-    requires workers { (1 ≤ workers) × (workers ≤ WORKERS) }
+    requires workers { (1 ≤ beginning.workers) × (beginning.workers ≤ WORKERS) }
     requires picks { PicksNodes (guided_by task.now guide) F.fits }
     requires own { IsOwnCost (task_of task.now) beginning.own }
     requires kept { AreKept (task_of task.now) beginning.own beginning.best.choices beginning.best.cost }
+    requires word { (beginning.hand.word ≡ word.id) × (beginning.hand.start ≡ min beginning.own nothing_looked) }
+    requires new { (beginning.hand.lowered ≡ []) × (beginning.workers < beginning.hand.room) }
+    requires alone { beginning.hand.room ≡ word.seats }
     requires evaluators { All (IsOver (task_of task.now)) beginning.evaluators.items }
     ensures plan { IfOk result (IsTruePlan (task_of task.now)) }
     ensures entry { IfOk result (λ plan. plan.entry ≡ entry) }
+    ensures no_dearer { IfOk result (λ plan. plan.cost ≤ beginning.best.cost) }
 {
     let own = beginning.own;
-    let found = find::<F, R, H>(rt, task, &guide, beginning, workers, gate)?;
-    plan_of(task, entry, own, guide, found)
+    let found = find::<F, R, H>(rt, task, &guide, beginning, &word, gate)?;
+    plan_of(task, entry, own, guide, found, word)
 }
 
 /// The choices to which a guide leads, where they cost less than the rows by themselves, and else the rows' own.
@@ -142,17 +164,24 @@ fn choices_of(
     requires own { IsOwnCost (task_of task.now) own }
     requires evaluator { IsOver (task_of task.now) evaluator.old }
     ensures evaluator { IsOver (task_of task.now) evaluator.new }
+    ensures led { IfOk result (λ best. IsLed (task_of task.now) own evaluator.new.path best.choices best.cost) }
     ensures kept { IfOk result (λ best. AreKept (task_of task.now) own best.choices best.cost) }
 {
     task.net.reveal();
     let path = behind(guide.path.as_slice(), task.base.len());
     let outcome = step_along(task, evaluator, path, own)?;
+    Ok(best_of(task.alloc, own, outcome))
+}
+
+/// The choices that an outcome solves, and else the rows' own.
+fn best_of(alloc: Global, own: Cost, outcome: Outcome) -> Best
+    ensures { IsBestOf own outcome result.choices result.cost }
+{
     match outcome {
-        Outcome::Solved(cost, choices) => Ok(Best { choices, cost }),
-        Outcome::Cycle | Outcome::Pruned(_) | Outcome::Branch(_, _) => Ok(Best {
-            choices: Items::from_vec(Vec::new(task.alloc)),
-            cost: own,
-        }),
+        Outcome::Solved(cost, choices) => Best { choices, cost },
+        Outcome::Cycle => Best::of_rows(alloc, own),
+        Outcome::Pruned(_cost) => Best::of_rows(alloc, own),
+        Outcome::Branch(_cost, _choice) => Best::of_rows(alloc, own),
     }
 }
 
@@ -165,7 +194,8 @@ fn behind(path: &[Decision], many: usize) -> &[Decision] {
     }
 }
 
-/// The plan of what workers have found of a guide's tree. It costs no more than their choices; and where the least tree with their
+/// The plan of what workers have found of a guide's tree, by a hand that has all seats of the word. It costs no more than their
+/// choices, and than each value of the word at which they may have pruned. And where the least tree with their
 /// leaves keeps to the budget, each choice, cycle and bound of it stands in the plan's tree at the same path. So a bound that is
 /// handed in is one of the plan.
 pub fn plan_of<F: Grown<Path>>(
@@ -174,24 +204,30 @@ pub fn plan_of<F: Grown<Path>>(
     own: Cost,
     guide: Guide,
     found: Found<F>,
+    word: BoundWord,
 ) -> Result<Plan, AllocError>
     requires posed { IsPosedTask task.now }
     requires no_cycle { HasNoCycle task.now.net.now task.now.rows.now }
     requires some { 1 ≤ task.now.budget }
     requires own { IsOwnCost (task_of task.now) own }
     requires evaluator { IfSome found.evaluator (IsOver (task_of task.now)) }
-    requires found { IsFound (guided_by task.now guide) own found.leaves.items found.best.choices found.best.cost }
+    requires found { IsFound (guided_by task.now guide) own found.hand found.leaves.items found.best.choices found.best.cost }
+    requires word { (found.hand.word ≡ word.id) × (found.hand.room ≡ word.seats) }
     ensures plan { IfOk result (IsTruePlan (task_of task.now)) }
     ensures entry { IfOk result (λ plan. plan.entry ≡ entry) }
     ensures cost { IfOk result (λ plan. plan.cost ≤ found.best.cost) }
+    ensures pruned { found.hand.looked < nothing_looked → IfOk result (λ plan. plan.cost ≤ found.hand.looked) }
     ensures grows { IfOk result (λ plan. GrowsFrom task.now.budget found.leaves.items plan.tree) }
 {
     let Found {
         owners: _owners,
         leaves,
+        given_up: _given_up,
         best,
+        hand,
         evaluator,
     } = found;
+    let _least = word.close(hand);
     let partial = begun(task, &guide, own, &best, leaves)?;
     // The guide's choices are the best ones or dearer.
     let mut left = guide;
@@ -220,7 +256,7 @@ fn begun(
     requires no_cycle { HasNoCycle task.now.net.now task.now.rows.now }
     requires some { 1 ≤ task.now.budget }
     requires own { IsOwnCost (task_of task.now) own }
-    requires found { IsFound (guided_by task.now guide.now) own leaves.items best.now.choices best.now.cost }
+    requires closed { IsClosed (guided_by task.now guide.now) own leaves.items best.now.choices best.now.cost }
     ensures start { IfOk result (λ t. IsStart (task_of task.now) t best.now.choices) }
     ensures begins { IfOk result (BeginsFrom task.now.budget leaves.items) }
 {
@@ -242,7 +278,7 @@ fn tree_of(
     leaves: Vec<Leaf>,
 ) -> Result<Partial, AllocError>
     requires posed { IsPosedTask task.now }
-    requires found { IsFound (guided_by task.now guide.now) own leaves.items best.now.choices best.now.cost }
+    requires closed { IsClosed (guided_by task.now guide.now) own leaves.items best.now.choices best.now.cost }
     ensures { IfOk result (Assembles leaves.items) }
 {
     task.net.reveal();

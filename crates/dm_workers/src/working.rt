@@ -1,18 +1,17 @@
 //! What one worker does.
-ghost use Rattle.std.specs.Prelude.{ℕ, ◌≡◌, ◌++◌, Bool, List, [], ◌∷◌, map, All, IfOk, IfSome, IfNone, OnOk};
+ghost use Rattle.std.specs.Prelude.{ℕ, ◌≡◌, ◌++◌, [], ◌∷◌, map, All, IfOk, IfSome, IfNone, OnOk};
 ghost use Rattle.dm_rows.specs.Active.{HasNoCycle};
 ghost use Rattle.dm_rows.specs.Sides.{first_decision, second_decision};
 ghost use Rattle.dm_guide.specs.Tasks.{task_of, IsPosedTask};
 ghost use Rattle.dm_search.specs.Moving.{IsOver};
 ghost use Rattle.dm_tree.specs.Plans.{Task as PlanTask};
-ghost use Rattle.dm_deques.specs.Rule.{WasEmpty};
 ghost use Rattle.dm_deques.specs.Sharing.{deque_of};
-ghost use Rattle.dm_workers.specs.Ways.{on_way};
+ghost use Rattle.dm_workers.specs.Accounts.{Weight};
 ghost use Rattle.dm_workers.specs.Nodes.{guided_by, IsNode, PicksNodes};
-ghost use Rattle.dm_workers.specs.Inside.Workers.{HasTaken, HasStolen, HasFoundNone, IsHandedTo, IsBetterOf, HasBranched, IsSameWorker};
+ghost use Rattle.dm_workers.specs.Inside.Workers.{HasTaken, HasStolen, HasFoundNone, IsHandedTo, HasGivenUp, IsBetterOf, HasBranched, IsSameWorker};
 ghost use Rattle.dm_workers.specs.Inside.Teams.{WorksIn, IsNewIn, IsDoneIn};
 ghost use Rattle.dm_workers.specs.Found.{IsOwnCost};
-ghost use Rattle.dm_workers.specs.Inside.Working.{nothing};
+ghost use Rattle.dm_workers.specs.Inside.Working.{nothing, only};
 
 use crate::expanding::expand_with;
 use crate::hints::{branching, is_hinted};
@@ -25,7 +24,7 @@ use dm_guide::Guide;
 use dm_rows::{Choice, Decision};
 use dm_search::{BoundWord, Hand, Outcome, Task, evaluator_at_base};
 use dm_tree::{Leaf, Node};
-use std::alloc::AllocError;
+use std::alloc::{AllocError, Global};
 use std::sync::Wait;
 use std::thread;
 
@@ -46,8 +45,21 @@ pub struct Best {
     pub cost: Cost,
 }
 
+impl Best {
+    /// The rows' own: no choices.
+    pub(crate) fn of_rows(alloc: Global, own: Cost) -> Best
+        ensures { (result.choices ≡ []) × (result.cost ≡ own) }
+    {
+        Best {
+            choices: Items::from_vec(Vec::new(alloc)),
+            cost: own,
+        }
+    }
+}
+
 /// One worker of a search: its number from 1, how many branchings it has made, its deque, what it has taken from all deques, its
-/// hand of the word, the leaves that it hands in, its best choices, and an evaluator of the task that is lent to it, if any is.
+/// hand of the word, the leaves that it hands in, the nodes that it has given up, its best choices, and an evaluator of the task
+/// that is lent to it, if any is.
 #[derive(Drop)]
 pub(crate) struct Worker<F: Grown<Path>> {
     pub(crate) who: u32,
@@ -56,6 +68,7 @@ pub(crate) struct Worker<F: Grown<Path>> {
     pub(crate) tallies: Vec<Tally<Path>>,
     pub(crate) hand: Hand,
     pub(crate) leaves: Vec<Leaf>,
+    pub(crate) given_up: Vec<Path>,
     pub(crate) best: Best,
     pub(crate) evaluator: Option<Evaluator>,
 }
@@ -98,7 +111,7 @@ impl<F: Grown<Path>> Worker<F> {
     fn next(&mut self, thieves: &[Thief<Path, F>]) -> Option<Path>
         requires deques { map deque_of self.old.tallies.items ≡ thieves.now }
         ensures taken { IfSome result (λ path. F.fits path × HasTaken self.old self.new path) }
-        ensures none { IfNone result (HasFoundNone self.old self.new × WasEmpty self.old.owner.account) }
+        ensures none { IfNone result (HasFoundNone self.old self.new) }
     {
         match self.owner.take() {
             Some(path) => Some(path),
@@ -113,6 +126,16 @@ impl<F: Grown<Path>> Worker<F> {
     {
         pace.done();
         self.leaves.push(Leaf { path, node })?;
+        Ok(())
+    }
+
+    /// Leaves a node to the search that follows.
+    fn give_up(&mut self, pace: &Pace, path: Path) -> Result<(), AllocError>
+        ensures given_up { OnOk result (HasGivenUp self.old self.new path) }
+        ensures hand { self.new.hand ≡ self.old.hand }
+    {
+        pace.done();
+        self.given_up.push(path)?;
         Ok(())
     }
 
@@ -170,8 +193,8 @@ impl<F: Grown<Path>> Worker<F> {
         requires word { self.old.hand.word ≡ team.now.word.now.id }
         ensures evaluator { IsOver (task_of team.now.task.now) evaluator.new }
         ensures same { OnOk result (IsSameWorker self.old self.new) }
-        ensures works { OnOk result ((given : List Bool → ℕ) (start : ℕ)
-            → WorksIn team.now start given (λ s. on_way s path) self.old
+        ensures works { OnOk result ((given : Weight → ℕ) (start : ℕ)
+            → WorksIn team.now start given (only path) self.old
             → WorksIn team.now start given nothing self.new) }
     {
         let task = team.task;
@@ -193,9 +216,8 @@ impl<F: Grown<Path>> Worker<F> {
                 } else if team.own <= cost {
                     self.hand_in(team.pace, path, Node::Bound(cost))
                 } else {
-                    // No cost is so great: the node is left to the search that follows.
-                    team.pace.done();
-                    Ok(())
+                    // No cost is so great.
+                    self.give_up(team.pace, path)
                 }
             }
             Outcome::Solved(cost, choices) => {
@@ -214,8 +236,7 @@ impl<F: Grown<Path>> Worker<F> {
         }
     }
 
-    /// Works until no node is left, or until some worker wants memory. What is taken and not expanded is left to the search that
-    /// follows.
+    /// Works until no node is left, or until some worker wants memory. What is taken and not expanded is given up.
     fn work_on<R: Wait, H: HoldPoint>(
         self,
         rt: &R,
@@ -230,8 +251,7 @@ impl<F: Grown<Path>> Worker<F> {
         requires evaluator { IfSome self.evaluator (IsOver (task_of team.now.task.now)) }
         ensures evaluator { IfOk result (λ w. IfSome w.evaluator (IsOver (task_of team.now.task.now))) }
         ensures same { IfOk result (IsSameWorker self) }
-        ensures empty { IfOk result (λ w. WasEmpty w.owner.account) }
-        ensures works { IfOk result (λ w. (given : List Bool → ℕ) (start : ℕ)
+        ensures works { IfOk result (λ w. (given : Weight → ℕ) (start : ℕ)
             → WorksIn team.now start given nothing self
             → WorksIn team.now start given nothing w) }
     {
@@ -258,8 +278,7 @@ impl<F: Grown<Path>> Worker<F> {
         requires word { self.old.hand.word ≡ team.now.word.now.id }
         ensures evaluator { IsOver (task_of team.now.task.now) evaluator.new }
         ensures same { OnOk result (IsSameWorker self.old self.new) }
-        ensures empty { OnOk result (WasEmpty self.new.owner.account) }
-        ensures works { OnOk result ((given : List Bool → ℕ) (start : ℕ)
+        ensures works { OnOk result ((given : Weight → ℕ) (start : ℕ)
             → WorksIn team.now start given nothing self.old
             → WorksIn team.now start given nothing self.new) }
     {
@@ -302,13 +321,12 @@ impl<F: Grown<Path>> Worker<F> {
         requires word { self.old.hand.word ≡ team.now.word.now.id }
         ensures evaluator { IsOver (task_of team.now.task.now) evaluator.new }
         ensures same { OnOk result (IsSameWorker self.old self.new) }
-        ensures works { OnOk result ((given : List Bool → ℕ) (start : ℕ)
-            → WorksIn team.now start given (λ s. on_way s path) self.old
+        ensures works { OnOk result ((given : Weight → ℕ) (start : ℕ)
+            → WorksIn team.now start given (only path) self.old
             → WorksIn team.now start given nothing self.new) }
     {
         if self.branched >= team.share || !team.pace.goes_on() {
-            team.pace.done();
-            return Ok(());
+            return self.give_up(team.pace, path);
         }
         gate.hold_up(self.who, EXPANDS);
         self.expand(team, evaluator, path)

@@ -1,9 +1,10 @@
 -- What workers do in a team: for its task and guide, over its word and deques.
-use Rattle.std.specs.Prelude.{ℕ, Bool, List, Result}
+use Rattle.std.specs.Prelude.{ℕ, List, Result}
 use Rattle.dm_guide.specs.Tasks.{task_of}
 use Rattle.dm_workers.specs.declared.working.Team.{Team}
 use Rattle.dm_workers.specs.declared.working.Worker.{Worker}
 use Rattle.dm_workers.specs.Nodes.{guided_by}
+use Rattle.dm_workers.specs.Accounts.{Weight}
 use Rattle.dm_workers.specs.Inside.Workers.{IsWorking, IsNewWorker, IsDone}
 use Rattle.dm_workers.specs.Inside.Together.{AreHandedIn}
 
@@ -11,7 +12,7 @@ module _ {F : Type 0} where
   abbrev pub IsNewIn : Team F → Worker F → Type 0
   IsNewIn t w = IsNewWorker (task_of t.task.now) t.own t.word.now.id t.start t.thieves.now.items w
 
-  abbrev pub WorksIn : Team F → ℕ → (List Bool → ℕ) → (List Bool → ℕ) → Worker F → Type 0
+  abbrev pub WorksIn : Team F → ℕ → (Weight → ℕ) → (Weight → ℕ) → Worker F → Type 0
   WorksIn t start given in_hand w = IsWorking (guided_by t.task.now t.guide.now) t.own t.word.now.id start given in_hand w
 
   abbrev pub IsDoneIn : Team F → Worker F → Worker F → Type 0

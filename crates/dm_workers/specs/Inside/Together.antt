@@ -1,22 +1,23 @@
 -- Workers that have done their work, and what is put together of them.
-use Rattle.std.specs.Prelude.{ℕ, ◌≡◌, ◌+◌, ◌≤◌, Bool, List, [], ◌∷◌, length, map, min, sum_by, All, Result, IfOk, IfSome}
+use Rattle.std.specs.Prelude.{ℕ, ◌≡◌, ◌+◌, List, [], ◌∷◌, length, map, min, sum_by, All, Result, IfOk, IfSome}
 use Rattle.atomic_table.specs.Seated.{TableId}
 use Rattle.atomic_blocks.specs.Lent.{RowsId}
 use Rattle.dm_bound.specs.Words.{HandValue, nothing_looked}
 use Rattle.dm_deques.specs.Sharing.{deque_of}
 use Rattle.dm_search.specs.Moving.{IsOver}
-use Rattle.dm_workers.specs.Ways.{paths_on}
 use Rattle.dm_workers.specs.declared.working.Worker.{Worker}
 use Rattle.dm_workers.specs.declared.gathering.Gathered.{Gathered}
 use Rattle.dm_workers.specs.Nodes.{GuidedTask}
-use Rattle.dm_workers.specs.Inside.Working.{nothing, AreListed}
+use Rattle.dm_workers.specs.Accounts.{Weight}
+use Rattle.dm_workers.specs.Found.{AreListed}
+use Rattle.dm_workers.specs.Inside.Working.{nothing}
 use Rattle.dm_workers.specs.Inside.Workers.{IsWorking}
 use Rattle.dm_workers.specs.Inside.Gathering.{AreGathered, all_taken, lent_of}
 
 module _ {F : Type 0} where
-  -- how many paths on the way some workers were given
-  abbrev pub given_to : List Bool → List (Worker F) → ℕ
-  given_to sides workers = sum_by (λ w. paths_on sides w.owner.account.put) workers
+  -- what some workers were given
+  abbrev pub given_to : Weight → List (Worker F) → ℕ
+  given_to h workers = sum_by (λ w. sum_by h w.owner.account.put) workers
 
   abbrev pub deque_of_worker : Worker F → RowsId
   deque_of_worker w = w.owner.deque
@@ -25,15 +26,15 @@ module _ {F : Type 0} where
   lent_of_worker w = w.owner.account.lent
 
   -- what all have gathered, where the tallies' paths count too
-  abbrev pub IsGathered : GuidedTask → ℕ → TableId → ℕ → ℕ → (List Bool → ℕ) → Gathered F → Type 0
+  abbrev pub IsGathered : GuidedTask → ℕ → TableId → ℕ → ℕ → (Weight → ℕ) → Gathered F → Type 0
   IsGathered task own word start rooms given g =
       AreGathered task own word start rooms given
-      (λ s. all_taken s g.tallies.items) g.owners.items g.hand g.leaves.items g.best.choices g.best.cost
+      (λ h. all_taken h g.tallies.items) g.owners.items g.hand g.leaves.items g.given_up.items g.best.choices g.best.cost
 
   -- what was gathered from these workers, after a start with so many rooms
   pub record IsGatheredFrom (task : GuidedTask) (own : ℕ) (word : TableId) (start rooms : ℕ) (theirs : List RowsId)
       (workers : List (Worker F)) (g : Gathered F) : Type 0 where
-    pub gathered : IsGathered task own word start (rooms + length workers) (λ s. given_to s workers) g
+    pub gathered : IsGathered task own word start (rooms + length workers) (λ h. given_to h workers) g
     pub deques : map deque_of g.owners.items ≡ map deque_of_worker workers
     pub lent : map lent_of g.owners.items ≡ map lent_of_worker workers
     pub many : length g.tallies.items ≡ length workers
@@ -42,7 +43,7 @@ module _ {F : Type 0} where
   -- a worker has done its work
   pub record HandsIn (task : GuidedTask) (own : ℕ) (word : TableId) (start : ℕ) (theirs : List RowsId)
       (before after : Worker F) : Type 0 where
-    pub works : IsWorking task own word start (λ s. paths_on s before.owner.account.put) nothing after
+    pub works : IsWorking task own word start (λ h. sum_by h before.owner.account.put) nothing after
     pub deque : after.owner.deque ≡ before.owner.deque
     pub lent : after.owner.account.lent ≡ before.owner.account.lent
     pub deques : map deque_of after.tallies.items ≡ theirs
@@ -56,12 +57,12 @@ module _ {F : Type 0} where
   AreHandedIn task own word start theirs (w ∷ ws) (r ∷ rs) = IfOk r (HandsIn task own word start theirs w)
       × AreHandedIn task own word start theirs ws rs
 
-  -- Workers of some deques have done their work, who were given no more than one path on each way, and a tally of each deque.
+  -- Workers of some deques have done their work, who were given the root, once, and a tally of each deque.
   pub record AreDone {E : Type 0} (task : GuidedTask) (own : ℕ) (word : TableId) (start : ℕ)
       (worked : List (Result (Worker F) E)) : Type 0 where
     pub jobs : List (Worker F)
     pub handed : AreHandedIn task own word start (map deque_of_worker jobs) jobs worked
-    pub one : (sides : List Bool) → given_to sides jobs ≤ 1
+    pub root : (h : Weight) → given_to h jobs ≡ h []
     pub lent : All (λ w. lent_of_worker w ≡ length jobs) jobs
 
 -- A hand of the word that has looked at nothing, where the word starts at what the rows cost by themselves. It has lowered the

@@ -1,5 +1,5 @@
 -- Workers, and what each of their steps changes.
-use Rattle.std.specs.Prelude.{ℕ, ◌≡◌, ◌+◌, ◌<◌, ◌≤◌, ◌⊎◌, Bool, List, [], ◌∷◌, ◌++◌, map, IfSome}
+use Rattle.std.specs.Prelude.{ℕ, ◌≡◌, ◌+◌, ◌<◌, ◌≤◌, ◌⊎◌, List, [], ◌∷◌, ◌++◌, map, sum_by, IfSome}
 use Rattle.atomic_table.specs.Seated.{TableId}
 use Rattle.atomic_blocks.specs.Lent.{RowsId}
 use Rattle.dm_rows.specs.declared.messages.Choice.{Choice}
@@ -10,21 +10,20 @@ use Rattle.dm_tree.specs.Plans.{Task}
 use Rattle.dm_search.specs.Moving.{IsOver}
 use Rattle.dm_deques.specs.Deques.{TallyValue, having_put}
 use Rattle.dm_deques.specs.Sharing.{deque_of, new_tally}
-use Rattle.dm_deques.specs.Rule.{WasEmpty}
-use Rattle.dm_workers.specs.Ways.{on_way, paths_on}
 use Rattle.dm_workers.specs.Nodes.{GuidedTask}
 use Rattle.dm_workers.specs.declared.working.Worker.{Worker}
-use Rattle.dm_workers.specs.Inside.Working.{Path, taken_on, IsAtWork, nothing}
+use Rattle.dm_workers.specs.Accounts.{Path, Weight}
+use Rattle.dm_workers.specs.Inside.Working.{tallies_taken, IsAtWork, nothing}
 
 -- a tally has taken the path
 pub record HasStolen (old new : List (TallyValue Path)) (path : Path) : Type 0 where
   pub deques : map deque_of new ≡ map deque_of old
-  pub weighs : (sides : List Bool) → taken_on sides new ≡ taken_on sides old + on_way sides path
+  pub weighs : (h : Weight) → tallies_taken h new ≡ tallies_taken h old + h path
 
 module _ {F : Type 0} where
-  abbrev pub IsWorking : GuidedTask → ℕ → TableId → ℕ → (List Bool → ℕ) → (List Bool → ℕ) → Worker F → Type 0
+  abbrev pub IsWorking : GuidedTask → ℕ → TableId → ℕ → (Weight → ℕ) → (Weight → ℕ) → Worker F → Type 0
   IsWorking task own word start given in_hand w =
-      IsAtWork task own word start given in_hand w.owner w.tallies.items w.hand w.leaves.items w.best.choices w.best.cost
+      IsAtWork task own word start given in_hand w.owner w.tallies.items w.hand w.leaves.items w.given_up.items w.best.choices w.best.cost
 
   -- the worker has its number and its deque, and tallies of the same deques
   pub record IsSameWorker (old new : Worker F) : Type 0 where
@@ -41,9 +40,8 @@ module _ {F : Type 0} where
     pub lent : new.owner.account.lent ≡ old.owner.account.lent
     pub deque : new.owner.deque ≡ old.owner.deque
     pub deques : map deque_of new.tallies.items ≡ map deque_of old.tallies.items
-    pub weighs : (sides : List Bool) →
-        paths_on sides new.owner.account.taken + taken_on sides new.tallies.items
-        ≡ paths_on sides old.owner.account.taken + taken_on sides old.tallies.items + on_way sides path
+    pub weighs : (h : Weight) → sum_by h new.owner.account.taken + tallies_taken h new.tallies.items
+        ≡ sum_by h old.owner.account.taken + tallies_taken h old.tallies.items + h path
 
   -- it has found no path
   pub record HasFoundNone (old new : Worker F) : Type 0 where
@@ -55,6 +53,11 @@ module _ {F : Type 0} where
   pub record IsHandedTo (old new : Worker F) (path : Path) (node : Node) : Type 0 where
     pub same : new ≡ record old { leaves = new.leaves }
     pub leaves : new.leaves.items ≡ old.leaves.items ++ record { path = path; node = node } ∷ []
+
+  -- it has given up one path more
+  pub record HasGivenUp (old new : Worker F) (path : Path) : Type 0 where
+    pub same : new ≡ record old { given_up = new.given_up }
+    pub given_up : new.given_up.items ≡ old.given_up.items ++ path ∷ []
 
   -- it has the cheaper of two lists of choices
   pub record IsBetterOf (old new : Worker F) (cost : ℕ) (choices : List Decision) : Type 0 where
@@ -70,11 +73,10 @@ module _ {F : Type 0} where
           ((path ++ first_decision choice ∷ []) ∷ []);
     }
 
-  -- it has done its work, and has found its deque empty at the end; an evaluator that it has is one of the task
+  -- it has done its work; an evaluator that it has is one of the task
   pub record IsDone (task : GuidedTask) (own : ℕ) (word : TableId) (start : ℕ) (theirs : List RowsId)
       (before after : Worker F) : Type 0 where
-    pub works : IsWorking task own word start (λ s. paths_on s before.owner.account.put) nothing after
-    pub empty : WasEmpty after.owner.account
+    pub works : IsWorking task own word start (λ h. sum_by h before.owner.account.put) nothing after
     pub evaluator : IfSome after.evaluator (IsOver task.task)
     pub deque : after.owner.deque ≡ before.owner.deque
     pub lent : after.owner.account.lent ≡ before.owner.account.lent
@@ -86,6 +88,7 @@ module _ {F : Type 0} where
     pub taken : w.owner.account.taken ≡ []
     pub tallies : w.tallies.items ≡ map new_tally theirs
     pub leaves : w.leaves.items ≡ []
+    pub given_up : w.given_up.items ≡ []
     pub word_is : w.hand.word ≡ word
     pub start_is : w.hand.start ≡ start
     pub room : w.hand.room ≡ 1

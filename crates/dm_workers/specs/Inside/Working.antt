@@ -1,24 +1,17 @@
 -- What a worker has done.
-use Rattle.std.specs.Prelude.{ℕ, ◌≡◌, ◌+◌, ◌≤◌, ◌⊎◌, Bool, List, sum_by, All}
+use Rattle.std.specs.Prelude.{ℕ, ◌≡◌, ◌+◌, List, sum_by, All}
 use Rattle.atomic_table.specs.Seated.{TableId}
 use Rattle.dm_rows.specs.declared.messages.Decision.{Decision}
 use Rattle.dm_tree.specs.declared.forms.Leaf.{Leaf}
-use Rattle.dm_bound.specs.Words.{HandValue, nothing_looked}
+use Rattle.dm_bound.specs.Words.{HandValue}
 use Rattle.dm_deques.specs.Deques.{TallyValue}
-use Rattle.dm_workers.specs.Ways.{paths_on, leaves_on}
 use Rattle.dm_workers.specs.Nodes.{GuidedTask}
-use Rattle.dm_workers.specs.Found.{IsHandedIn, AreKept}
+use Rattle.dm_workers.specs.Accounts.{Path, Weight, Branching, IsBranching, below_by, leaves_by, branched_by}
+use Rattle.dm_workers.specs.Found.{IsHandedIn, AreKept, AreListed}
 
-abbrev pub Path : Type 0
-Path = List Decision
-
--- how many of the paths that tallies have taken lie on the way
-abbrev pub taken_on : List Bool → List (TallyValue Path) → ℕ
-taken_on sides tallies = sum_by (λ t. paths_on sides t.account.taken) tallies
-
--- each cost by which the word was lowered is no less than what the kept choices cost, or prunes nothing
-abbrev pub AreListed : ℕ → List ℕ → Type 0
-AreListed best lowered = All (λ c. (best ≤ c) ⊎ (c ≡ nothing_looked)) lowered
+-- what tallies have taken
+abbrev pub tallies_taken : Weight → List (TallyValue Path) → ℕ
+tallies_taken h tallies = sum_by (λ t. sum_by h t.account.taken) tallies
 
 -- Leaves that are known, choices that are kept, and a hand of so many seats of the word that starts so.
 pub record AreFindings (task : GuidedTask) (own : ℕ) (word : TableId) (start seats : ℕ) (hand : HandValue) (leaves : List Leaf)
@@ -30,13 +23,21 @@ pub record AreFindings (task : GuidedTask) (own : ℕ) (word : TableId) (start s
   pub start_is : hand.start ≡ start
   pub room : hand.room ≡ seats
 
--- On each way no more paths were put and leaves handed in, with what is in hand, than were given and taken.
-pub record IsAtWork (task : GuidedTask) (own : ℕ) (word : TableId) (start : ℕ) (given in_hand : List Bool → ℕ)
-    (owner : TallyValue Path) (tallies : List (TallyValue Path)) (hand : HandValue) (leaves : List Leaf)
+-- Each path that was taken was handed in with a leaf, or given up, or branched, or is in hand. What was put is what was given,
+-- and the two paths below each that branched.
+pub record IsAtWork (task : GuidedTask) (own : ℕ) (word : TableId) (start : ℕ) (given in_hand : Weight → ℕ)
+    (owner : TallyValue Path) (tallies : List (TallyValue Path)) (hand : HandValue) (leaves : List Leaf) (given_up : List Path)
     (choices : List Decision) (cost : ℕ) : Type 0 where
-  pub fair : (sides : List Bool) →
-      paths_on sides owner.account.put + leaves_on sides leaves + in_hand sides ≤ given sides + paths_on sides owner.account.taken + taken_on sides tallies
+  pub branched : List Branching
+  pub branchings : All (IsBranching task) branched
+  pub taken : (h : Weight) → sum_by h owner.account.taken + tallies_taken h tallies
+      ≡ leaves_by h leaves + sum_by h given_up + branched_by h branched + in_hand h
+  pub put : (h : Weight) → sum_by h owner.account.put ≡ given h + sum_by (below_by h) branched
   pub found : AreFindings task own word start 1 hand leaves choices cost
 
-abbrev pub nothing : List Bool → ℕ
-nothing sides = 0
+abbrev pub nothing : Weight → ℕ
+nothing h = 0
+
+-- one path
+abbrev pub only : Path → Weight → ℕ
+only path h = h path

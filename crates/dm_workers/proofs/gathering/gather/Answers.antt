@@ -1,4 +1,4 @@
-use Rattle.std.proofs.Common.{◌≡◌, Result, sym, subst, ◌∙◌}
+use Rattle.std.proofs.Common.{◌≡◌, arith, Result, sym, subst, ◌∙◌}
 use Rattle.std.specs.Prelude.{IfOk, IfSome}
 use Rattle.std.proofs.lemmas.List.{nil_from_length}
 use Rattle.dm_search.specs.Moving.{IsOver}
@@ -13,6 +13,7 @@ loop-worker-preserved g c =
     let inv = c.loop-worker.invariant in
     record {
       words = others_of_all (λ (r : Result (Worker _) _). IfOk r (λ w. w.hand.word ≡ c.args.word.now.id)) c.in-Some.worker _ _ is inv.words;
+      no_dearer = omega (arith, c.in_ok-gathered.ensures.no_dearer, inv.no_dearer);
       word = c.in_ok-gathered.ensures.word;
       evaluator = λ task first all.
           let had = inv.evaluator task first all in (

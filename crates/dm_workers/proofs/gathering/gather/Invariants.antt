@@ -1,4 +1,4 @@
-use Rattle.std.proofs.Common.{◌≡◌, ℕ, List, [], All}
+use Rattle.std.proofs.Common.{◌≡◌, ◌≤◌, ℕ, List, [], All}
 use Rattle.std.specs.Prelude.{IfOk, IfSome}
 use Rattle.atomic_blocks.specs.Lent.{RowsId}
 use Rattle.dm_search.specs.Moving.{IsOver}
@@ -13,6 +13,7 @@ abbrev pub invariant-loop-worker : goal.invariant-loop-worker
 invariant-loop-worker g l =
     record {
       words : All (λ r. IfOk r (λ w. w.hand.word ≡ l.fn.word.id)) l.worker-iterator.rest.items;
+      no_dearer : l.gathered.best.cost ≤ l.fn.first.best.cost;
       word : l.gathered.hand.word ≡ l.fn.word.id;
       evaluator : (task : Task) → IfSome l.fn.first.evaluator (IsOver task) → All (λ r. IfOk r (λ w. IfSome w.evaluator (IsOver task))) l.fn.worked.items
           → IfSome l.gathered.evaluator (IsOver task) × All (λ r. IfOk r (λ w. IfSome w.evaluator (IsOver task))) l.worker-iterator.rest.items;

@@ -1,6 +1,6 @@
 use Rattle.std.proofs.Common.{◌∙◌, ap, List, [], ◌∷◌, ◌++◌}
 use Rattle.dm_deques.specs.Deques.{TallyValue}
-use Rattle.dm_workers.specs.Inside.Working.{Path}
+use Rattle.dm_workers.specs.Accounts.{Path}
 use Rattle.dm_workers.proofs.Enlisted.{one_equipped}
 use Rattle.dm_workers.proofs.mustering.equip.Goals as goal
 

@@ -26,12 +26,13 @@ loop-owner-preserved g c =
                   taken = first_of_all HasTakenNothing c.in-Some.owner _ _ rest inv.left;
                   tallies = c.into_vec.ensures ∙ last_of_all (IsPurse c.args.equipped.owners.items) c.loop-owner.purses.items _ c.in-Some-pop.tallies c.in-Some-pop.ensures.items inv.purses;
                   leaves = search rules;
+                  given_up = search rules;
                   word_is = ap (λ (h : HandValue). h.word) part ∙ (ap (λ (h : HandValue). h.word) inv.hand ∙ c.requires.word);
                   start_is = ap (λ (h : HandValue). h.start) part ∙ ap (λ (h : HandValue). h.start) inv.hand;
                   room = ap (λ (h : HandValue). h.room) part;
                   lowered = ap (λ (h : HandValue). h.lowered) part;
-                  choices = search rules;
-                  cost = refl;
+                  choices = c.of_rows.ensures.0;
+                  cost = c.of_rows.ensures.1;
                   evaluator = lent.0;
                 }),
             lent.1,

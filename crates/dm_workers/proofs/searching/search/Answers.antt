@@ -1,7 +1,9 @@
-use Rattle.std.proofs.Common.{◌≤◌, sym, subst}
+use Rattle.std.proofs.Common.{ℕ, ◌≤◌, sym, subst}
 use Rattle.std.proofs.lemmas.Result.{IfOk-weaker}
 use Rattle.dm_rows.specs.Active.{HasNoCycle}
 use Rattle.dm_tree.specs.Plans.{Task, IsTruePlan}
+use Rattle.dm_tree.specs.declared.plans.Plan.{Plan}
+use Rattle.dm_workers.specs.Found.{IsOwnCost}
 use Rattle.dm_workers.proofs.searching.search.Goals as goal
 
 pub search_task-requires-clause-no_cycle : goal.search_task-requires-clause-no_cycle
@@ -13,3 +15,7 @@ search_task-requires-clause-some g c = λ lifetimes bounds. subst (λ (t : Task)
 pub returns-clause-plan : goal.returns-clause-plan
 returns-clause-plan g c =
     IfOk-weaker _ _ _ (λ p is. subst (λ (t : Task). IsTruePlan t p) c.whole-task.ensures.task is) c.search_task.ensures.plan
+
+pub returns-clause-no_dearer : goal.returns-clause-no_dearer
+returns-clause-no_dearer g c =
+    IfOk-weaker _ _ _ (λ (p : Plan) low. subst (λ (t : Task). (own : ℕ) → IsOwnCost t own → p.cost ≤ own) c.whole-task.ensures.task low) c.search_task.ensures.no_dearer

@@ -2,7 +2,7 @@ use Rattle.std.proofs.Common.{◌≡◌, ◌<◌, List, length, set, ap, subst, 
 use Rattle.std.proofs.lemmas.List.{length-map}
 use Rattle.dm_deques.specs.Deques.{TallyValue}
 use Rattle.dm_deques.specs.Sharing.{deque_of}
-use Rattle.dm_workers.specs.Inside.Working.{Path}
+use Rattle.dm_workers.specs.Accounts.{Path}
 use Rattle.dm_workers.specs.Inside.Workers.{HasStolen}
 use Rattle.dm_workers.proofs.Stealing.{stolen_at}
 use Rattle.dm_workers.proofs.working.steal_any.Goals as goal

@@ -2,7 +2,7 @@ use Rattle.std.proofs.Common.{inl, inr}
 use Rattle.std.proofs.lemmas.Bool.Decides.{when_true}
 use Rattle.std.proofs.lemmas.Result.{on_ok_weaker}
 use Rattle.dm_workers.proofs.Outcomes.{branch_chosen, first_below, second_below}
-use Rattle.dm_workers.proofs.Steps.{guide_says, seen_at, cycle_in, pruned_in, dear_in, open_in, branch_in, solved_in}
+use Rattle.dm_workers.proofs.Steps.{guide_says, seen_at, cycle_in, pruned_in, given_up_in, dear_in, open_in, branch_in, solved_in}
 use Rattle.dm_workers.proofs.working.Worker.expand.Goals as goal
 
 pub branch-self-requires-clause-first : goal.branch-self-requires-clause-first
@@ -54,3 +54,8 @@ pub returns-then-seen-lt18446744073709551615-clause-works : goal.returns-then-se
 returns-then-seen-lt18446744073709551615-clause-works g c =
     let seen = seen_at _ _ _ _ _ _ _ _ _ _ _ c.as_slice-2.ensures (rw c.in-Pruned.is at c.in_ok-seen.ensures.seen) in
     on_ok_weaker _ (pruned_in _ c.reveal.ensures.network _ _ _ _ _ _ c.requires.posed _ c.requires.own _ _ _ _ _ c.requires.node _ _ seen (inl c.if-seen-lt18446744073709551615.true)) c.hand_in-then-seen-lt18446744073709551615.ensures.handed
+
+pub returns-else-team-cost-clause-works : goal.returns-else-team-cost-clause-works
+returns-else-team-cost-clause-works g c =
+    let seen = seen_at _ _ _ _ _ _ _ _ _ _ _ c.as_slice-2.ensures (rw c.in-Pruned.is at c.in_ok-seen.ensures.seen) in
+    on_ok_weaker _ (given_up_in _ c.reveal.ensures.network _ _ _ _ _ _ c.requires.posed _ c.requires.own _ _ _ _ _ c.requires.node _ _ seen) c.give_up.ensures.given_up

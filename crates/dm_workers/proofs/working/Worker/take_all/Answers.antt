@@ -3,14 +3,14 @@ use Rattle.dm_workers.proofs.Stealing.{same_after, taken_same, none_same}
 use Rattle.dm_workers.proofs.working.Worker.take_all.Goals as goal
 
 pub returns-then-has_ended-clause-works : goal.returns-then-has_ended-clause-works
-returns-then-has_ended-clause-works g c = λ given start w. none_taken _ _ _ start given _ _ c.in-None-next.ensures.none.0 (c.loop.invariant.works given start w)
+returns-then-has_ended-clause-works g c = λ given start w. none_taken _ _ _ start given _ _ c.in-None-next.ensures.none (c.loop.invariant.works given start w)
 
 pub loop-preserved-in-None-next : goal.loop-preserved-in-None-next
 loop-preserved-in-None-next g c =
     record {
-      same = same_after _ _ _ c.loop.invariant.same (none_same _ _ c.in-None-next.ensures.none.0);
+      same = same_after _ _ _ c.loop.invariant.same (none_same _ _ c.in-None-next.ensures.none);
       at = c.loop.invariant.at;
-      works = λ given start w. none_taken _ _ _ start given _ _ c.in-None-next.ensures.none.0 (c.loop.invariant.works given start w);
+      works = λ given start w. none_taken _ _ _ start given _ _ c.in-None-next.ensures.none (c.loop.invariant.works given start w);
     }
 
 pub loop-preserved : goal.loop-preserved

@@ -1,7 +1,8 @@
-use Rattle.std.proofs.Common.{ℕ, Bool, List}
+use Rattle.std.proofs.Common.{ℕ}
 use Rattle.dm_guide.specs.Tasks.{task_of}
 use Rattle.dm_search.specs.Moving.{IsOver}
 use Rattle.dm_workers.specs.Nodes.{guided_by}
+use Rattle.dm_workers.specs.Accounts.{Weight}
 use Rattle.dm_workers.specs.Inside.Working.{nothing}
 use Rattle.dm_workers.specs.Inside.Workers.{IsWorking, IsSameWorker}
 use Rattle.dm_workers.proofs.working.Worker.take_all.Given as goal
@@ -11,6 +12,6 @@ invariant-loop g l =
     record {
       same : IsSameWorker l.initial.self l.self;
       at : IsOver (task_of l.team.task.now) l.evaluator;
-      works : (given : List Bool → ℕ) (start : ℕ) → IsWorking (guided_by l.team.task.now l.team.guide.now) l.team.own l.team.word.now.id start given nothing l.initial.self
+      works : (given : Weight → ℕ) (start : ℕ) → IsWorking (guided_by l.team.task.now l.team.guide.now) l.team.own l.team.word.now.id start given nothing l.initial.self
           → IsWorking (guided_by l.team.task.now l.team.guide.now) l.team.own l.team.word.now.id start given nothing l.self;
     }

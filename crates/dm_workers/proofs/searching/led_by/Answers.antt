@@ -1,7 +1,7 @@
 use Rattle.dm_guide.specs.Tasks.{task_of}
 use Rattle.dm_search.specs.Moving.{IsOver}
 use Rattle.dm_workers.proofs.Enlisted.{all_more}
-use Rattle.dm_workers.proofs.searching.begin_with.Goals as goal
+use Rattle.dm_workers.proofs.searching.led_by.Goals as goal
 
 pub returns-clause-evaluators : goal.returns-clause-evaluators
 returns-clause-evaluators c =
