@@ -1,6 +1,7 @@
 -- What the calls of a store do, and what a crash at any moment may leave. A store is seen through functions that its trait
 -- names: what a read returns, what was shown, what a crash may leave, the moment, and the faults.
 use Rattle.std.specs.Prelude.{◌≡◌, ◌⊎◌, ℕ, ◌+◌, ◌≤◌, min, max, List, [], ◌++◌, length, take, drop, Result, IsErrOf, IfErr, ⊤, slice_set, slice_index_or}
+use mathlib.Core.List.{IsPrefix}
 use Rattle.dm_outside.specs.Faults.{HasRisen}
 use Rattle.dm_store.specs.declared.faults.StoreError.{StoreError}
 use Rattle.dm_store.specs.declared.faults.StoreError.TheVariants.{OutOfMemory, Failed}
@@ -93,6 +94,10 @@ pub record ShowsFront (feed : ℕ) (bytes : List ℕ) (old new : List (List ℕ)
   pub rest : List ℕ
   pub is_front : front ++ rest ≡ bytes
   pub behind : new ≡ shown_behind old feed front
+
+-- the text goes on from what the reply file of the feed has shown
+abbrev pub GoesOnAs : ℕ → List (List ℕ) → List ℕ → Type 0
+GoesOnAs feed shown text = IsPrefix (slice_index_or shown feed []) text
 
 -- the reply file of the feed shows what it did, or the text
 abbrev pub ShowsText : ℕ → List ℕ → List (List ℕ) → List (List ℕ) → Type 0

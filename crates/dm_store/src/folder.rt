@@ -19,8 +19,10 @@ pub enum OpenError {
     OutOfMemory,
     /// Another server has the folder.
     Locked,
-    /// The folder or a file of it cannot be opened or made.
+    /// The folder or a file of it cannot be opened, made or read.
     Failed,
+    /// The journal cannot be put anew. It stands as it did.
+    Unwritten,
 }
 
 impl From<AllocError> for OpenError {
@@ -48,11 +50,10 @@ struct NamedFile {
 pub struct FileStore<R: Files<File = File> + Drop> {
     files: R,
     alloc: Global,
-    path: String,
     folder: File,
     lock: NamedFile,
     journal: NamedFile,
-    replies: Vec<File>,
+    replies: Vec<NamedFile>,
     faults: u64,
 }
 
@@ -102,12 +103,19 @@ fn sync_and_look<R: Files<File = File>>(
     look_for(files, journal)
 }
 
-/// Opens a file to append to it, and makes it where it is not there.
-fn open_to_append<R: Files<File = File>>(files: &R, path: &str) -> io::Result<File> {
+/// Opens a file to append to it, makes it where it is not there, and keeps its path.
+fn open_to_append<R: Files<File = File>>(files: &R, path: String) -> io::Result<NamedFile> {
     let mut how = OpenOptions::new();
     how.append(true);
     how.create(true);
-    how.open(files, path)
+    let file = how.open(files, &path)?;
+    Ok(NamedFile { path, file })
+}
+
+/// Appends to a file. A fault where people would not see it, since its path no longer leads to it.
+fn append<R: Files<File = File>>(files: &R, named: &mut NamedFile, bytes: &[u8]) -> io::Result<()> {
+    look_for(files, named)?;
+    named.file.write_all(bytes)
 }
 
 /// All the bytes of a file.
@@ -139,20 +147,54 @@ fn write_from(file: &mut File, at: usize, bytes: &[u8]) -> io::Result<()> {
     file.write_all(bytes)
 }
 
-/// Puts a file anew: the text is written and synced under another name, which then takes the file's place.
+/// Puts a file anew, with the rights that it has: the text is written and synced under another name, which then takes the file's
+/// place.
 fn put_anew<R: Files<File = File>>(
     files: &R,
     folder: &File,
     new: &str,
     path: &str,
     text: &[u8],
-) -> io::Result<File> {
+) -> io::Result<()> {
     let mut file = File::create(files, new)?;
+    file.set_permissions(files.metadata(path)?.permissions())?;
     file.write_all(text)?;
     file.sync_all()?;
     files.rename(new, path)?;
-    folder.sync_all()?;
+    folder.sync_all()
+}
+
+/// Puts a reply file anew, and opens it.
+fn renewed<R: Files<File = File>>(
+    files: &R,
+    folder: &File,
+    new: &str,
+    path: String,
+    text: &[u8],
+) -> io::Result<NamedFile> {
+    put_anew(files, folder, new, &path, text)?;
     open_to_append(files, path)
+}
+
+/// Puts the journal anew with what a read gives. Where a sync of an earlier server failed, that may stand in memory alone, and no
+/// later sync of the same file has to say so.
+fn put_journal<R: Files<File = File>>(
+    alloc: Global,
+    files: &R,
+    folder: &File,
+    journal: NamedFile,
+) -> Result<NamedFile, OpenError> {
+    let NamedFile { path, mut file } = journal;
+    let bytes = match read_whole(alloc, &mut file) {
+        Ok(bytes) => bytes,
+        Err(StoreError::OutOfMemory) => return Err(OpenError::OutOfMemory),
+        Err(_) => return Err(OpenError::Failed),
+    };
+    let new = format!(in alloc; "{path}.new")?;
+    let Ok(()) = put_anew(files, folder, &new, &path, &bytes) else {
+        return Err(OpenError::Unwritten);
+    };
+    Ok(open_named(files, path)?)
 }
 
 /// The path of the reply file of a feed; feeds count from 0 and files from 1.
@@ -162,8 +204,8 @@ fn reply_path(alloc: Global, folder: &str, feed: usize) -> Result<String, AllocE
 }
 
 impl<R: Files<File = File> + Drop> FileStore<R> {
-    /// Locks the folder and opens its files, of so many feeds; what is not there is made. `Locked` comes where another server
-    /// has it, and nothing but the lock's file was made then.
+    /// Locks the folder, opens its files, of so many feeds, and puts the journal anew; what is not there is made. `Locked` comes
+    /// where another server has it, and nothing but the lock's file was made then.
     pub fn open(
         alloc: Global,
         files: R,
@@ -181,15 +223,14 @@ impl<R: Files<File = File> + Drop> FileStore<R> {
         for feed in 0..feeds {
             let name = reply_path(alloc, &path, feed as usize)?;
             replies
-                .push(open_to_append(&files, &name)?)
+                .push(open_to_append(&files, name)?)
                 .map_err(AllocError::from)?;
         }
         let folder = File::open(&files, &path)?;
-        folder.sync_all()?;
+        let journal = put_journal(alloc, &files, &folder, journal)?;
         Ok(FileStore {
             files,
             alloc,
-            path,
             folder,
             lock,
             journal,
@@ -242,6 +283,8 @@ impl<R: Files<File = File> + Drop> Store for FileStore<R> {
 
     ghost only_now = { λ store image told left. absurd told };
 
+    ghost leaves_now = { λ store told. absurd told };
+
     fn read(&mut self, alloc: Global) -> Result<Vec<u8>, StoreError> {
         match read_whole(alloc, &mut self.journal.file) {
             Ok(bytes) => Ok(bytes),
@@ -266,11 +309,10 @@ impl<R: Files<File = File> + Drop> Store for FileStore<R> {
     }
 
     fn read_shown(&mut self, alloc: Global, feed: usize) -> Result<Vec<u8>, StoreError> {
-        if feed >= self.replies.len() {
+        let Some(reply) = self.replies.get(feed) else {
             return Err(self.fault());
-        }
-        let path = reply_path(self.alloc, &self.path, feed)?;
-        let Ok(mut file) = File::open(&self.files, &path) else {
+        };
+        let Ok(mut file) = File::open(&self.files, &reply.path) else {
             return Err(self.fault());
         };
         match read_whole(alloc, &mut file) {
@@ -281,22 +323,23 @@ impl<R: Files<File = File> + Drop> Store for FileStore<R> {
     }
 
     fn show(&mut self, feed: usize, bytes: &[u8]) -> Result<(), StoreError> {
-        let Some(file) = self.replies.get_mut(feed) else {
+        let Some(reply) = self.replies.get_mut(feed) else {
             return Err(self.fault());
         };
-        let answer = file.write_all(bytes);
+        let answer = append(&self.files, reply, bytes);
         self.told(answer)
     }
 
     fn renew(&mut self, feed: usize, text: &[u8]) -> Result<(), StoreError> {
-        if feed >= self.replies.len() {
+        let Some(reply) = self.replies.get_mut(feed) else {
             return Err(self.fault());
-        }
-        let path = reply_path(self.alloc, &self.path, feed)?;
+        };
+        let path = reply.path.clone()?;
         let new = format!(in self.alloc; "{path}.new")?;
-        match put_anew(&self.files, &self.folder, &new, &path, text) {
+        let answer = renewed(&self.files, &self.folder, &new, path, text);
+        match answer {
             Ok(file) => {
-                self.replies[feed] = file;
+                *reply = file;
                 Ok(())
             }
             Err(_) => Err(self.fault()),

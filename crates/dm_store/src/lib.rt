@@ -25,12 +25,13 @@
 //! [`first_block`] reads the block in front of a file, where one stands there. [`refusal`] tells why the file of a journal is
 //! left as it stands, or that its end is repaired.
 //!
-//! Laws, in [`laws`]: in each file one list of contents stands, and no other; and a journal of a head and a round has the bytes
-//! that were worked out by hand.
+//! Laws, in [`laws`]: in each file one list of contents stands, and no other; a journal of a head and a round has the bytes that
+//! were worked out by hand; and at each moment of the life of a store in memory a crash left some image.
 //!
-//! [`MemStore`] is a store in memory that tells. Some image is always left of it: what a read returns, with what is shown. A new
-//! one has its journal on the disk. [`MemStore::after_crash`] gives a store that a crash at this moment may leave, torn as asked.
-//! `dm_store_cases` tries that calls fail where they are listed.
+//! [`MemStore`] is a store in memory that tells. Some image is always left of a store that tells: what a read returns, with what is
+//! shown. A new one tells, and has its journal on the disk: it is found (`IsFound`) with the blocks that stand there.
+//! [`MemStore::after_crash`] gives a store that a crash at this moment may leave, torn as asked. `dm_store_cases` tries that calls
+//! fail where they are listed.
 //!
 //! # What is argued of a real folder
 //!
@@ -38,18 +39,20 @@
 //! write is `lseek` and `write`, a cut is `ftruncate`, and a sync is `fdatasync`, which also puts a changed length on the disk.
 //!
 //! This has to hold of the file system. After a sync that answered well the bytes are on the disk, whatever comes. A write that
-//! was cut short, or whose sync failed, changes no byte outside its range. A cut leaves a front. What is read at a start is on
-//! the disk; after a sync that failed, this may hold only once the machine itself was started anew.
+//! was cut short, or whose sync failed, changes no byte outside its range. A cut leaves a front.
 //!
-//! The folder is synced once its files are made. A reply file is appended to and never synced, since the journal has its lines.
-//! To put it anew, a new file is synced and takes its name by a rename, with the folder synced. So it shows the old text or the
-//! new one. It has shown what a read of it returns. After a loss of power, that may be less than people saw; the journal has the
-//! rest.
+//! To put a file anew, a new file is synced and takes its name by a rename, with the folder synced. So the name leads to the old
+//! bytes or to the new ones. [`FileStore::open`] puts the journal anew with what it reads of it. So what is read at a start is on
+//! the disk, also behind a sync that failed in an earlier life: there a system may keep bytes in memory that it takes for written.
+//!
+//! A reply file is appended to and never synced, since the journal has its lines. It has shown what a read of it returns. After a
+//! loss of power, that may be less than people saw; the journal has the rest.
 //!
 //! One server has the folder: it holds `flock` on `lock`, which the system lets go where the process ends. [`FileStore::open`]
 //! answers `Locked` where another server has it. Each sync checks by device and inode whether `lock` and `journal` still are the
 //! files that were opened, and fails where they are not. That happens where the folder was moved, removed or put anew under a
-//! running server. Nothing of this holds on a disk that loses what it said was written.
+//! running server. Before bytes are shown, the same is checked of the reply file. Nothing of this holds on a disk that loses what
+//! it said was written.
 #![tactic(auto)]
 
 mod blocks;

@@ -398,6 +398,8 @@ impl Store for MemStore {
 
     ghost only_now = { λ m image told left. since_now m.first.items (was_shown_of m) m.done.items image left };
 
+    ghost leaves_now = { λ m told. told };
+
     fn read(&mut self, alloc: Global) -> Result<Vec<u8>, StoreError> {
         if self.calls.is_listed(&self.fails) {
             return Err(fault(&mut self.calls));

@@ -1,7 +1,7 @@
 //! A disk with a clock, and files that are shown to people.
 ghost use Rattle.std.specs.Prelude.{◌≡◌, ◌<◌, ◌≤◌, ℕ, List, [], length, take, IfOk, OnOk, slice_set, slice_index_or};
 ghost use Rattle.dm_store.specs.Calls.{Image, Torn, Cut, OnJournal, Follows, AddsNone, LeavesJournal, Goes, GoesShowing, HasCause};
-ghost use Rattle.dm_store.specs.Calls.{written, shown_behind, ShowsFront, ShowsText};
+ghost use Rattle.dm_store.specs.Calls.{written, shown_behind, GoesOnAs, ShowsFront, ShowsText};
 
 use crate::StoreError;
 use std::alloc::Global;
@@ -83,13 +83,14 @@ pub trait Store {
             → GoesShowing tells seen moment left_since may_leave (ShowsFront feed bytes.now) self.old self.new }
         ensures cause { HasCause (faults self.old) (faults self.new) result };
 
-    /// Puts the reply file of the feed anew, at once and whole: it then shows the text. At `Err` it shows what it did or the
-    /// text.
+    /// Puts the reply file of the feed anew, at once and whole, with a text that goes on from what it showed: it then shows the
+    /// text. At `Err` it shows what it did or the text. Of any other text nothing is promised: what was shown is never taken back.
     fn renew(&mut self, feed: usize, text: &[u8]) -> Result<(), StoreError>
-        ensures shown { tells self.old → feed < length (shown self.old)
+        ensures shown { tells self.old → feed < length (shown self.old) → GoesOnAs feed (shown self.old) text.now
             → OnOk result (shown self.new ≡ slice_set (shown self.old) feed text.now) }
-        ensures either { tells self.old → feed < length (shown self.old) → ShowsText feed text.now (shown self.old) (shown self.new) }
-        ensures goes { tells self.old → feed < length (shown self.old)
+        ensures either { tells self.old → feed < length (shown self.old) → GoesOnAs feed (shown self.old) text.now
+            → ShowsText feed text.now (shown self.old) (shown self.new) }
+        ensures goes { tells self.old → feed < length (shown self.old) → GoesOnAs feed (shown self.old) text.now
             → GoesShowing tells seen moment left_since may_leave (ShowsText feed text.now) self.old self.new }
         ensures cause { HasCause (faults self.old) (faults self.new) result };
 
@@ -102,4 +103,7 @@ pub trait Store {
 
     /// Since this moment there is no other.
     ghost only_now: { (store : Self) (image : Image) → tells store → left_since store (moment store) image → may_leave store image };
+
+    /// A crash now may leave what a read returns, with what is shown: some image is always left, and the other laws speak of it.
+    ghost leaves_now: { (store : Self) → tells store → may_leave store (record { journal = seen store; shown = shown store }) };
 }

@@ -19,6 +19,7 @@ where
         Ok(store) => store,
         Err(OpenError::Locked) => return println!(rt; "locked"),
         Err(OpenError::Failed) => return println!(rt; "not opened"),
+        Err(OpenError::Unwritten) => return println!(rt; "not written"),
         Err(OpenError::OutOfMemory) => return println!(rt; "no memory"),
     };
     let mut journal = Journal::new(store);

@@ -4,3 +4,7 @@ pub mod Given
 pub mod Watching
 -- What all feeds were answered, one after another.
 pub mod Feeds
+-- A feed in memory.
+pub mod Memory
+-- What logs answer of the bytes that feeds are given.
+pub mod Sources

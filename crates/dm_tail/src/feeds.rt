@@ -1,8 +1,9 @@
 //! Feeds that grow, one after another.
-ghost use Rattle.std.specs.Prelude.{◌<◌, ◌^◌, All, vec_len, IfOk};
+ghost use Rattle.std.specs.Prelude.{◌≡◌, ◌<◌, ◌^◌, All, map, vec_len, IfOk};
 ghost use Rattle.dm_desk.specs.Answered.{HasSeenLegal};
 ghost use Rattle.dm_desk.specs.Planning.{PlansUnder};
 ghost use Rattle.dm_tail.specs.Feeds.{AllAreTrue, AnswersAll, IsReady};
+ghost use Rattle.dm_tail.specs.Sources.{source_in};
 
 use crate::growing::Growing;
 use crate::watched::Watched;
@@ -26,7 +27,8 @@ pub fn answer_feeds<T: Growing + Drop, D: Desk, P: Fn(&Snapshot, u64) -> Result<
     requires are_true { AllAreTrue (D.value desk.old) feeds.items }
     requires ready { All IsReady feeds.items }
     requires few { vec_len feeds < 2 ^ 32 }
-    ensures { IfOk result (λ now. AnswersAll T.given batch (D.value desk.old) (D.value desk.new) feeds.items now.items) }
+    ensures answers { IfOk result (λ now. AnswersAll T.given batch (D.value desk.old) (D.value desk.new) feeds.items now.items) }
+    ensures sources { IfOk result (λ now. map (source_in T.source) now.items ≡ map (source_in T.source) feeds.items) }
 {
     let mut answered = Vec::with_capacity(alloc, feeds.len())?;
     for mut watched in feeds {

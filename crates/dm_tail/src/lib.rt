@@ -5,7 +5,17 @@
 //!
 //! # What is promised
 //!
-//! The trait `Growing` says what a feed gives: each read goes on where the one before ended, and a fault is counted.
+//! The trait `Growing` says what a feed gives: each read goes on where the one before ended, and a fault is counted. A feed may
+//! tell its source, all the bytes that others write to it. No call here changes that (`source`), and what the feed has given is a
+//! front of it (`GivesFront`).
+//!
+//! A [`MemFeed`] is a feed in memory that tells all that it has given. Its calls fail where they are listed. Each other read gives as
+//! much as stands in it by then, and as the buffer holds.
+//!
+//! A [`FileFeed`] is a file, and nothing is promised of its bytes. `FileFeed::open` opens files alone: to open a named pipe might
+//! wait for ever. A read that a signal interrupts is taken again. Where no bytes come, a read also fails if the file is shorter than
+//! what was read of it, or if its name no longer leads to it. `FileFeed::fault` tells why a call failed. A file that was cut and has
+//! grown again before it was looked at is not noticed.
 //!
 //! `Tail::look` reads the next bytes behind what is pending (`Takes`). It stops at a fault, whose cause it tells, or at
 //! [`LARGEST_FEED`] bytes. `Tail::skip` takes away exactly the first bytes that are pending.
@@ -19,11 +29,15 @@
 #![tactic(auto)]
 
 mod feeds;
+mod files;
 mod growing;
+mod memory;
 mod tail;
 mod watched;
 
 pub use feeds::answer_feeds;
-pub use growing::{FileFeed, Growing};
+pub use files::{FeedFault, FileFeed, NoFeed};
+pub use growing::Growing;
+pub use memory::MemFeed;
 pub use tail::{LARGEST_FEED, PIECE, Tail};
 pub use watched::Watched;

@@ -58,6 +58,7 @@ impl<T: Growing + Drop> Tail<T> {
         ensures bytes { OnOk result (self.new.taken ≤ largest_feed) }
         ensures lines { OnOk result (KnowsLines self.new) }
         ensures cause { OnOk result (HasCause T.faults self.old self.new self.new.stop) }
+        ensures source { T.source self.new.feed ≡ T.source self.old.feed }
     {
         if self.has_line || self.stop.is_some() {
             return Ok(0);

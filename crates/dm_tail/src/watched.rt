@@ -1,5 +1,5 @@
 //! A feed that grows, with its log.
-ghost use Rattle.std.specs.Prelude.{◌<◌, length, OnOk, IsTrue, ◌↔◌};
+ghost use Rattle.std.specs.Prelude.{◌≡◌, ◌<◌, length, OnOk, IsTrue, ◌↔◌};
 ghost use Rattle.dm_desk.specs.Answered.{HasSeenLegal, AreTrueOf};
 ghost use Rattle.dm_desk.specs.Planning.{PlansUnder};
 
@@ -54,6 +54,7 @@ impl<T: Growing + Drop> Watched<T> {
         ensures answers { OnOk result (Answers T.given batch (D.value desk.old) (D.value desk.new) number self.old self.new) }
         ensures short { OnOk result (IsShort self.new) }
         ensures lines { OnOk result (KnowsLines self.new.tail) }
+        ensures source { T.source self.new.tail.feed ≡ T.source self.old.tail.feed }
     {
         self.tail.look(buffer)?;
         self.answer_pending(alloc, desk, planner, number, batch)
@@ -76,6 +77,7 @@ impl<T: Growing + Drop> Watched<T> {
         ensures answers { OnOk result (Answers T.given batch (D.value desk.old) (D.value desk.new) number self.old self.new) }
         ensures short { OnOk result (IsShort self.new) }
         ensures lines { OnOk result (KnowsLines self.new.tail) }
+        ensures feed { self.new.tail.feed ≡ self.old.tail.feed }
     {
         if !self.tail.has_line {
             return Ok(());
