@@ -1,5 +1,5 @@
 -- Books that grow, and lives one after the other.
-use Rattle.std.proofs.Common.{◌≡◌, ◌+◌, ℕ, List, [], ◌∷◌, ◌++◌, length, map, refl, sym, ap, subst, ◌∙◌, arith, append_assoc, append-nil, inl, inr}
+use Rattle.std.proofs.Common.{◌≡◌, ℕ, List, [], ◌∷◌, ◌++◌, length, map, get_or, refl, sym, ap, subst, ◌∙◌, arith, append_assoc, append-nil, inl, inr}
 use Rattle.std.specs.Prelude.{All}
 use Rattle.std.specs.List.{flat_map}
 use Rattle.std.proofs.lemmas.List.Concat.{flat_map-append}
@@ -13,7 +13,7 @@ use Rattle.dm_tape.specs.Laws.{IsKeptPart}
 use Rattle.dm_tape.specs.Rounds.{round_text}
 use Rattle.dm_tape.proofs.OwnTexts.{rounds_have_own_texts}
 use Rattle.dm_book.specs.Books.{AreFronts, AreRecorded, Book, IsBookIn, IsFrontBook, logs_after, reply_text}
-use Rattle.dm_book.specs.Lives.{IsLife, LivesAreOne, ShowsFronts}
+use Rattle.dm_book.specs.Lives.{Crashed, IsLife, LivesAreOne, ShowsFronts, ShowsStill}
 use Rattle.dm_book.proofs.OneBook.{books_are_one}
 
 -- ---- fronts
@@ -103,26 +103,33 @@ in_one s contents one other size (inr p) (inr q) = recorded_one s contents one.l
 -- ---- lives
 
 -- the book that a life left is the one that the next finds
-found_is : (s : Setting) (first : Book) (image : Image) (found : Book) (life : IsLife s first image found) → life.safe.book ≡ found
-found_is s first image found life =
+found_is : (s : Setting) (first : Book) (crashed : Crashed) (found : Book) (life : IsLife s first crashed found) → life.safe.book ≡ found
+found_is s first crashed found life =
     let many = as_many first.logs life.safe.book.logs life.safe.above.logs in
     books_are_one s life.safe.book found life.safe.is_true life.is_true
     (in_one s life.safe.contents life.safe.book found (sym many ∙ sym life.feeds) life.safe.is_in life.is_in)
+
+-- what earlier images showed is a front of what the last one's book holds
+all_earlier : (book : Book) (later : Image) (earlier : List Image) → ShowsFronts book later → All (ShowsStill later) earlier → All (ShowsFronts book) earlier
+all_earlier book later earlier shown still = λ place d low.
+    let image = get_or earlier place d in
+    fronts_of_fronts image.shown later.shown (map reply_text book.logs) (still place d low) shown
 
 pub lives_are_one : LivesAreOne
 lives_are_one s first last [] same = record {
   grows = subst (IsFrontBook first) same (record { history = itself first.history; logs = all_themselves first.logs });
   shown = tt;
 }
-lives_are_one s first last (image ∷ images) lives =
-    let found = lives.0 in
-    let life = lives.1 in
-    let is = found_is s first image found life in
+lives_are_one s first last (crashed ∷ lives) all =
+    let found = all.0 in
+    let life = all.1 in
+    let is = found_is s first crashed found life in
     let grows : IsFrontBook first found = subst (IsFrontBook first) is life.safe.above in
-    let shown : ShowsFronts found image = subst (λ (b : Book). ShowsFronts b image) is life.safe.shown in
-    let rest = lives_are_one s found last images lives.2 in
+    let rest = lives_are_one s found last lives all.2 in
+    let shown : ShowsFronts last crashed.image =
+    fronts_of_fronts crashed.image.shown (map reply_text found.logs) (map reply_text last.logs)
+    (subst (λ (b : Book). ShowsFronts b crashed.image) is life.safe.shown) (reply_fronts found.logs last.logs rest.grows.logs) in
     record {
       grows = grows_on first found last grows rest.grows;
-      shown =
-          (fronts_of_fronts image.shown (map reply_text found.logs) (map reply_text last.logs) shown (reply_fronts found.logs last.logs rest.grows.logs), rest.shown);
+      shown = (shown, all_earlier last crashed.image crashed.earlier shown life.still, rest.shown);
     }

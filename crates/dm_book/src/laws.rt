@@ -7,7 +7,7 @@ pub fn books_are_one()
 {}
 
 /// Along lives, each begun with a true book of the blocks that the one before left, the book only grows, and what any of them showed
-/// is a front of the logs of the last.
+/// at any of its moments is a front of the logs of the last.
 pub fn lives_are_one()
     ensures { LivesAreOne }
 {}

@@ -9,7 +9,8 @@
 //! `books_are_one`: two true books with the same logs are one. So the logs in a journal are those of at most one true book.
 //!
 //! `lives_are_one`: along lives, each begun with a true book of the blocks that the one before left, the book only grows. What
-//! any of these lives showed is a front of the logs of the last book, which is found in what the last life left.
+//! any of these lives showed, at each moment of it at which nothing less was shown than before, is a front of the logs of the
+//! last book, which is found in what the last life left.
 #![tactic(auto)]
 
 pub mod laws;

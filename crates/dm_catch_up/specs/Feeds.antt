@@ -1,19 +1,11 @@
 -- Feeds that go on with what was answered of them, and those that do not.
-use Rattle.std.specs.Prelude.{ℕ, ◌≡◌, ◌⊎◌, List, [], ◌∷◌, ◌++◌, map, min, Option, IfSome}
+use Rattle.std.specs.Prelude.{ℕ, ◌≡◌, ◌⊎◌, List, [], ◌∷◌, ◌++◌, map, min}
 use mathlib.Core.List.{IsPrefix}
 use Rattle.dm_feed.specs.DueItems.{AreDueItems, DueItem, lines_of, item}
 use Rattle.dm_feed.specs.Feeds.{IsUnended}
 use Rattle.dm_feed.specs.Joined.{AreWhole}
 use Rattle.dm_cert.specs.declared.replies.LogItem.{LogItem}
 use Rattle.dm_cert.specs.Logs.{due_of, line_of}
-
--- A log answers the due lines of a front of what its feed has given, which ends with a line feed: none is skipped, none is answered
--- twice, and they are in order.
-pub record AnswersFront (given : Option (List ℕ)) (items : List LogItem) : Type 0 where
-  pub front : List ℕ
-  pub whole : AreWhole front
-  pub due : AreDueItems 0 (lines_of front) (map due_of items)
-  pub is_front : IfSome given (IsPrefix front)
 
 -- ---- another line than was answered
 

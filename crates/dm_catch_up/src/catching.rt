@@ -52,6 +52,7 @@ pub fn catch_up<T: Growing + Drop>(
         → IsInOrder 0 0 watched.old.log.items → All IsSpelledItem watched.old.log.items
         → OnOk result (IsWatched T.given desk number watched.new) }
     ensures later { T.faults watched.old.tail.feed ≤ T.faults watched.new.tail.feed }
+    ensures source { T.source watched.new.tail.feed ≡ T.source watched.old.tail.feed }
     ensures refused { IfErr result (RefusesFeed T.given T.faults watched.old.log.items watched.old watched.new) }
 {
     let mut from = 0;
@@ -89,6 +90,7 @@ fn skip_more<T: Growing + Drop>(
     ensures shown { watched.new.shown ≡ watched.old.shown }
     ensures more { OnOk result (watched.old.tail.taken < watched.new.tail.taken) }
     ensures later { T.faults watched.old.tail.feed ≤ T.faults watched.new.tail.feed }
+    ensures source { T.source watched.new.tail.feed ≡ T.source watched.old.tail.feed }
     ensures refused { IfErr result (RefusesFeed T.given T.faults watched.old.log.items watched.old watched.new) }
 {
     let count = match read_more(&mut watched.tail, buffer) {
@@ -116,6 +118,7 @@ fn read_more<T: Growing + Drop>(tail: &mut Tail<T>, buffer: &mut [u8]) -> Result
     ensures takes { IfOk result (Takes T.given tail.old tail.new) }
     ensures bytes { OnOk result (tail.new.taken ≤ largest_feed) }
     ensures later { T.faults tail.old.feed ≤ T.faults tail.new.feed }
+    ensures source { T.source tail.new.feed ≡ T.source tail.old.feed }
     ensures stops { IfErr result (StopsReading T.faults tail.old tail.new) }
 {
     let most = buffer.len().min(LARGEST_FEED - tail.taken);

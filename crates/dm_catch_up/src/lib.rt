@@ -18,7 +18,7 @@
 //! - `Changed(line)`: all earlier due lines are as they were answered. Either the next due line differs from the next item's, and
 //!   `line` is the smaller of the two numbers. Or no further line ends, and `line` is the next item's.
 //!
-//! A feed's count of faults never falls.
+//! A feed's count of faults never falls, and it stays the feed that it was (`source`).
 #![tactic(auto)]
 
 mod catching;

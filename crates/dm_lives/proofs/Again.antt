@@ -4,8 +4,9 @@ use Rattle.dm_cert.specs.Answers.{Setting}
 use Rattle.dm_store.specs.Blocks.{Stands}
 use Rattle.dm_store.specs.Calls.{Image}
 use Rattle.dm_store.specs.Journals.{HasCrashEnd}
-use Rattle.dm_book.specs.Books.{AreFronts, Book, IsSafe, reply_text}
+use Rattle.dm_book.specs.Books.{Book, IsSafe, reply_text}
 use Rattle.dm_serve.proofs.Answering.{as_many}
+use Rattle.dm_serve.proofs.Gone.{fronts_of_fronts}
 use Rattle.dm_serve.specs.Lives.{IsTakenUp}
 use Rattle.dm_lives.specs.Laws.{Holds, IsTakenUpAgain}
 
@@ -16,13 +17,13 @@ taken_from tells seen shown may_leave s first last image store safe holds = reco
   found = record { told = holds.told; stands = subst (Stands safe.contents) (sym holds.journal) safe.stands; durable = holds.durable };
   crash_end = subst (HasCrashEnd safe.contents) (sym holds.journal) safe.crash_end;
   restored = record { is_in = safe.is_in; is_true = safe.is_true; as_many = sym (as_many first.logs safe.book.logs safe.above.logs) };
-  shown_fronts = subst (λ (l : List (List ℕ)). AreFronts l (map reply_text safe.book.logs)) (sym holds.replies) safe.shown;
+  shown_fronts = fronts_of_fronts (shown store) image.shown (map reply_text safe.book.logs) holds.replies safe.shown;
 }
 
 pub taken_up_again : {S : Type 0} (tells : S → Type 0) (seen : S → List ℕ) (shown : S → List (List ℕ)) (may_leave : S → Image → Type 0) → IsTakenUpAgain tells seen shown may_leave
-taken_up_again tells seen shown may_leave = λ s first image store from holds. record {
-  contents = from.safe.contents;
-  book = from.safe.book;
-  taken = taken_from tells seen shown may_leave s first from.last image store from.safe holds;
-  grows = from.safe.above;
+taken_up_again tells seen shown may_leave = λ s first last image store safe holds. record {
+  contents = safe.contents;
+  book = safe.book;
+  taken = taken_from tells seen shown may_leave s first last image store safe holds;
+  grows = safe.above;
 }

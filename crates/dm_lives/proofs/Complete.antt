@@ -1,5 +1,5 @@
 -- What a life left is refused for want of room, or for a feed that does not give again what it had given.
-use Rattle.std.proofs.Common.{◌≡◌, ◌<◌, inl, ⊎_elim, inr, ℕ, List, [], ◌++◌, length, map, get_or, Option, None, Some, IfSome, slice_get, refl, sym, ap, subst, ◌∙◌, arith}
+use Rattle.std.proofs.Common.{◌≡◌, ◌<◌, inl, ⊎_elim, inr, ℕ, List, [], ◌++◌, length, map, get_or, Option, None, Some, IfSome, slice_get, sym, ap, subst, ◌∙◌, arith}
 use Rattle.std.specs.Option.{option_map}
 use Rattle.std.proofs.lemmas.List.{length-map}
 use Rattle.std.proofs.lemmas.Option.{slice_get-get_or, slice_get-map}
@@ -14,25 +14,23 @@ use Rattle.dm_book.specs.Books.{Book, IsSafe}
 use Rattle.dm_rounds.proofs.Places.{mapped_at, some_is}
 use Rattle.dm_tail.specs.declared.tail.Tail.{Tail}
 use Rattle.dm_watch.specs.Settled.{all_items}
-use Rattle.dm_catch_up.specs.Feeds.{AnswersFront, DiffersAt}
+use Rattle.dm_tail.specs.Sources.{AnswerFronts, AnswersFront}
+use Rattle.dm_catch_up.specs.Feeds.{DiffersAt}
 use Rattle.dm_serve.specs.Ends.{IsFeedRefusal}
 use Rattle.dm_serve.proofs.Answering.{as_many}
 use Rattle.dm_serve.specs.Lives.{IsTakenUp}
 use Rattle.dm_lives.specs.Laws.{Holds}
-use Rattle.dm_lives.specs.Growth.{AllAnswer, HasNotGrown, IsComplete, IsOfLessFeed, RoundsAnswer}
+use Rattle.dm_lives.specs.Growth.{HasNotGrown, IsComplete, IsOfLessFeed, RoundsAnswer}
 use Rattle.dm_lives.proofs.Again.{taken_from}
 use Rattle.dm_lives.proofs.Growth.{not_grown}
 use Rattle.dm_lives.proofs.Refusals.{fronts_at, refused_so}
-
-none_is_some : {X : Type 0} {x : X} → None ≡ Some x → ⊥
-none_is_some e = cc
 
 if_some : {X : Type 0} (o : Option X) (P Q : X → Type 0) → ((x : X) → P x → Q x) → IfSome o P → IfSome o Q
 if_some None P Q f h = tt
 if_some (Some x) P Q f h = f x h
 
 module _ {S T : Type 0} (tells : S → Type 0) (seen : S → List ℕ) (shown : S → List (List ℕ)) (may_leave : S → Image → Type 0) (given : T → Option (List ℕ)) (s : Setting) (first last : Book) (image : Image)
-    (had : List (List ℕ)) (tails : List (Tail T)) (old new : Journal S) (text : List ℕ) (safe : IsSafe s first last image) (answer : AllAnswer had last.logs) (holds : Holds tells seen shown may_leave image old.store) where
+    (had : List (List ℕ)) (tails : List (Tail T)) (old new : Journal S) (text : List ℕ) (safe : IsSafe s first last image) (answer : AnswerFronts (map Some had) last.logs) (holds : Holds tells seen shown may_leave image old.store) where
   taken : (n : ℕ) → n ≡ length first.logs → IsTakenUp tells seen shown may_leave s n old.store safe.contents safe.book
   taken n many =
       subst (λ (k : ℕ). IsTakenUp tells seen shown may_leave s k old.store safe.contents safe.book) (sym many) (taken_from tells seen shown may_leave s first last image old.store safe holds)
@@ -45,14 +43,14 @@ module _ {S T : Type 0} (tells : S → Type 0) (seen : S → List ℕ) (shown : 
       let within = r.within in
       let low : r.place < length safe.book.logs = omega (arith, within, many, above) in
       let low_last : r.place < length last.logs = omega (arith, low, below) in
-      let low_had : r.place < length had = omega (arith, low_last, given_many) in
+      let low_had : r.place < length had = omega (arith, low_last, given_many, length-map had Some) in
       let bytes : List ℕ = get_or had r.place [] in
       let items : List LogItem = get_or safe.book.logs r.place [] in
       let all : List LogItem = get_or last.logs r.place [] in
       let log = slice_get-get_or safe.book.logs r.place [] low in
       let gave = slice_get-get_or had r.place [] low_had in
       let longer : IsPrefix items all = fronts_at safe.book.logs last.logs r.place safe.below.logs low in
-      let answers : AnswersFront (Some bytes) all = answer.each r.place bytes all gave (slice_get-get_or last.logs r.place [] low_last) in
+      let answers : AnswersFront (Some bytes) all = answer.each r.place (Some bytes) all (slice_get-map Some had r.place ∙ ap (option_map Some) gave) (slice_get-get_or last.logs r.place [] low_last) in
       record {
         place = r.place;
         at_line = r.at_line;
@@ -67,33 +65,33 @@ module _ {S T : Type 0} (tells : S → Type 0) (seen : S → List ℕ) (shown : 
         line = r.line;
       }
 
-pub complete : {S T : Type 0} (tells : S → Type 0) (seen : S → List ℕ) (shown : S → List (List ℕ)) (may_leave : S → Image → Type 0) (store_faults : S → ℕ) (given : T → Option (List ℕ)) (faults : T → ℕ)
-    → IsComplete tells seen shown may_leave store_faults given faults
-complete tells seen shown may_leave store_faults given faults = λ s first last image had names store feeds tails old new text penalty plans few many safe answer holds due.
+pub complete : {S T : Type 0} (tells : S → Type 0) (seen : S → List ℕ) (shown : S → List (List ℕ)) (may_leave : S → Image → Type 0) (moment : S → ℕ) (left_since : S → ℕ → Image → Type 0) (store_faults : S → ℕ)
+    (given : T → Option (List ℕ)) (faults : T → ℕ)
+    → IsComplete tells seen shown may_leave moment left_since store_faults given faults
+complete tells seen shown may_leave moment left_since store_faults given faults = λ s first last image had names store feeds tails old new text penalty plans few many safe answer holds due.
     ⊎_elim inl (λ r. inr (of_less tells seen shown may_leave given s first last image had tails old new text safe answer holds (length names) many r))
-    (refused_so tells seen shown may_leave store_faults given faults s names store feeds tails old new safe.contents safe.book text penalty plans few
+    (refused_so tells seen shown may_leave moment left_since store_faults given faults s names store feeds tails old new safe.contents safe.book text penalty plans few
     (taken tells seen shown may_leave given s first last image had tails old new text safe answer holds (length names) many) due)
 
 -- ---- what rounds answer
 
-gave_front : (front pending bytes : List ℕ) (o : Option (List ℕ)) → o ≡ Some bytes → IfSome o (λ all. all ≡ front ++ pending) → IsPrefix front bytes
-gave_front front pending bytes None e h = absurd (none_is_some e)
-gave_front front pending bytes (Some all) e h = (pending, sym h ∙ some_is refl e)
+gave_front : (front pending : List ℕ) (o : Option (List ℕ)) → IfSome o (λ all. all ≡ front ++ pending) → IfSome o (IsPrefix front)
+gave_front front pending None is = tt
+gave_front front pending (Some all) is = (pending, sym is)
 
 pub rounds_answer : {T : Type 0} (given : T → Option (List ℕ)) → RoundsAnswer given
 rounds_answer given = λ desk feeds had watching told. record {
-  as_many = sym (length-map had Some) ∙ (ap length (sym told) ∙ (length-map feeds (λ watched. given watched.tail.feed) ∙ sym (length-map feeds all_items)));
-  each = λ place bytes items gave log.
+  as_many = length-map feeds all_items ∙ (sym (length-map feeds (λ watched. given watched.tail.feed)) ∙ ap length told);
+  each = λ place source items gave log.
       let at = mapped_at all_items feeds place items log in
       let watched = at.0 in
       let one = watching.each place watched at.1 in
       let here : slice_get (map (λ w. given w.tail.feed) feeds) place ≡ Some (given watched.tail.feed) = slice_get-map (λ w. given w.tail.feed) feeds place ∙ ap (option_map (λ w. given w.tail.feed)) at.1 in
-      let there : slice_get (map Some had) place ≡ Some (Some bytes) = slice_get-map Some had place ∙ ap (option_map Some) gave in
-      let is : given watched.tail.feed ≡ Some bytes = some_is here (ap (λ (l : List (Option (List ℕ))). slice_get l place) told ∙ there) in
+      let is : given watched.tail.feed ≡ source = some_is here (ap (λ (l : List (Option (List ℕ))). slice_get l place) told ∙ gave) in
       record {
         front = one.front;
         whole = one.fed.whole;
         due = subst (λ (l : List LogItem). AreDueItems 0 (lines_of one.front) (map due_of l)) (sym at.2) one.fed.due;
-        is_front = gave_front one.front watched.tail.pending.items bytes (given watched.tail.feed) is one.is_all;
+        is_front = subst (λ (o : Option (List ℕ)). IfSome o (IsPrefix one.front)) is (gave_front one.front watched.tail.pending.items (given watched.tail.feed) one.is_all);
       };
 }

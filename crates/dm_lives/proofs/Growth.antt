@@ -10,7 +10,8 @@ use Rattle.dm_feed.proofs.Ahead.{due_items, same_items}
 use Rattle.dm_feed.proofs.Joining.{items_joined, lines_joined}
 use Rattle.dm_cert.specs.declared.replies.LogItem.{LogItem}
 use Rattle.dm_cert.specs.Logs.{due_of}
-use Rattle.dm_catch_up.specs.Feeds.{AnswersFront, HasNoLine, DiffersAt, IsOtherLine}
+use Rattle.dm_tail.specs.Sources.{AnswersFront}
+use Rattle.dm_catch_up.specs.Feeds.{HasNoLine, DiffersAt, IsOtherLine}
 use Rattle.dm_lives.specs.Growth.{HasNotGrown}
 
 -- ---- fronts

@@ -8,3 +8,9 @@ pub mod Growth
 pub mod Complete
 -- What the text of a store is refused for.
 pub mod Texts
+-- What a store in which nothing was served holds.
+pub mod New
+-- What run lives are.
+pub mod Runs
+-- What the first items of a log answer.
+pub mod Cut

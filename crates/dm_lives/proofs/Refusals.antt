@@ -77,7 +77,8 @@ module _ {S T : Type 0} (tells : S → Type 0) (seen : S → List ℕ) (shown : 
   cases (inr (inr (inl r))) = inr r
   cases (inr (inr (inr r))) = inl r.line
 
-pub refused_so : {S T : Type 0} (tells : S → Type 0) (seen : S → List ℕ) (shown : S → List (List ℕ)) (may_leave : S → Image → Type 0) (store_faults : S → ℕ) (given : T → Option (List ℕ)) (faults : T → ℕ)
-    → IsRefusedSo tells seen shown may_leave store_faults given faults
-refused_so tells seen shown may_leave store_faults given faults = λ s names store feeds tails old new contents book text penalty plans few t due.
+pub refused_so : {S T : Type 0} (tells : S → Type 0) (seen : S → List ℕ) (shown : S → List (List ℕ)) (may_leave : S → Image → Type 0) (moment : S → ℕ) (left_since : S → ℕ → Image → Type 0) (store_faults : S → ℕ)
+    (given : T → Option (List ℕ)) (faults : T → ℕ)
+    → IsRefusedSo tells seen shown may_leave moment left_since store_faults given faults
+refused_so tells seen shown may_leave moment left_since store_faults given faults = λ s names store feeds tails old new contents book text penalty plans few t due.
     cases tells seen shown may_leave given s (length names) tails old new contents book text penalty plans few t due

@@ -7,22 +7,17 @@ use Rattle.dm_cert.specs.declared.replies.LogItem.{LogItem}
 use Rattle.dm_cert.specs.Answers.{Setting}
 use Rattle.dm_store.specs.Calls.{Image}
 use Rattle.dm_store.specs.declared.journal.Journal.{Journal}
-use Rattle.dm_book.specs.Books.{Book, IsSafe}
+use Rattle.dm_book.specs.Books.{AreFronts, Book, IsSafe}
 use Rattle.dm_desk.specs.Desks.{DeskValue}
 use Rattle.dm_tail.specs.declared.tail.Tail.{Tail}
 use Rattle.dm_tail.specs.declared.watched.Watched.{Watched}
 use Rattle.dm_watch.specs.Rounds.{IsWatching, book_of}
-use Rattle.dm_catch_up.specs.Feeds.{AnswersFront, HasNoLine}
+use Rattle.dm_tail.specs.Sources.{AnswerFronts}
+use Rattle.dm_catch_up.specs.Feeds.{HasNoLine}
 use Rattle.dm_store_text.specs.Lines.{feed_line, store_line}
 use Rattle.dm_store_text.specs.declared.status.Status.TheVariants.{Refused}
 use Rattle.dm_serve.specs.Ends.{IsDueOver}
 use Rattle.dm_lives.specs.Laws.{Holds}
-
--- Each log answers the due lines of a front of what its feed had given, which ends with a line feed: each once and in order.
-pub record AllAnswer (had : List (List ℕ)) (logs : List (List LogItem)) : Type 0 where
-  pub as_many : length had ≡ length logs
-  pub each : (place : ℕ) (bytes : List ℕ) (items : List LogItem) → slice_get had place ≡ Some bytes →
-      slice_get logs place ≡ Some items → AnswersFront (Some bytes) items
 
 -- the feed has no further line that ends behind those that the first items answer
 pub record RunsOut (now : List ℕ) (items : List LogItem) (line : ℕ) : Type 0 where
@@ -56,13 +51,13 @@ pub record IsOfLessFeed {T : Type 0} (given : T → Option (List ℕ)) (had : Li
 -- text that is due at the status Refused says that there is no room, or names a feed that does not give again what it had given. It is
 -- asked of no board.
 abbrev pub IsComplete : {S T : Type 0} → (S → Type 0) → (S → List ℕ) → (S → List (List ℕ)) → (S → Image → Type 0) → (S → ℕ) →
-    (T → Option (List ℕ)) → (T → ℕ) → Type 0
-IsComplete {S} {T} tells seen shown may_leave store_faults given faults =
+    (S → ℕ → Image → Type 0) → (S → ℕ) → (T → Option (List ℕ)) → (T → ℕ) → Type 0
+IsComplete {S} {T} tells seen shown may_leave moment left_since store_faults given faults =
     (s : Setting) (first last : Book) (image : Image) (had names : List (List ℕ)) (store : List ℕ) (feeds : List (Option T))
     (tails : List (Tail T)) (old new : Journal S) (text : List ℕ)
     → s.penalty ≤ PENALTY → s.plans ≤ PLANS → length names ≤ FEEDS → length names ≡ length first.logs
-    → (safe : IsSafe s first last image) → AllAnswer had last.logs → Holds tells seen shown may_leave image old.store
-    → IsDueOver tells seen shown may_leave store_faults given faults
+    → (safe : IsSafe s first last image) → AnswerFronts (map Some had) last.logs → Holds tells seen shown may_leave image old.store
+    → IsDueOver tells seen shown may_leave moment left_since store_faults given faults
     (λ net times notes. Unit {0}) names store feeds tails old new Refused s text
     → (text ≡ store_line (codes "full")) ⊎ IsOfLessFeed given had safe.book.logs tails text
 
@@ -70,4 +65,9 @@ IsComplete {S} {T} tells seen shown may_leave store_faults given faults =
 abbrev pub RoundsAnswer : {T : Type 0} → (T → Option (List ℕ)) → Type 0
 RoundsAnswer {T} given =
     (desk : DeskValue) (feeds : List (Watched T)) (had : List (List ℕ)) → IsWatching given desk feeds →
-    map (λ watched. given watched.tail.feed) feeds ≡ map Some had → AllAnswer had (book_of desk feeds).logs
+    map (λ watched. given watched.tail.feed) feeds ≡ map Some had → AnswerFronts (map Some had) (book_of desk feeds).logs
+
+-- What the logs of a book answer of their feeds, the logs of each front of it answer too: so it is at each moment of a life.
+abbrev pub FrontsAnswer : Type 0
+FrontsAnswer = (sources : List (Option (List ℕ))) (logs some : List (List LogItem)) → AreFronts some logs → AnswerFronts sources logs
+    → AnswerFronts sources some

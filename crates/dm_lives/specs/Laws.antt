@@ -1,23 +1,24 @@
 -- What one life of a server leaves to the next.
-use Rattle.std.specs.Prelude.{ℕ, ◌≡◌, ◌⊎◌, ◌≤◌, List, length, codes, Option}
+use Rattle.std.specs.Prelude.{ℕ, ◌≡◌, ◌⊎◌, ◌≤◌, List, [], length, codes, Option}
+use Rattle.std.proofs.Math.ListN.{replicate}
 use Rattle.dm_base.specs.declared.limits.TheConstants.{FEEDS, PENALTY}
 use Rattle.dm_cert.specs.declared.limits.TheConstants.{PLANS}
 use Rattle.dm_cert.specs.Answers.{Setting}
 use Rattle.dm_store.specs.Calls.{Image, LeavesJournal}
 use Rattle.dm_store.specs.declared.journal.Journal.{Journal}
-use Rattle.dm_book.specs.Books.{Book, IsFrontBook}
+use Rattle.dm_book.specs.Books.{AreFronts, Book, IsFrontBook, IsSafe}
 use Rattle.dm_tail.specs.declared.tail.Tail.{Tail}
 use Rattle.dm_store_text.specs.Lines.{store_line}
 use Rattle.dm_store_text.specs.declared.status.Status.TheVariants.{Refused}
 use Rattle.dm_serve.specs.Ends.{IsDueOver, IsFeedRefusal}
-use Rattle.dm_serve.specs.Lives.{IsSafeFrom, IsTakenUp}
+use Rattle.dm_serve.specs.Lives.{IsTakenUp}
 
--- The store holds what a crash left, all of it on the disk.
+-- The store holds what a crash left, all of it on the disk. A reply file may show less than it did: what was not synced is lost.
 pub record Holds {S : Type 0} (tells : S → Type 0) (seen : S → List ℕ) (shown : S → List (List ℕ))
     (may_leave : S → Image → Type 0) (image : Image) (store : S) : Type 0 where
   pub told : tells store
   pub journal : seen store ≡ image.journal
-  pub replies : shown store ≡ image.shown
+  pub replies : AreFronts (shown store) image.shown
   pub durable : LeavesJournal (seen store) (may_leave store)
 
 -- It was taken up, with a book to which the first has grown.
@@ -31,18 +32,39 @@ pub record GoesOnAgain {S : Type 0} (tells : S → Type 0) (seen : S → List �
 -- Whatever a crash left of a life that began with some book, a store that holds that is taken up.
 abbrev pub IsTakenUpAgain : {S : Type 0} → (S → Type 0) → (S → List ℕ) → (S → List (List ℕ)) → (S → Image → Type 0) → Type 0
 IsTakenUpAgain {S} tells seen shown may_leave =
-    (s : Setting) (first : Book) (image : Image) (store : S) → IsSafeFrom s first image → Holds tells seen shown may_leave image store
+    (s : Setting) (first last : Book) (image : Image) (store : S) → IsSafe s first last image → Holds tells seen shown may_leave image store
     → GoesOnAgain tells seen shown may_leave s first store
+
+-- ---- a store in which nothing was served yet
+
+-- its journal has no byte, all of it on the disk, and no reply file shows any
+pub record IsNew {S : Type 0} (tells : S → Type 0) (seen : S → List ℕ) (shown : S → List (List ℕ))
+    (may_leave : S → Image → Type 0) (feeds : ℕ) (store : S) : Type 0 where
+  pub told : tells store
+  pub journal : seen store ≡ []
+  pub replies : shown store ≡ replicate feeds []
+  pub durable : LeavesJournal (seen store) (may_leave store)
+
+-- the book of so many feeds in which there is nothing
+abbrev pub empty_book : ℕ → Book
+empty_book feeds = record { history = []; logs = replicate feeds [] }
+
+-- Such a store is taken up, with no block and that book.
+abbrev pub IsNewTakenUp : {S : Type 0} → (S → Type 0) → (S → List ℕ) → (S → List (List ℕ)) → (S → Image → Type 0) → Type 0
+IsNewTakenUp {S} tells seen shown may_leave = (s : Setting) (feeds : ℕ) (store : S) → IsNew tells seen shown may_leave feeds store
+    → IsTakenUp tells seen shown may_leave s feeds store [] (empty_book feeds)
+
+-- ---- what is refused
 
 -- Where a store is taken up, a text that is due at the status Refused says that there is no room, or names a feed that has another line
 -- than was answered. It is asked of no board.
 abbrev pub IsRefusedSo : {S T : Type 0} → (S → Type 0) → (S → List ℕ) → (S → List (List ℕ)) → (S → Image → Type 0) → (S → ℕ) →
-    (T → Option (List ℕ)) → (T → ℕ) → Type 0
-IsRefusedSo {S} {T} tells seen shown may_leave store_faults given faults =
+    (S → ℕ → Image → Type 0) → (S → ℕ) → (T → Option (List ℕ)) → (T → ℕ) → Type 0
+IsRefusedSo {S} {T} tells seen shown may_leave moment left_since store_faults given faults =
     (s : Setting) (names : List (List ℕ)) (store : List ℕ) (feeds : List (Option T)) (tails : List (Tail T))
     (old new : Journal S) (contents : List (List ℕ)) (book : Book) (text : List ℕ)
     → s.penalty ≤ PENALTY → s.plans ≤ PLANS → length names ≤ FEEDS →
     IsTakenUp tells seen shown may_leave s (length names) old.store contents book
-    → IsDueOver tells seen shown may_leave store_faults given faults
+    → IsDueOver tells seen shown may_leave moment left_since store_faults given faults
     (λ net times notes. Unit {0}) names store feeds tails old new Refused s text
     → (text ≡ store_line (codes "full")) ⊎ IsFeedRefusal tells seen shown may_leave given s (length names) tails old new text

@@ -4,3 +4,5 @@ pub mod Laws
 pub mod Growth
 -- What the text of such a store is refused for.
 pub mod Texts
+-- What run lives are.
+pub mod Runs

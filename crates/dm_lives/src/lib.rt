@@ -1,21 +1,28 @@
 //! Laws of a server's lives over one store: what a crash leaves of one is taken up by the next.
 //!
 //! It stands on dm_serve for what the lives of a server are and how they end, on dm_store for stores, on dm_store_text for what
-//! is not refused of a journal, on dm_catch_up for feeds that go on with their logs, and on dm_watch for rounds. The law
-//! `lives_are_one` of dm_book says that along any number of lives the book only grows.
+//! is not refused of a journal, on dm_catch_up for feeds that go on with their logs, on dm_watch for rounds, and on dm_cert for
+//! runs. The law `lives_are_one` of dm_book says that along any number of lives the book only grows.
 //!
 //! # What is promised
 //!
+//! [`new_is_taken_up`]: a store in which nothing was served yet is found as one that was taken up, with an empty book.
+//!
 //! [`left_is_taken_up`]: a store that holds what a crash left of a life is found as one that was taken up. Its book goes on from
-//! the first book of that life.
+//! the first book of that life. A reply file may hold less than it showed, as what was not synced is lost.
+//!
+//! [`lives_are_a_run`]: the book after any lives over a store in which nothing was served before is that of a true run.
 //!
 //! [`refused_for_room_or_feeds`]: a store that was found so is refused only for want of room, or for a feed that has another line
 //! than was answered.
 //!
-//! [`grown_feeds_are_not_refused`]: suppose that each log of the last book of a life answers the due lines of a front of what its
-//! feed had given, and that a crash left any moment of that life. Then what is left is refused only for want of room, or for a
-//! feed that does not give again all that it had given. Where such a feed gives a front of that, the refusal is for a line that
+//! [`grown_feeds_are_not_refused`]: suppose that each log of the last book of a life answers the due lines of a front of its
+//! feed's bytes, and that a crash left any moment of that life. Then what is left is refused only for want of room, or for a
+//! feed that does not give all these bytes again. Where such a feed gives a front of that, the refusal is for a line that
 //! does not come.
+//!
+//! [`fronts_answer_feeds`]: where the logs of a book answer fronts of their feeds, so do those of each front of the book: that is
+//! of all that a crash may leave of a life with that last book.
 //!
 //! [`rounds_answer_feeds`]: between two rounds, each log of a watch's book answers the due lines of a front of what its feed has
 //! given. At the end of a day the same holds by the day's own clause.
@@ -27,6 +34,6 @@
 mod laws;
 
 pub use laws::{
-    grown_feeds_are_not_refused, left_is_taken_up, refused_for_room_or_feeds, rounds_answer_feeds,
-    texts_are_refused_for_room,
+    fronts_answer_feeds, grown_feeds_are_not_refused, left_is_taken_up, lives_are_a_run,
+    new_is_taken_up, refused_for_room_or_feeds, rounds_answer_feeds, texts_are_refused_for_room,
 };

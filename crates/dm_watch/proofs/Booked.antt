@@ -82,7 +82,7 @@ beside f g (x ∷ xs) (z ∷ ys) zero y same at =
     (x, slice_get-get_or (x ∷ xs) 0 x (omega arith), ap f (sym first) ∙ cons_head same)
 beside f g (x ∷ xs) (z ∷ ys) (suc place) y same at = let r = beside f g xs ys place y (cons_tail same) at in (r.0, r.1, r.2)
 
-all_at : {T : Type 0} (feeds : List (Watched T)) (place : ℕ) (one : Watched T) → slice_get feeds place ≡ Some one → All IsShown feeds → IsShown one
+pub all_at : {T : Type 0} (feeds : List (Watched T)) (place : ℕ) (one : Watched T) → slice_get feeds place ≡ Some one → All IsShown feeds → IsShown one
 all_at feeds place one at h = subst IsShown (get_or_from_slice_get feeds place one one at) (h place one (slice_get_within feeds place one at))
 
 -- ---- a true book

@@ -1,5 +1,5 @@
 -- One round: what was answered is settled, where there is anything new.
-use Rattle.std.proofs.Common.{◌≡◌, ℕ, ◌≤◌, Bool, true, false, List, [], ◌∷◌, length, map, take, drop, get_or, Option, Vec, Result, Ok, Err, refl, sym, ap, subst, ◌∙◌, arith, All}
+use Rattle.std.proofs.Common.{◌≡◌, ℕ, ◌<◌, ◌≤◌, Bool, true, false, List, [], ◌∷◌, length, map, take, drop, get_or, Option, Vec, Result, Ok, Err, refl, sym, ap, subst, ◌∙◌, arith, length-append, All}
 use Rattle.std.proofs.lemmas.List.{take_all, length-map}
 use Rattle.std.proofs.lemmas.List.Elements.{All-head, All-tail}
 use Rattle.std.proofs.lemmas.Option.{slice_get_within, slice_get-get_or, get_or_from_slice_get}
@@ -20,9 +20,10 @@ use Rattle.std.specs.declared.alloc.Global.{Global}
 use Rattle.dm_watch.specs.declared.stops.RoundStop.{RoundStop}
 use Rattle.dm_watch.specs.Settled.{old_items, new_items, all_items, IsShown, LogParts, log_parts, shown_parts, AreSettled, AreAllShown}
 use Rattle.dm_watch.specs.Inside.Settling.{MaySettle, Settles, SettlesSome, with_new, HasNew}
-use Rattle.dm_watch.specs.Rounds.{IsWatching, book_of}
+use Rattle.dm_feed.specs.Feeds.{IsUnended}
+use Rattle.dm_watch.specs.Rounds.{HasNoneLeft, IsWatching, book_of}
 use Rattle.dm_watch.proofs.Synced.{same_of}
-use Rattle.dm_watch.proofs.Booked.{true_book, still_watching, book_grows, old_logs, logs_differ, beside}
+use Rattle.dm_watch.proofs.Booked.{true_book, still_watching, book_grows, old_logs, logs_differ, beside, all_at}
 
 -- ---- where nothing is new
 
@@ -107,6 +108,11 @@ pub all_shown_too : {T : Type 0} (given : T → Option (List ℕ)) (feeds synced
 all_shown_too given feeds synced same (Ok now) h = h ∙ same_of given feeds synced same (λ (p : LogParts). record p { shown = length p.items })
 all_shown_too given feeds synced same (Err stop) h = tt
 
+pub sources_too : {T Y : Type 0} (f : Watched T → Y) (feeds synced : List (Watched T)) → map f synced ≡ map f feeds → (result : Result (Vec (Watched T) Global) RoundStop)
+    → IfOk result (λ now. map f now.items ≡ map f synced) → IfOk result (λ now. map f now.items ≡ map f feeds)
+sources_too f feeds synced same (Ok now) h = h ∙ same
+sources_too f feeds synced same (Err stop) h = tt
+
 -- whether there was anything new
 pub new_if : (b : Bool) (P : Type 0) → (b ≡ true → P) → (b ≡ false → P → ⊥) → IsTrue b ↔ P
 new_if true P some none = (some, λ p. refl)
@@ -120,6 +126,23 @@ logs_same given batch d0 d1 feeds answered now a shown same none = old_logs give
 pub logs_other : {T : Type 0} (given : T → Option (List ℕ)) (batch : ℕ) (d0 d1 : DeskValue) (feeds answered now : List (Watched T)) → AnswersAll given batch d0 d1 feeds answered → All IsShown feeds → AreAllShown given answered now
     → HasNew answered → map all_items feeds ≡ map all_items now → ⊥
 logs_other given batch d0 d1 feeds answered now a shown same new is = logs_differ given batch d0 d1 feeds answered a shown new (is ∙ same_logs given answered now same)
+
+-- no line that ends is left where nothing is new
+pub all_ended : {T : Type 0} (given : T → Option (List ℕ)) (batch : ℕ) (d0 d1 : DeskValue) (feeds answered now : List (Watched T)) → AnswersAll given batch d0 d1 feeds answered → All IsShown feeds → AreAllShown given answered now
+    → All (λ w. length w.log.items ≤ w.shown) answered → 0 < batch → All HasNoneLeft now
+all_ended given batch d0 d1 feeds answered now a shown same none some = λ place d low.
+    let x = get_or now place d in
+    let b = beside (log_parts given) (shown_parts given) answered now place x same (slice_get-get_or now place d low) in
+    let within = slice_get_within answered place b.0 b.1 in
+    let one = get_or feeds place b.0 in
+    let there = slice_get-get_or feeds place b.0 (omega (arith, within, a.as_many)) in
+    let e = a.each place one b.0 there b.1 in
+    let all : one.shown ≡ length one.log.items = all_at feeds place one there shown in
+    let was : b.0.shown ≡ one.shown = e.answers.same in
+    let full : length b.0.log.items ≤ b.0.shown = subst (λ (w : Watched _). length w.log.items ≤ w.shown) (get_or_from_slice_get answered place b.0 b.0 b.1) (none place b.0 within) in
+    let few : length e.answers.more < batch = omega (arith, full, was, all, ap length e.answers.behind, length-append one.log.items e.answers.more, some) in
+    let pending : x.tail.pending.items ≡ b.0.tail.pending.items = ap (λ (p : LogParts). p.pending) b.2 in
+    subst IsUnended (sym pending) (e.answers.none_left few)
 
 pub as_many_now : {T : Type 0} (given : T → Option (List ℕ)) (feeds now : List (Watched T)) → AreAllShown given feeds now → length now ≡ length feeds
 as_many_now given feeds now same = sym (length-map now (log_parts given)) ∙ (ap length same ∙ length-map feeds (shown_parts given))

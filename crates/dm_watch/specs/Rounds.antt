@@ -8,7 +8,9 @@ use Rattle.dm_store.specs.declared.journal.Journal.{Journal}
 use Rattle.dm_book.specs.Books.{Book, IsFrontBook, IsSafe}
 use Rattle.dm_table_desk.specs.Tables.{desk_of}
 use Rattle.dm_tail.specs.Watching.{IsWatched}
+use Rattle.dm_feed.specs.Feeds.{IsUnended}
 use Rattle.dm_tail.specs.Feeds.{IsReady, AnswersAll, log_names}
+use Rattle.dm_tail.specs.Sources.{AnswerFronts}
 use Rattle.dm_tail.specs.declared.watched.Watched.{Watched}
 use Rattle.dm_watch.specs.Settled.{all_items, HaveSettled, AreAllShown}
 use Rattle.dm_watch.specs.declared.round.Watch.{Watch}
@@ -44,13 +46,19 @@ pub record GoesRound {T : Type 0} (given : T → Option (List ℕ)) (before now 
   pub batch : now.batch ≡ before.batch
   pub buffer : vec_len now.buffer ≡ vec_len before.buffer
 
--- In a round a book grew to another. A crash at any moment of it leaves a true book between the two. At Ok the other is that of the
--- watch; the journal has it, and it is shown.
+-- no line that ends is left of what the feed has given
+abbrev pub HasNoneLeft : {T : Type 0} → Watched T → Type 0
+HasNoneLeft watched = IsUnended watched.tail.pending.items
+
+-- In a round a book grew to another, whose logs answer fronts of the feeds' sources, each that of its own feed. A crash at any moment of
+-- the round leaves a true book between the two. At Ok the other is that of the watch; the journal has it, and it is shown.
 pub record Rounds {S T : Type 0} (tells : S → Type 0) (seen : S → List ℕ) (shown : S → List (List ℕ))
     (may_leave : S → Image → Type 0) (moment : S → ℕ) (left_since : S → ℕ → Image → Type 0)
-    (s : Setting) (before : Book) (old new : Journal S) (result : Result (Watch T × Bool) RoundStop) : Type 0 where
+    (s : Setting) (sources : List (Option (List ℕ))) (before : Book) (old new : Journal S)
+    (result : Result (Watch T × Bool) RoundStop) : Type 0 where
   pub after : Book
   pub grows : IsFrontBook before after
+  pub answers : AnswerFronts sources after.logs
   pub leaves : LeavesOnly moment left_since old.store new.store (IsSafe s before after)
   pub is_it : IfOk result (λ r. book_in r.0 ≡ after)
   pub done : OnOk result (HaveSettled tells seen shown may_leave s after.logs new)

@@ -9,13 +9,15 @@
 //!
 //! `Watch::round` asks that the logs answer what the feeds have given (`IsWatching`), and that all of them were shown. At `Ok`
 //! both hold again (`watching`, `shown`), and the next due lines of each feed were answered, in the order of the feeds
-//! (`answers`, `GoesRound`). Where no log has grown, nothing was done to the journal, and the answer says so (`idle`, `new`). At
-//! `Err` the watch is gone: a later start goes on with what is in the journal. `cause`: each stop has its cause (`StopsRound`);
-//! want of memory always counts as one. `later`: the count of the store's faults never falls.
+//! (`answers`, `GoesRound`). The feeds are the same ones, in the same order (`sources`). Where no log has grown, nothing was done
+//! to the journal, and the answer says so (`idle`, `new`); where a round may answer any line, none that ends is left then
+//! (`none_left`). At `Err` the watch is gone: a later start goes on with what is in the journal. `cause`: each stop has its cause
+//! (`StopsRound`); want of memory always counts as one. `later`: the count of the store's faults never falls.
 //!
-//! `rounds` (`Rounds`) is for logs that were settled in the journal and in the reply files before the round. The round leads from
-//! the book before it to a later book. A crash at any moment of the round leaves a true book between the two, and all that was
-//! shown is a front of the logs of the book that is left. At `Ok` the later book is that of the watch, and it is settled.
+//! `rounds` (`Rounds`) is for logs that were settled in the journal and in the reply files before the round. The round leads
+//! from the book before it to a later book, whose logs answer fronts of the feeds' sources. A crash at any moment of the
+//! round leaves a true book between the two, and all that was shown is a front of the logs of the book that is left. At `Ok`
+//! the later book is that of the watch, and it is settled.
 #![tactic(auto)]
 
 mod keeping;

@@ -4,6 +4,7 @@ ghost use Rattle.dm_cert.specs.Answers.{Setting};
 ghost use Rattle.dm_cert.specs.RunTexts.{IsSpelledItem};
 ghost use Rattle.dm_desk.specs.Planning.{PlansUnder};
 ghost use Rattle.dm_book.specs.Books.{Book};
+ghost use Rattle.dm_tail.specs.Sources.{source_in};
 ghost use Rattle.dm_watch.specs.Settled.{AreAllShown};
 ghost use Rattle.dm_watch.specs.Stops.{HasCauses};
 ghost use Rattle.dm_watch.specs.Inside.Settling.{MaySettle, SettlesSome, HasNew};
@@ -35,7 +36,7 @@ pub struct Watch<'n, T: Growing + Drop> {
 impl<'n, T: Growing + Drop> Watch<'n, T> {
     ghost use Rattle.dm_table_desk.specs.Tables.{setting_of};
     ghost use Rattle.dm_watch.specs.Settled.{IsShown, AreSettled, all_items};
-    ghost use Rattle.dm_watch.specs.Rounds.{IsWatching, GoesRound, Rounds, desk_in, book_in};
+    ghost use Rattle.dm_watch.specs.Rounds.{HasNoneLeft, IsWatching, GoesRound, Rounds, desk_in, book_in};
     ghost use Rattle.dm_watch.specs.Stops.{StopsRound};
 
     /// Looks at each feed, answers what they have appended, in the order of the feeds, commits the answers as one block of the
@@ -52,9 +53,11 @@ impl<'n, T: Growing + Drop> Watch<'n, T> {
         ensures watching { IfOk result (λ r. IsWatching T.given (desk_in r.0) r.0.feeds.items) }
         ensures shown { IfOk result (λ r. All IsShown r.0.feeds.items) }
         ensures answers { IfOk result (λ r. GoesRound T.given self.entry r.0) }
+        ensures sources { IfOk result (λ r. map (source_in T.source) r.0.feeds.items ≡ map (source_in T.source) self.entry.feeds.items) }
 
-        // Where there was nothing new, nothing was done to the journal.
+        // Where there was nothing new, nothing was done to the journal, and no line that ends is left.
         ensures idle { IfOk result (λ r. r.1 ≡ false → journal.new ≡ journal.old) }
+        ensures none_left { IfOk result (λ r. r.1 ≡ false → 0 < self.entry.batch → All HasNoneLeft r.0.feeds.items) }
         ensures new { IfOk result (λ r. IsTrue r.1 ↔ map all_items self.entry.feeds.items ≢ map all_items r.0.feeds.items) }
 
         // Each stop has its cause, and the count of the store's faults never falls.
@@ -62,11 +65,12 @@ impl<'n, T: Growing + Drop> Watch<'n, T> {
             journal.old.end self.entry.batch (desk_in self.entry) self.entry.feeds.items) }
         ensures later { S.faults journal.old.store ≤ S.faults journal.new.store }
 
-        // A crash at any moment leaves a true book between that before the round and that after it.
+        // A crash at any moment leaves a true book between that before the round and that after it, whose logs answer the feeds.
         ensures rounds { (contents : List (List ℕ)) → AreSettled S.tells S.seen S.shown S.may_leave
             (setting_of self.entry.desk.plans self.entry.desk.table) contents (map all_items self.entry.feeds.items) journal.old
             → Rounds S.tells S.seen S.shown S.may_leave S.moment S.left_since
-            (setting_of self.entry.desk.plans self.entry.desk.table) (book_in self.entry) journal.old journal.new result }
+            (setting_of self.entry.desk.plans self.entry.desk.table) (map (source_in T.source) self.entry.feeds.items)
+            (book_in self.entry) journal.old journal.new result }
     {
         let Watch {
             alloc,
@@ -109,6 +113,7 @@ fn settle_new<S: Store, T: Growing + Drop>(
         → MaySettle S.tells S.seen S.shown S.may_leave s contents before after feeds.items journal.old
         → SettlesSome S.tells S.seen S.shown S.may_leave S.moment S.left_since s before after journal.old journal.new result }
     ensures parts { IfOk result (λ now. AreAllShown T.given feeds.items now.items) }
+    ensures sources { IfOk result (λ now. map (source_in T.source) now.items ≡ map (source_in T.source) feeds.items) }
     ensures cause { HasCauses T.faults (S.faults journal.old.store) (S.faults journal.new.store) journal.old.end feeds.items result }
     ensures idle { is_new ≡ false → journal.new ≡ journal.old }
 {

@@ -3,6 +3,7 @@ ghost use Rattle.std.specs.Prelude.{◌≡◌, ◌≤◌, ℕ, List, All, length
 ghost use Rattle.dm_cert.specs.Answers.{Setting};
 ghost use Rattle.dm_cert.specs.RunTexts.{IsSpelledItem};
 ghost use Rattle.dm_outside.specs.Printing.{Prints};
+ghost use Rattle.dm_tail.specs.Sources.{source_in};
 ghost use Rattle.dm_tape.specs.Rounds.{part_text, round_text};
 ghost use Rattle.dm_book.specs.Books.{Book};
 ghost use Rattle.dm_watch.specs.Settled.{AreAllShown, new_items, log_parts, shown_parts};
@@ -24,6 +25,7 @@ fn sync_one<T: Growing + Drop>(
     number: usize,
 ) -> Result<Watched<T>, RoundStop>
     ensures same { IfOk result (λ now. log_parts T.given now ≡ log_parts T.given watched) }
+    ensures source { IfOk result (λ now. T.source now.tail.feed ≡ T.source watched.tail.feed) }
     ensures cause { IfErr result (IsStopOfFeed T.faults watched number) }
 {
     if !watched.has_new() {
@@ -41,6 +43,7 @@ pub(crate) fn sync_feeds<T: Growing + Drop>(
     feeds: Vec<Watched<T>>,
 ) -> Result<Vec<Watched<T>>, RoundStop>
     ensures same { IfOk result (λ now. map (log_parts T.given) now.items ≡ map (log_parts T.given) feeds.items) }
+    ensures sources { IfOk result (λ now. map (source_in T.source) now.items ≡ map (source_in T.source) feeds.items) }
     ensures cause { IfErr result (IsStopOfFeeds T.faults feeds.items) }
 {
     let Ok(mut synced) = Vec::with_capacity(alloc, feeds.len()) else {
@@ -107,6 +110,7 @@ fn show_one<S: Store, T: Growing + Drop>(
     ensures shows { ShowsOne S.tells S.seen S.shown S.may_leave S.moment S.left_since watched place store.old store.new result }
     ensures cause { HasCauseInStore (S.faults store.old) (S.faults store.new) result }
     ensures parts { IfOk result (λ now. log_parts T.given now ≡ shown_parts T.given watched) }
+    ensures source { IfOk result (λ now. T.source now.tail.feed ≡ T.source watched.tail.feed) }
 {
     let Ok(text) = items_text(alloc, &watched.log[watched.shown..]) else {
         return Err(RoundStop::OutOfMemory);
@@ -131,6 +135,7 @@ fn show_feeds<S: Store, T: Growing + Drop>(
     ensures shows { ShowsAll S.tells S.seen S.shown S.may_leave S.moment S.left_since feeds.items store.old store.new result }
     ensures cause { HasCauseInStore (S.faults store.old) (S.faults store.new) result }
     ensures parts { IfOk result (λ now. AreAllShown T.given feeds.items now.items) }
+    ensures sources { IfOk result (λ now. map (source_in T.source) now.items ≡ map (source_in T.source) feeds.items) }
 {
     let Ok(mut shown) = Vec::with_capacity(alloc, feeds.len()) else {
         return Err(RoundStop::OutOfMemory);
@@ -162,6 +167,7 @@ pub(crate) fn settle<S: Store, T: Growing + Drop>(
         journal.old journal.new result }
     ensures cause { HasCauseToSettle (S.faults journal.old.store) (S.faults journal.new.store) journal.old.end feeds.items result }
     ensures parts { IfOk result (λ now. AreAllShown T.given feeds.items now.items) }
+    ensures sources { IfOk result (λ now. map (source_in T.source) now.items ≡ map (source_in T.source) feeds.items) }
 {
     let Ok(content) = text_of_round(alloc, &feeds) else {
         return Err(RoundStop::OutOfMemory);

@@ -12,6 +12,7 @@ invariant-loop-from g l =
       log : l.watched.log.items ≡ l.fn.watched.log.items;
       shown : l.watched.shown ≡ l.fn.watched.shown;
       later : g.T.Growing.faults l.fn.watched.tail.feed ≤ g.T.Growing.faults l.watched.tail.feed;
+      source : g.T.Growing.source l.watched.tail.feed ≡ g.T.Growing.source l.fn.watched.tail.feed;
     }
 
 abbrev pub decreases-loop-from : goal.decreases-loop-from

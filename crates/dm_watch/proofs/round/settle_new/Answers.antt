@@ -1,9 +1,10 @@
 use Rattle.std.proofs.Common.{◌≤◌, arith, length, sym, subst, ◌∙◌, All}
 use Rattle.dm_cert.specs.RunTexts.{IsSpelledItem}
+use Rattle.dm_tail.specs.Sources.{source_in}
 use Rattle.dm_watch.specs.Settled.{LogParts, AreSettled}
 use Rattle.dm_watch.proofs.Causes.{stop_of_feeds, settling_causes}
 use Rattle.dm_watch.proofs.Settled.{nothing_done}
-use Rattle.dm_watch.proofs.Rounding.{old_is_all, all_shown_still, may_settle_now, all_now, settles_some, all_shown_too}
+use Rattle.dm_watch.proofs.Rounding.{old_is_all, all_shown_still, may_settle_now, all_now, settles_some, all_shown_too, sources_too}
 use Rattle.dm_watch.proofs.round.settle_new.Goals as goal
 
 pub returns-then-not-is_new-clause-settles : goal.returns-then-not-is_new-clause-settles
@@ -49,3 +50,6 @@ returns-in-Err-clause-cause g c = record { later = omega arith; stops = stop_of_
 
 pub returns-clause-cause : goal.returns-clause-cause
 returns-clause-cause g c = settling_causes g.T.Growing.given g.T.Growing.faults _ _ c.args.journal.now.end c.args.feeds.items c.in-Ok.synced.items c.settle.result c.in-Ok.ensures.same c.settle.ensures.cause
+
+pub returns-clause-sources : goal.returns-clause-sources
+returns-clause-sources g c = sources_too (source_in g.T.Growing.source) c.args.feeds.items c.in-Ok.synced.items c.in-Ok.ensures.sources c.settle.result c.settle.ensures.sources

@@ -1,7 +1,9 @@
 use Rattle.std.proofs.Common.{◌≡◌, ◌∷◌, [], List, length, map, sym, ap, subst, ◌∙◌, arith, length-append}
 use Rattle.std.proofs.lemmas.List.{length-map}
 use Rattle.dm_tail.specs.declared.watched.Watched.{Watched}
+use Rattle.dm_tail.specs.Sources.{source_in}
 use Rattle.dm_tail.proofs.AllFeeds.{one_yielded, all_yielded}
+use Rattle.dm_tail.proofs.Sources.{one_more_source}
 use Rattle.dm_watch.specs.Settled.{log_parts, shown_parts, AreAllShown}
 use Rattle.dm_watch.specs.Inside.Showing.{old_text, all_text}
 use Rattle.dm_watch.proofs.Causes.{stop_later}
@@ -15,6 +17,7 @@ loop-watched-init g c =
       whole = whole;
       many = ap length c.in-Ok.ensures.items;
       parts = ap (map (log_parts g.T.Growing.given)) c.in-Ok.ensures.items;
+      sources = ap (map (source_in g.T.Growing.source)) c.in-Ok.ensures.items;
       later = omega arith;
       so_far = λ s contents before after start book logs showing.
           showing_as g.S.Store.tells g.S.Store.seen g.S.Store.shown g.S.Store.may_leave g.S.Store.moment g.S.Store.left_since s contents before after start c.args.store.now _ _ (ap (map old_text) (sym whole)) showing;
@@ -48,6 +51,7 @@ loop-watched-preserved g c =
       whole = one_yielded c.loop-watched.yielded _ _ c.args.feeds.items c.in-Some.watched is inv.whole;
       many = omega (arith, ap length pushed, length-append c.loop-watched.shown.items (c.in-Ok-show_one.watched ∷ []), length-append c.loop-watched.yielded (c.in-Some.watched ∷ []), inv.many);
       parts = parts_more (log_parts g.T.Growing.given) (shown_parts g.T.Growing.given) c.loop-watched.yielded c.loop-watched.shown.items c.push.new.self.items c.in-Some.watched c.in-Ok-show_one.watched pushed c.in-Ok-show_one.ensures.parts inv.parts;
+      sources = one_more_source (source_in g.T.Growing.source) c.loop-watched.shown.items c.push.new.self.items c.loop-watched.yielded c.in-Some.watched c.in-Ok-show_one.watched pushed c.in-Ok-show_one.ensures.source inv.sources;
       later = omega (arith, inv.later, c.in-Ok-show_one.ensures.cause.later);
       so_far = λ s contents before after start book logs showing.
           let now = showing_as g.S.Store.tells g.S.Store.seen g.S.Store.shown g.S.Store.may_leave g.S.Store.moment g.S.Store.left_since s contents before after start c.loop-watched.store _ _ (texts_here c.loop-watched.yielded _ _ c.in-Some.watched is) (inv.so_far s contents before after start book logs showing) in
@@ -82,3 +86,8 @@ returns-clause-cause g c = record { later = c.loop-watched.invariant.later; stop
 
 pub returns-in_default-clause-shows : goal.returns-in_default-clause-shows
 returns-in_default-clause-shows g c = λ s contents before after start book logs showing. (showing.leaves, tt)
+
+pub returns-clause-sources : goal.returns-clause-sources
+returns-clause-sources g c =
+    let all = all_yielded c.loop-watched.yielded c.loop-watched.watched-iterator.rest.items c.args.feeds.items (sym c.loop-watched.watched-iterator.rest.ok.0 ∙ c.in-None.ensures.steps.0) c.loop-watched.invariant.whole in
+    subst (λ (l : List (Watched _)). map (source_in g.T.Growing.source) c.loop-watched.shown.items ≡ map (source_in g.T.Growing.source) l) all c.loop-watched.invariant.sources
