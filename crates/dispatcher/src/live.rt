@@ -1,17 +1,16 @@
 //! The live server over real feeds, a real store and real boards.
-ghost use Rattle.std.specs.Prelude.{◌≡◌, ◌≤◌, length, vec_len, IfOk};
+ghost use Rattle.std.specs.Prelude.{◌≤◌, vec_len};
 ghost use Rattle.dm_base.specs.declared.limits.TheConstants.{BOARDS};
-ghost use Rattle.dm_words.specs.Asked.{names_in};
 ghost use Rattle.dm_words.specs.ServerAsked.{server_of};
 ghost use Rattle.dm_store_text.specs.Asked.{IsAsked};
 
+use crate::feeds::open_feeds;
 use crate::pace::FilePace;
 use dm_outside::{Board, FolderShelf, OpenGate, Sink};
 use dm_serve::{Server, ServerMeans, serve_day};
 use dm_store::{FileStore, Journal, OpenError};
 use dm_store_text::{Status, end_server_usage, end_store, end_unread, text_of_store};
-use dm_tail::FileFeed;
-use dm_words::{LiveWords, Names, ServeWords, read_serve_words};
+use dm_words::{LiveWords, ServeWords, read_serve_words};
 use std::alloc::{AllocError, Global};
 use std::fs::File;
 use std::rt::{Clock, Files};
@@ -85,7 +84,7 @@ fn serve<
     let Ok((path, stop)) = paths(alloc, words.store) else {
         return Status::NoMemory;
     };
-    let Ok(feeds) = open_feeds(rt, alloc, words.run.feeds) else {
+    let Ok(feeds) = open_feeds(rt, alloc, words.run.feeds, &stop) else {
         return Status::NoMemory;
     };
     let store = match FileStore::open(alloc, files, path, feeds.len() as u32) {
@@ -95,7 +94,7 @@ fn serve<
     let mut journal = Journal::new(store);
     let mut pace = FilePace {
         rt,
-        stop,
+        stop: &stop,
         feeds: feeds.len(),
         pauses: 0,
         since,
@@ -123,6 +122,7 @@ fn end_unopened<K: Sink>(stop: OpenError, store: &str, out: &mut K) -> Status {
         OpenError::OutOfMemory => Status::NoMemory,
         OpenError::Locked => end_store(out, "locked"),
         OpenError::Failed => end_unread(out, store),
+        OpenError::Unwritten => Status::WriteFault,
     }
 }
 
@@ -132,28 +132,4 @@ fn paths(alloc: Global, store: &str) -> Result<(String, String), AllocError> {
         format!(in alloc; "{store}")?,
         format!(in alloc; "{store}/stop")?,
     ))
-}
-
-/// The feeds of these names, each if it could be opened.
-fn open_feeds<R: Files<File = File>>(
-    rt: &R,
-    alloc: Global,
-    names: Names<'_>,
-) -> Result<Vec<Option<FileFeed>>, AllocError>
-    ensures { IfOk result (λ feeds. length feeds.items ≡ length (names_in names.entry)) }
-{
-    let mut feeds = Vec::new(alloc);
-    let mut rest = names;
-    while let Some((name, others)) = rest.split_first() {
-        let feed = match File::open(rt, name) {
-            Ok(file) => Some(FileFeed::new(file)),
-            Err(_) => None,
-        };
-        match feeds.push(feed) {
-            Ok(()) => {}
-            Err(error) => return Err(error.into()),
-        }
-        rest = others;
-    }
-    Ok(feeds)
 }

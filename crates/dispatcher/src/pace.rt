@@ -23,7 +23,7 @@ pub struct FilePace<'r, R> {
     pub rt: &'r R,
 
     /// The name of the file.
-    pub stop: String,
+    pub stop: &'r str,
 
     /// How many feeds there are.
     pub feeds: usize,
@@ -60,7 +60,7 @@ impl<R: Clock + Eprint + Files<File = File>> Pace for FilePace<'_, R> {
             return true;
         }
         self.pauses = PAUSES_BETWEEN;
-        fs::metadata(self.rt, self.stop.as_str()).is_err()
+        fs::metadata(self.rt, self.stop).is_err()
     }
 }
 

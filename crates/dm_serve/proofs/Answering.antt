@@ -7,6 +7,7 @@ use Rattle.std.proofs.Math.ListN.{set}
 use Rattle.std.proofs.Math.Seq.{drop-cons, set-append_seam, get_or-append_seam}
 use Rattle.std.specs.Prelude.{OnOk, Some, slice_get, slice_index_or, slice_set}
 use Rattle.std.specs.Option.{option_map}
+use mathlib.Core.List.{IsPrefix}
 use Rattle.dm_cert.specs.declared.replies.LogItem.{LogItem}
 use Rattle.dm_cert.specs.Answers.{Setting}
 use Rattle.dm_store.specs.Blocks.{at_rest}
@@ -90,6 +91,13 @@ fronts_with [] rest was text (one ∷ texts) p at = (([], append-nil text ∙ sy
 fronts_with (x ∷ first) rest was text [] p at = absurd p
 fronts_with (x ∷ first) rest was text (one ∷ texts) p at = (p.0, fronts_with first rest was text texts p.1 at)
 
+-- and then it goes on as that one
+front_at : (first rest : List (List ℕ)) (was text : List ℕ) (texts : List (List ℕ)) → AreFronts (first ++ was ∷ rest) texts → slice_get texts (length first) ≡ Some text → IsPrefix was text
+front_at [] rest was text [] p at = absurd p
+front_at [] rest was text (one ∷ texts) p at = subst (IsPrefix was) (some_same at) p.0
+front_at (x ∷ first) rest was text [] p at = absurd p
+front_at (x ∷ first) rest was text (one ∷ texts) p at = front_at first rest was text texts p.1 at
+
 -- the reply files of so many feeds were put anew, and the others show what they did
 abbrev pub RenewedTo : {S T : Type 0} → (S → Type 0) → (S → List ℕ) → (S → List (List ℕ)) → (S → Image → Type 0) → (S → ℕ) → (S → ℕ → Image → Type 0) → List (Watched T) → ℕ → S → S → Type 0
 RenewedTo {S} tells seen shown may_leave moment left_since feeds many old now =
@@ -128,6 +136,11 @@ module _ {S T : Type 0} (tells : S → Type 0) (seen : S → List ℕ) (shown : 
       fronts_with (map log_text (take place feeds)) (drop (place + 1) (shown old)) (get_or (shown old) place []) (log_text watched) (map reply_text book.logs)
       (subst (λ (l : List (List ℕ)). AreFronts l (map reply_text book.logs)) split now.fronts) text_at
 
+  longer : IsPrefix (get_or (shown old) place []) (log_text watched)
+  longer =
+      front_at (map log_text (take place feeds)) (drop (place + 1) (shown old)) (get_or (shown old) place []) (log_text watched) (map reply_text book.logs)
+      (subst (λ (l : List (List ℕ)). AreFronts l (map reply_text book.logs)) split now.fronts) text_at
+
   texts : map log_text (take place feeds) ++ log_text watched ∷ drop (place + 1) (shown old) ≡ map log_text (take (place + 1) feeds) ++ drop (place + 1) (shown old)
   texts =
       let one : take (place + 1) feeds ≡ take place feeds ++ watched ∷ [] =
@@ -140,10 +153,10 @@ module _ {S T : Type 0} (tells : S → Type 0) (seen : S → List ℕ) (shown : 
       → LeavesOnly moment left_since start new (IsSafe s book book)
       × OnOk result (IsStarting tells seen shown may_leave moment left_since s contents book start new × (shown new ≡ map log_text (take (place + 1) feeds) ++ drop (place + 1) (shown old)))
   renewed_one new (Ok u) puts kept =
-      let step = puts s contents book start (map log_text (take place feeds)) (drop (place + 1) (shown old)) (get_or (shown old) place []) here split fronts kept now in
+      let step = puts s contents book start (map log_text (take place feeds)) (drop (place + 1) (shown old)) (get_or (shown old) place []) here split longer fronts kept now in
       (step.0, (step.1.0, step.1.1 ∙ texts))
   renewed_one new (Err e) puts kept =
-      let step = puts s contents book start (map log_text (take place feeds)) (drop (place + 1) (shown old)) (get_or (shown old) place []) here split fronts kept now in
+      let step = puts s contents book start (map log_text (take place feeds)) (drop (place + 1) (shown old)) (get_or (shown old) place []) here split longer fronts kept now in
       (step.0, tt)
 
 -- where all were put anew

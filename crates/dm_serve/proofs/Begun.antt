@@ -21,7 +21,7 @@ use Rattle.dm_watch.specs.Rounds.{book_in}
 use Rattle.dm_watch.specs.Settled.{HaveSettled}
 use Rattle.dm_watch.specs.declared.round.Watch.{Watch}
 use Rattle.dm_watch.proofs.Fronts.{book_of_itself}
-use Rattle.dm_serve.specs.Lives.{IsLeft, IsSafeFrom, IsTakenUp}
+use Rattle.dm_serve.specs.Lives.{IsLeft, IsTakenUp}
 use Rattle.dm_serve.specs.Inside.Replies.{IsStarting, StopsRenewing}
 use Rattle.dm_serve.specs.Inside.Stages.{HasBegun, HasGone, StopsPutting}
 use Rattle.dm_serve.specs.Inside.Telling.{stop_of_commit, stop_of_read, stop_of_recover}
@@ -222,8 +222,8 @@ module _ {S : Type 0} (tells : S → Type 0) (seen : S → List ℕ) (shown : S 
       → book_in watch ≡ first → HaveSettled tells seen shown may_leave s first.logs now → HasGone tells seen shown may_leave moment left_since s first watch start now
   gone_since s first start mid watch now looked taken is settled = record {
     leaves =
-        weaker moment left_since start now.store (IsSafe s first first) (IsSafeFrom s first) (and_then moment left_since start mid now.store (IsSafe s first first) looked taken)
-        (λ image safe. record { last = first; safe = safe });
+        subst (λ (b : Book). LeavesOnly moment left_since start now.store (IsSafe s first b)) (sym is)
+        (and_then moment left_since start mid now.store (IsSafe s first first) looked taken);
     grows = subst (IsFrontBook first) (sym is) (book_of_itself first);
     settled = subst (λ (b : Book). HaveSettled tells seen shown may_leave s b.logs now) (sym is) settled;
   }

@@ -1,12 +1,16 @@
 -- Feeds that are opened, and that go on with their logs.
-use Rattle.std.proofs.Common.{◌≡◌, ℕ, List, [], ◌∷◌, ◌++◌, length, map, get_or, Option, Some, sym, ap, ◌∙◌, slice_get, All}
+use Rattle.std.proofs.Common.{◌≡◌, ◌⊎◌, inl, inr, ℕ, List, [], ◌∷◌, ◌++◌, length, map, get_or, Option, Some, sym, ap, ◌∙◌, slice_get, All}
 use Rattle.std.proofs.lemmas.List.{length-map, map-append}
 use Rattle.std.proofs.lemmas.Option.{slice_get-get_or}
+use Rattle.std.proofs.lemmas.Simd.{map-map}
+use Rattle.dm_tail.specs.Sources.{source_in}
+use Rattle.dm_tail.specs.declared.tail.Tail.{Tail}
 use Rattle.dm_tail.specs.declared.watched.Watched.{Watched}
 use Rattle.std.proofs.lemmas.Option.{slice_get-map}
 use Rattle.std.specs.Option.{option_map}
 use Rattle.dm_catch_up.specs.Catching.{IsFresh}
-use Rattle.dm_serve.specs.Lives.{NothingIsRead}
+use Rattle.dm_serve.specs.Lives.{AreFeedsOf, NothingIsRead, source_of, tail_source}
+use Rattle.dm_serve.specs.Inside.Stages.{tail_in}
 use Rattle.dm_serve.specs.Inside.Opening.{AreUnread, opened}
 
 -- what stands at a place of a list that is mapped
@@ -36,3 +40,12 @@ all_fresh given feeds unread none are = λ place d low.
       knows = one.knows;
       lines = one.lines;
     }
+
+-- the sources of feeds that were opened
+pub same_sources : {T : Type 0} (source : T → Option (List ℕ)) (feeds : List (Option T)) (unread : List (Watched T)) → AreUnread feeds unread → map (source_of source) feeds ≡ map (source_in source) unread
+same_sources source feeds unread are = ap (map (source_of source)) are.are ∙ map-map (source_of source) opened unread
+
+-- the feeds at an end have the sources that they had
+pub feeds_of : {T : Type 0} (source : T → Option (List ℕ)) (sources : List (Option (List ℕ))) (feeds : List (Watched T)) (tails : List (Tail T)) → map (source_in source) feeds ≡ sources → (tails ≡ []) ⊎ (tails ≡ map tail_in feeds) → AreFeedsOf source sources tails
+feeds_of source sources feeds tails same (inl none) = inl none
+feeds_of source sources feeds tails same (inr are) = inr (ap (map (tail_source source)) are ∙ (map-map (tail_source source) tail_in feeds ∙ same))

@@ -43,7 +43,7 @@ well_is_no_want e = cc
 module _ {K S T : Type 0} (taken : K → Option (List ℕ)) (sink_faults : K → ℕ) (tells : S → Type 0) (seen : S → List ℕ) (shown : S → List (List ℕ)) (may_leave : S → Image → Type 0) (moment : S → ℕ) (left_since : S → ℕ → Image → Type 0)
     (store_faults : S → ℕ) (given : T → Option (List ℕ)) (faults : T → ℕ) (up : Net → List ℕ → List Note → Type 0) (names : List (List ℕ)) (store : List ℕ) (s : Setting) (feeds : List (Option T)) (before now : K) (start new : Journal S) where
   abbrev Due : List (Tail T) → Status → List ℕ → Type 0
-  Due tails status text = IsDueOver tells seen shown may_leave store_faults given faults up names store feeds tails start new status s text
+  Due tails status text = IsDueOver tells seen shown may_leave moment left_since store_faults given faults up names store feeds tails start new status s text
 
   -- there was no memory, and nothing was written
   pub ends_wanting_so : (tails : List (Tail T)) (status : Status) → now ≡ before → status ≡ NoMemory → Ends taken sink_faults store_faults faults (Due tails) before now start new status
@@ -73,7 +73,7 @@ module _ {K S T : Type 0} (taken : K → Option (List ℕ)) (sink_faults : K →
   -- its run was printed, or there was no memory for that
   pub ends_day : (table : TableValue) (watched : List (Watched T)) (notes : List Note) (end : DayEnd T)
       → (end.tails.items ≡ map tail_in watched → FitsRun (run_in table (map log_in watched) notes)
-      → IsDayOf tells seen shown may_leave given up s (length names) end.tails.items start new (run_text 2 (run_in table (map log_in watched) notes)))
+      → IsDayOf tells seen shown may_leave moment left_since given up s (length names) end.tails.items start new (run_text 2 (run_in table (map log_in watched) notes)))
       → EndsDay taken sink_faults table watched notes before now end → Ends taken sink_faults store_faults faults (Due end.tails.items) before now start new end.status
   ends_day table watched notes end day h =
       elim h [

@@ -1,5 +1,5 @@
 -- Feeds that go on with their logs, one after another.
-use Rattle.std.proofs.Common.{◌≡◌, ◌≢◌, ℕ, ◌<◌, inl, inr, List, [], ◌∷◌, ◌++◌, length, map, set, get_or, Option, Some, refl, sym, ap, subst, ◌∙◌, arith, slice_get, length-append}
+use Rattle.std.proofs.Common.{◌≡◌, ◌≢◌, ℕ, zero, suc, ◌<◌, inl, inr, List, [], ◌∷◌, ◌++◌, length, map, set, get_or, Option, Some, refl, sym, ap, subst, ◌∙◌, arith, slice_get, length-append}
 use Rattle.std.specs.Option.{option_map}
 use Rattle.std.proofs.lemmas.List.{length-map, length-set}
 use Rattle.std.proofs.lemmas.Option.{slice_get_within, slice_get-map, slice_get-get_or}
@@ -68,3 +68,9 @@ one_stops given faults yielded logs before now place log was one caught here at 
   stands = get_set_same now place was one at;
   changed = h;
 }
+
+-- one feed went on, and has the source that it had
+pub one_same : {X Y : Type 0} (f : X → Y) (xs : List X) (place : ℕ) (was now : X) → slice_get xs place ≡ Some was → f now ≡ f was → map f (set xs place now) ≡ map f xs
+one_same f [] place was now at same = refl
+one_same f (x ∷ xs) zero was now at same = ap (λ (y : _). y ∷ map f xs) (same ∙ ap f (let is : was ≡ x = cc in is))
+one_same f (x ∷ xs) (suc place) was now at same = ap (λ (ys : List _). f x ∷ ys) (one_same f xs place was now at same)

@@ -21,7 +21,7 @@ use Rattle.dm_watch.specs.declared.round.Watch.{Watch}
 use Rattle.dm_watch.specs.declared.stops.RoundStop.{RoundStop}
 use Rattle.dm_watch.specs.declared.stops.RoundStop.TheVariants as round
 use Rattle.dm_serve.specs.Ends.{IsFullOf}
-use Rattle.dm_serve.specs.Lives.{IsSafeFrom}
+use Rattle.dm_serve.specs.Lives.{LivesOn}
 use Rattle.dm_serve.specs.Inside.Stages.{HasGone, IsGoing, StopsGoing}
 
 -- ---- books that grow
@@ -44,20 +44,31 @@ grows_on one more most p q = record {
 }
 
 -- what is safe between two books is so from one that went before
-pub safe_more : (s : Setting) (first before after : Book) → IsFrontBook first before → (image : Image) → IsSafe s before after image → IsSafeFrom s first image
+pub safe_more : (s : Setting) (first before after : Book) → IsFrontBook first before → (image : Image) → IsSafe s before after image → IsSafe s first after image
 safe_more s first before after grows image safe = record {
-  last = after;
-  safe = record {
-    contents = safe.contents;
-    stands = safe.stands;
-    crash_end = safe.crash_end;
-    book = safe.book;
-    is_in = safe.is_in;
-    is_true = safe.is_true;
-    above = grows_on first before safe.book grows safe.above;
-    below = safe.below;
-    shown = safe.shown;
-  };
+  contents = safe.contents;
+  stands = safe.stands;
+  crash_end = safe.crash_end;
+  book = safe.book;
+  is_in = safe.is_in;
+  is_true = safe.is_true;
+  above = grows_on first before safe.book grows safe.above;
+  below = safe.below;
+  shown = safe.shown;
+}
+
+-- and so is what was safe up to a book that has grown
+pub safe_on : (s : Setting) (first before after : Book) → IsFrontBook before after → (image : Image) → IsSafe s first before image → IsSafe s first after image
+safe_on s first before after grows image safe = record {
+  contents = safe.contents;
+  stands = safe.stands;
+  crash_end = safe.crash_end;
+  book = safe.book;
+  is_in = safe.is_in;
+  is_true = safe.is_true;
+  above = safe.above;
+  below = grows_on safe.book before after safe.below grows;
+  shown = safe.shown;
 }
 
 -- ---- faults
@@ -74,15 +85,19 @@ later_on a b c low high = omega (arith, low, high)
 
 module _ {S T : Type 0} (tells : S → Type 0) (seen : S → List ℕ) (shown : S → List (List ℕ)) (may_leave : S → Image → Type 0) (moment : S → ℕ) (left_since : S → ℕ → Image → Type 0)
     (s : Setting) (first : Book) (start : S) (watch : Watch T) (old new : Journal S) (gone : HasGone tells seen shown may_leave moment left_since s first watch start old) where
-  pub round_leaves : (result : Result (Watch T × Bool) RoundStop) → Rounds tells seen shown may_leave moment left_since s (book_in watch) old new result → LeavesOnly moment left_since start new.store (IsSafeFrom s first)
-  round_leaves result r =
-      and_then moment left_since start old.store new.store (IsSafeFrom s first) gone.leaves
-      (weaker moment left_since old.store new.store (IsSafe s (book_in watch) r.after) (IsSafeFrom s first) r.leaves (safe_more s first (book_in watch) r.after gone.grows))
+  round_leaves : (sources : List (Option (List ℕ))) (result : Result (Watch T × Bool) RoundStop) (r : Rounds tells seen shown may_leave moment left_since s sources (book_in watch) old new result) → LeavesOnly moment left_since start new.store (IsSafe s first r.after)
+  round_leaves sources result r =
+      and_then moment left_since start old.store new.store (IsSafe s first r.after)
+      (weaker moment left_since start old.store (IsSafe s first (book_in watch)) (IsSafe s first r.after) gone.leaves (safe_on s first (book_in watch) r.after r.grows))
+      (weaker moment left_since old.store new.store (IsSafe s (book_in watch) r.after) (IsSafe s first r.after) r.leaves (safe_more s first (book_in watch) r.after gone.grows))
+
+  pub round_lives : (sources : List (Option (List ℕ))) (result : Result (Watch T × Bool) RoundStop) → Rounds tells seen shown may_leave moment left_since s sources (book_in watch) old new result → LivesOn moment left_since s first sources start new.store
+  round_lives sources result r = record { last = r.after; leaves = round_leaves sources result r; answers = inr r.answers }
 
   -- where it was finished
-  pub round_gone : (now : Watch T) (is_new : Bool) → Rounds tells seen shown may_leave moment left_since s (book_in watch) old new (Ok (now, is_new)) → HasGone tells seen shown may_leave moment left_since s first now start new
-  round_gone now is_new r = record {
-    leaves = round_leaves (Ok (now, is_new)) r;
+  pub round_gone : (sources : List (Option (List ℕ))) (now : Watch T) (is_new : Bool) → Rounds tells seen shown may_leave moment left_since s sources (book_in watch) old new (Ok (now, is_new)) → HasGone tells seen shown may_leave moment left_since s first now start new
+  round_gone sources now is_new r = record {
+    leaves = subst (λ (b : Book). LeavesOnly moment left_since start new.store (IsSafe s first b)) (sym r.is_it) (round_leaves sources (Ok (now, is_new)) r);
     grows = subst (IsFrontBook first) (sym r.is_it) (grows_on first (book_in watch) r.after gone.grows r.grows);
     settled = subst (λ (b : Book). HaveSettled tells seen shown may_leave s b.logs new) (sym r.is_it) r.done;
   }
@@ -116,26 +131,26 @@ module _ {S T : Type 0} (tells : S → Type 0) (seen : S → List ℕ) (shown : 
   GoneOver s first start w journal = HasGone tells seen shown may_leave moment left_since s first w start journal
 
   -- what a round does, whatever blocks are settled
-  abbrev pub RoundsOf : Result (Watch T × Bool) RoundStop → Type 0
-  RoundsOf result =
+  abbrev pub RoundsOf : List (Option (List ℕ)) → Result (Watch T × Bool) RoundStop → Type 0
+  RoundsOf sources result =
       (contents : List (List ℕ)) → AreSettled tells seen shown may_leave (setting_of watch.desk.plans watch.desk.table) contents (map all_items watch.feeds.items) old
-      → Rounds tells seen shown may_leave moment left_since (setting_of watch.desk.plans watch.desk.table) (book_in watch) old new result
+      → Rounds tells seen shown may_leave moment left_since (setting_of watch.desk.plans watch.desk.table) sources (book_in watch) old new result
 
-  pub once_leaves : (result : Result (Watch T × Bool) RoundStop) → RoundsOf result → (s : Setting) (first : Book) (start : S) → setting_of watch.desk.plans watch.desk.table ≡ s → GoneOver s first start watch old
-      → LeavesOnly moment left_since start new.store (IsSafeFrom s first)
-  once_leaves result rounds s first start is gone =
+  pub once_lives : (sources : List (Option (List ℕ))) (result : Result (Watch T × Bool) RoundStop) → RoundsOf sources result → (s : Setting) (first : Book) (start : S) → setting_of watch.desk.plans watch.desk.table ≡ s → GoneOver s first start watch old
+      → LivesOn moment left_since s first sources start new.store
+  once_lives sources result rounds s first start is gone =
       let s0 : Setting = setting_of watch.desk.plans watch.desk.table in
       let here : GoneOver s0 first start watch old = subst (λ (x : Setting). GoneOver x first start watch old) (sym is) gone in
-      subst (λ (x : Setting). LeavesOnly moment left_since start new.store (IsSafeFrom x first)) is
-      (round_leaves tells seen shown may_leave moment left_since s0 first start watch old new here result (rounds here.settled.contents here.settled.settled))
+      subst (λ (x : Setting). LivesOn moment left_since x first sources start new.store) is
+      (round_lives tells seen shown may_leave moment left_since s0 first start watch old new here sources result (rounds here.settled.contents here.settled.settled))
 
-  pub once_gone : (now : Watch T) (is_new : Bool) → RoundsOf (Ok (now, is_new)) → (s : Setting) (first : Book) (start : S) → setting_of watch.desk.plans watch.desk.table ≡ s → GoneOver s first start watch old
+  pub once_gone : (sources : List (Option (List ℕ))) (now : Watch T) (is_new : Bool) → RoundsOf sources (Ok (now, is_new)) → (s : Setting) (first : Book) (start : S) → setting_of watch.desk.plans watch.desk.table ≡ s → GoneOver s first start watch old
       → GoneOver s first start now new
-  once_gone now is_new rounds s first start is gone =
+  once_gone sources now is_new rounds s first start is gone =
       let s0 : Setting = setting_of watch.desk.plans watch.desk.table in
       let here : GoneOver s0 first start watch old = subst (λ (x : Setting). GoneOver x first start watch old) (sym is) gone in
       subst (λ (x : Setting). GoneOver x first start now new) is
-      (round_gone tells seen shown may_leave moment left_since s0 first start watch old new here now is_new (rounds here.settled.contents here.settled.settled))
+      (round_gone tells seen shown may_leave moment left_since s0 first start watch old new here sources now is_new (rounds here.settled.contents here.settled.settled))
 
   module _ (given : T → Option (List ℕ)) (store_faults : S → ℕ) (faults : T → ℕ) where
     abbrev Stops : Watch T → Journal S → RoundStop → Type 0

@@ -1,9 +1,8 @@
 -- The text of a run at the end of a day.
-use Rattle.std.proofs.Common.{◌≡◌, ℕ, ◌≤◌, inr, List, [], ◌∷◌, ◌++◌, length, map, get_or, Option, None, Some, refl, sym, ap, subst, ◌∙◌, arith, slice_get, All}
-use Rattle.std.specs.Prelude.{IfSome, count_by}
+use Rattle.std.proofs.Common.{◌≡◌, ℕ, ◌+◌, ◌≤◌, inr, List, [], ◌∷◌, ◌++◌, length, map, get_or, Option, Some, refl, sym, ap, subst, ◌∙◌, arith, slice_get, All}
+use Rattle.std.specs.Prelude.{count_by}
 use Rattle.std.proofs.lemmas.List.{length-map}
-use Rattle.std.proofs.lemmas.Option.{slice_get-get_or}
-use mathlib.Core.List.{IsPrefix}
+use Rattle.std.proofs.lemmas.Option.{get_or_from_slice_get, slice_get-get_or, slice_get_within}
 use Rattle.dm_base.specs.declared.limits.TheConstants.{FEEDS}
 use Rattle.dm_network.specs.Net.{Net}
 use Rattle.dm_rows.specs.Rows.{RowsValue}
@@ -17,18 +16,19 @@ use Rattle.dm_cert.specs.Logs.{AreTrueLogs, IsTrueLog, all_items as logged, name
 use Rattle.dm_cert.specs.RunTexts.{FitsRun, IsSpelledLog, IsSpelledRun, run_text}
 use Rattle.dm_cert.specs.Runs.{AreTrueNotes, IsTextOf, IsTrueRun}
 use Rattle.dm_rounds.proofs.Places.{mapped_at}
-use Rattle.dm_store.specs.Calls.{Image}
+use Rattle.dm_store.specs.Calls.{Image, LeavesOnly}
 use Rattle.dm_store.specs.declared.journal.Journal.{Journal}
-use Rattle.dm_book.specs.Books.{Book, IsFrontBook, log_of}
+use Rattle.dm_book.specs.Books.{Book, IsFrontBook, IsSafe, log_of}
 use Rattle.dm_table.specs.Value.{IsTable, TableValue}
 use Rattle.dm_table_desk.specs.Tables.{setting_of}
 use Rattle.dm_tail.specs.declared.tail.Tail.{Tail}
 use Rattle.dm_tail.specs.declared.watched.Watched.{Watched}
-use Rattle.dm_watch.specs.Rounds.{desk_in}
+use Rattle.dm_watch.specs.Rounds.{HasNoneLeft, desk_in}
 use Rattle.dm_watch.specs.Settled.{HaveSettled, all_items}
 use Rattle.dm_watch.specs.declared.round.Watch.{Watch}
 use Rattle.dm_watch.proofs.Booked.{true_book}
-use Rattle.dm_catch_up.specs.Feeds.{AnswersFront}
+use Rattle.dm_tail.specs.Sources.{AnswersWhole}
+use Rattle.dm_tail.proofs.Sources.{answers_whole}
 use Rattle.dm_serve.specs.Served.{GoesOnFrom, IsDayOf}
 use Rattle.dm_serve.specs.Inside.Stages.{HasGone, HasGoneSince, IsGoing, log_in, tail_in}
 use Rattle.dm_store_text.specs.Written.{run_in}
@@ -45,10 +45,6 @@ same_items (w ∷ feeds) = ap (λ (l : List LogItem). w.log.items ++ l) (same_it
 
 some_same : {X : Type 0} {x y : X} → Some x ≡ Some y → x ≡ y
 some_same e = cc
-
-front_given : (front pending : List ℕ) (given : Option (List ℕ)) → IfSome given (λ bytes. bytes ≡ front ++ pending) → IfSome given (IsPrefix front)
-front_given front pending None all = tt
-front_given front pending (Some bytes) all = (pending, sym all)
 
 module _ {T : Type 0} (given : T → Option (List ℕ)) (s : Setting) (n : ℕ) (watch : Watch T) (going : IsGoing given s n watch) (notes : List Note) where
   abbrev table : TableValue
@@ -87,28 +83,33 @@ module _ {T : Type 0} (given : T → Option (List ℕ)) (s : Setting) (n : ℕ) 
     cost = ap (λ (x : RowsValue). cost_of table.network x table.times table.penalty) is.replayed;
   }
 
-  answers_front : (place : ℕ) (log : FeedLog) (tail : Tail T) → slice_get logs place ≡ Some log → slice_get (map tail_in watch.feeds.items) place ≡ Some tail → AnswersFront (given tail.feed) log.items
-  answers_front place log tail l t =
+  answers_all : All HasNoneLeft watch.feeds.items → (place : ℕ) (log : FeedLog) (tail : Tail T) → slice_get logs place ≡ Some log → slice_get (map tail_in watch.feeds.items) place ≡ Some tail
+      → AnswersWhole (given tail.feed) log.items
+  answers_all none_left place log tail l t =
       let one = mapped_at log_in watch.feeds.items place log l in
       let other = mapped_at tail_in watch.feeds.items place tail t in
       let same : one.0 ≡ other.0 = some_same (sym one.1 ∙ other.1) in
-      let w = going.watching.each place one.0 one.1 in
+      let none = none_left place one.0 (slice_get_within watch.feeds.items place one.0 one.1) in
+      let ended : HasNoneLeft one.0 = subst HasNoneLeft (get_or_from_slice_get watch.feeds.items place one.0 one.0 one.1) none in
       let feed : one.0.tail ≡ tail = ap tail_in same ∙ sym other.2 in
-      subst (λ (x : FeedLog). AnswersFront (given tail.feed) x.items) (sym one.2)
-      (subst (λ (x : Tail T). AnswersFront (given x.feed) one.0.log.items) feed
-      (record { front = w.front; whole = w.fed.whole; due = w.fed.due; is_front = front_given w.front one.0.tail.pending.items (given one.0.tail.feed) w.is_all }))
+      subst (λ (x : FeedLog). AnswersWhole (given tail.feed) x.items) (sym one.2)
+      (subst (λ (x : Tail T). AnswersWhole (given x.feed) one.0.log.items) feed
+      (answers_whole given (desk_in watch) (place + 1) one.0 ended (going.watching.each place one.0 one.1)))
 
   module _ {S : Type 0} (tells : S → Type 0) (seen : S → List ℕ) (shown : S → List (List ℕ)) (may_leave : S → Image → Type 0) (moment : S → ℕ) (left_since : S → ℕ → Image → Type 0)
       (up : Net → List ℕ → List Note → Type 0) (old new : Journal S) (tails : List (Tail T)) where
-    goes_on : (first : Book) → HasGone tells seen shown may_leave moment left_since s first watch old.store new → GoesOnFrom tells seen shown may_leave s first (run_in table logs notes) new
+    goes_on : (first : Book) → HasGone tells seen shown may_leave moment left_since s first watch old.store new → GoesOnFrom tells seen shown may_leave moment left_since s first (run_in table logs notes) old new
     goes_on first gone = record {
       grows = subst (λ (l : List (List LogItem)). IsFrontBook first (record { history = table.history; logs = l })) (sym (items_in watch.feeds.items)) gone.grows;
       settled = subst (λ (l : List (List LogItem)). HaveSettled tells seen shown may_leave s l new) (sym (items_in watch.feeds.items)) gone.settled;
+      leaves =
+          subst (λ (l : List (List LogItem)). LeavesOnly moment left_since old.store new.store (IsSafe s first (record { history = table.history; logs = l })))
+          (sym (items_in watch.feeds.items)) gone.leaves;
     }
 
-    pub is_day : IsTable table → FitsRun (run_in table logs notes) → AreTrueNotes (length table.history) notes → 1 ≤ n → n ≤ FEEDS → up table.network table.times notes → tails ≡ map tail_in watch.feeds.items
-        → HasGoneSince tells seen shown may_leave moment left_since s n watch old.store new → IsDayOf tells seen shown may_leave given up s n tails old new (run_text 2 (run_in table logs notes))
-    is_day is fits noted some few boards are gone = record {
+    pub is_day : IsTable table → FitsRun (run_in table logs notes) → AreTrueNotes (length table.history) notes → 1 ≤ n → n ≤ FEEDS → up table.network table.times notes → tails ≡ map tail_in watch.feeds.items → All HasNoneLeft watch.feeds.items
+        → HasGoneSince tells seen shown may_leave moment left_since s n watch old.store new → IsDayOf tells seen shown may_leave moment left_since given up s n tails old new (run_text 2 (run_in table logs notes))
+    is_day is fits noted some few boards are none_left gone = record {
       run = run_in table logs notes;
       net = ap (λ (x : Setting). x.net) going.setting;
       penalty = ap (λ (x : Setting). x.penalty) going.setting;
@@ -117,6 +118,6 @@ module _ {T : Type 0} (given : T → Option (List ℕ)) (s : Setting) (n : ℕ) 
       boards = boards;
       as_many = length-map watch.feeds.items log_in ∙ going.as_many;
       as_many_tails = ap length are ∙ (length-map watch.feeds.items tail_in ∙ going.as_many);
-      answers = λ place log tail l t. answers_front place log tail l (subst (λ (x : List (Tail T)). slice_get x place ≡ Some tail) are t);
+      answers = λ place log tail l t. answers_all none_left place log tail l (subst (λ (x : List (Tail T)). slice_get x place ≡ Some tail) are t);
       goes_on = λ contents first t. goes_on first (gone contents first t);
     }

@@ -8,7 +8,7 @@ use Rattle.dm_store.proofs.Moments.{goes_on, started}
 use Rattle.dm_book.specs.Books.{AreFronts, Book, IsBookIn, IsSafe, IsTrueBook, reply_text}
 use Rattle.dm_watch.proofs.Fronts.{book_of_itself}
 use Rattle.dm_watch.proofs.Safe.{rest_keeps}
-use Rattle.dm_serve.specs.Lives.{IsSafeFrom, IsTakenUp}
+use Rattle.dm_serve.specs.Lives.{IsTakenUp}
 use Rattle.dm_serve.specs.Inside.Replies.{IsKeptIn, IsStarting}
 
 module _ (s : Setting) (first : Book) where
@@ -31,9 +31,6 @@ module _ (s : Setting) (first : Book) where
   safe_at_rest contents image kept is fronts =
       let k = rest_keeps contents image.shown image is refl in
       safe_as contents image k.stands k.crash_end (inr kept.recorded) kept.is_true fronts
-
-  pub safe_from : (image : Image) → IsSafe s first first image → IsSafeFrom s first image
-  safe_from image safe = record { last = first; safe = safe }
 
 module _ {S : Type 0} (tells : S → Type 0) (seen : S → List ℕ) (shown : S → List (List ℕ)) (may_leave : S → Image → Type 0) (moment : S → ℕ) (left_since : S → ℕ → Image → Type 0) (s : Setting) where
   -- ---- a store that was found

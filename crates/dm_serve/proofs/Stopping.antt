@@ -147,7 +147,7 @@ module _ {K S T : Type 0} (taken : K → Option (List ℕ)) (sink_faults : K →
     (left_since : S → ℕ → Image → Type 0) (store_faults : S → ℕ) (given : T → Option (List ℕ)) (faults : T → ℕ) (up : Net → List ℕ → List Note → Type 0) (s : Setting) (names : List (List ℕ)) (store : List ℕ)
     (feeds : List (Option T)) (tails : List (Tail T)) (before now : K) (old new : Journal S) where
   abbrev Due : Status → List ℕ → Type 0
-  Due status text = IsDueOver tells seen shown may_leave store_faults given faults up names store feeds tails old new status s text
+  Due status text = IsDueOver tells seen shown may_leave moment left_since store_faults given faults up names store feeds tails old new status s text
 
   abbrev End : Status → Type 0
   End result = Ends taken sink_faults store_faults faults Due before now old new result
@@ -258,8 +258,8 @@ module _ {K S T : Type 0} (taken : K → Option (List ℕ)) (sink_faults : K →
     (before now : K) (old new : Journal S) (book : Book) (is_new : Bool) (one other : List (Watched T)) (end : DayEnd T) where
   pub at_feeds_ends : (stopped : StartStop) → length one ≡ length asked.run.feeds → length book.logs ≡ length asked.run.feeds → IsReadBack tells seen shown may_leave moment left_since s (length asked.run.feeds) book is_new old.store new.store
       → StopsCatchingUp given faults book.logs one other stopped → EndsAtFeeds taken sink_faults asked other stopped before now end
-      → Ends taken sink_faults store_faults faults (λ status text. IsDueOver tells seen shown may_leave store_faults given faults up asked.run.feeds asked.store (map opened one) end.tails.items old new status s text) before now old new end.status
+      → Ends taken sink_faults store_faults faults (λ status text. IsDueOver tells seen shown may_leave moment left_since store_faults given faults up asked.run.feeds asked.store (map opened one) end.tails.items old new status s text) before now old new end.status
   at_feeds_ends stopped many entries back why (inl h) =
-      ends_wanting taken sink_faults store_faults faults (λ status text. IsDueOver tells seen shown may_leave store_faults given faults up asked.run.feeds asked.store (map opened one) end.tails.items old new status s text) before now old new end.status h.0 h.1
+      ends_wanting taken sink_faults store_faults faults (λ status text. IsDueOver tells seen shown may_leave moment left_since store_faults given faults up asked.run.feeds asked.store (map opened one) end.tails.items old new status s text) before now old new end.status h.0 h.1
   at_feeds_ends stopped many entries back why (inr h) =
       catching_ends taken sink_faults tells seen shown may_leave moment left_since store_faults given faults up s asked.run.feeds asked.store (map opened one) end.tails.items before now old new book is_new one other refl many entries h.0 back stopped end.status why h.1

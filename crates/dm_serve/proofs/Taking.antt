@@ -1,5 +1,5 @@
 -- What was found in a store is kept while a server begins, and where it was taken up the day has gone on since.
-use Rattle.std.proofs.Common.{◌≡◌, ℕ, Bool, List, map, get_or, All, Option, Result, Ok, sym, ap, subst}
+use Rattle.std.proofs.Common.{◌≡◌, ℕ, Bool, List, map, get_or, All, inl, Option, Result, Ok, refl, sym, ap, subst}
 use Rattle.std.specs.Prelude.{OnOk}
 use Rattle.std.proofs.lemmas.Option.{get_or_from_slice_get, slice_get-get_or, slice_get_within}
 use Rattle.dm_rows.specs.declared.messages.Entry.{Entry}
@@ -12,17 +12,16 @@ use Rattle.dm_tail.specs.declared.watched.Watched.{Watched}
 use Rattle.dm_cert.specs.Answers.{Setting}
 use Rattle.dm_store.specs.Calls.{Image, LeavesOnly}
 use Rattle.dm_store.specs.declared.journal.Journal.{Journal}
-use Rattle.dm_store.proofs.Moments.{and_then, weaker}
+use Rattle.dm_store.proofs.Moments.{and_then}
 use Rattle.dm_book.specs.Books.{Book, IsSafe}
 use Rattle.dm_restore.specs.declared.heads.Head.{Head}
 use Rattle.dm_watch.specs.Rounds.{IsWatching, book_in}
 use Rattle.dm_watch.specs.Settled.{HaveSettled, all_items}
 use Rattle.dm_watch.specs.declared.round.Watch.{Watch}
-use Rattle.dm_serve.specs.Lives.{IsSafeFrom, IsTakenUp, KeepsBooks}
+use Rattle.dm_serve.specs.Lives.{IsTakenUp, KeepsBooks}
 use Rattle.dm_serve.specs.Inside.Replies.{Looks}
 use Rattle.dm_serve.specs.Inside.Stages.{AllGoOn, HasGoneSince, IsReadBack, TakesUp}
 use Rattle.dm_serve.proofs.Begun.{gone_since}
-use Rattle.dm_serve.proofs.Safe.{safe_from}
 use Rattle.dm_serve.proofs.Standing.{same_logs}
 
 -- the logs of a watch have spellings
@@ -42,8 +41,8 @@ spelled_logs logs spelled = λ place d low.
 
 module _ {S : Type 0} (tells : S → Type 0) (seen : S → List ℕ) (shown : S → List (List ℕ)) (may_leave : S → Image → Type 0) (moment : S → ℕ) (left_since : S → ℕ → Image → Type 0) (s : Setting) (n : ℕ) where
   -- a store that was only looked at
-  pub looked_keeps : (old new : S) → Looks tells seen shown may_leave moment left_since old new → KeepsBooks tells seen shown may_leave moment left_since s n old new
-  looked_keeps old new looks = λ contents first t. weaker moment left_since old new (IsSafe s first first) (IsSafeFrom s first) (looks.1 s n contents first t).0 (safe_from s first)
+  pub looked_keeps : (sources : List (Option (List ℕ))) (old new : S) → Looks tells seen shown may_leave moment left_since old new → KeepsBooks tells seen shown may_leave moment left_since s n sources old new
+  looked_keeps sources old new looks = λ contents first t. record { last = first; leaves = (looks.1 s n contents first t).0; answers = inl refl }
 
   -- by another name of the book
   pub read_back_as : (book other : Book) (is_new : Bool) (start mid : S) → book ≡ other → IsReadBack tells seen shown may_leave moment left_since s n book is_new start mid → IsReadBack tells seen shown may_leave moment left_since s n other is_new start mid
@@ -59,10 +58,13 @@ module _ {S : Type 0} (tells : S → Type 0) (seen : S → List ℕ) (shown : S 
         takes s contents first penalty plans f.1 (sym (ap (λ (b : Book). b.logs) f.0)) (subst (λ (m : ℕ). IsTakenUp tells seen shown may_leave s m old.store contents first) (sym feeds) l.1)
 
     -- whether it was taken up or not
-    pub taken_keeps : (result : Result (Unit {0}) E) → TakesUp tells seen shown may_leave moment left_since head is_new watch.feeds.items old new result → KeepsBooks tells seen shown may_leave moment left_since s n start new.store
-    taken_keeps result takes = λ contents first t.
-        weaker moment left_since start new.store (IsSafe s first first) (IsSafeFrom s first)
-        (and_then moment left_since start old.store new.store (IsSafe s first first) (back.looks.1 s n contents first t).0 (taken_at result takes contents first t).0) (safe_from s first)
+    pub taken_keeps : (result : Result (Unit {0}) E) → TakesUp tells seen shown may_leave moment left_since head is_new watch.feeds.items old new result → (sources : List (Option (List ℕ)))
+        → KeepsBooks tells seen shown may_leave moment left_since s n sources start new.store
+    taken_keeps result takes sources = λ contents first t. record {
+      last = first;
+      leaves = and_then moment left_since start old.store new.store (IsSafe s first first) (back.looks.1 s n contents first t).0 (taken_at result takes contents first t).0;
+      answers = inl refl;
+    }
 
     -- where it was
     pub taken_since : TakesUp {E = E} tells seen shown may_leave moment left_since head is_new watch.feeds.items old new (Ok tt) → HasGoneSince tells seen shown may_leave moment left_since s n watch start new

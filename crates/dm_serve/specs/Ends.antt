@@ -127,28 +127,30 @@ pub record IsStoreFault {S : Type 0} (tells : S → Type 0) (seen : S → List �
 
 -- The text that is due at a status over a network and start rows, to feeds of these names and a store of this one.
 abbrev pub IsDueOver : {S T : Type 0} → (S → Type 0) → (S → List ℕ) → (S → List (List ℕ)) → (S → Image → Type 0) → (S → ℕ) →
-    (T → Option (List ℕ)) → (T → ℕ) → (Net → List ℕ → List Note → Type 0) → List (List ℕ) → List ℕ → List (Option T) →
-    List (Tail T) → Journal S → Journal S → Status → Setting → List ℕ → Type 0
-IsDueOver tells seen shown may_leave store_faults given faults up names store feeds tails old new Well s text =
-    IsDayOf tells seen shown may_leave given up s (length names) tails old new text
-IsDueOver tells seen shown may_leave store_faults given faults up names store feeds tails old new Refused s text =
+    (S → ℕ → Image → Type 0) → (S → ℕ) → (T → Option (List ℕ)) → (T → ℕ) → (Net → List ℕ → List Note → Type 0) → List (List ℕ) →
+    List ℕ → List (Option T) → List (Tail T) → Journal S → Journal S → Status → Setting → List ℕ → Type 0
+IsDueOver tells seen shown may_leave moment left_since store_faults given faults up names store feeds tails old new Well s text =
+    IsDayOf tells seen shown may_leave moment left_since given up s (length names) tails old new text
+IsDueOver tells seen shown may_leave moment left_since store_faults given faults up names store feeds tails old new Refused s text =
     IsStoreRefusal tells seen shown may_leave s (length names) old new text
     ⊎ (IsReplyRefusal tells seen shown may_leave s (length names) old new text
     ⊎ (IsFeedRefusal tells seen shown may_leave given s (length names) tails old new text
     ⊎ IsFull tells seen shown may_leave given s (length names) old text))
-IsDueOver tells seen shown may_leave store_faults given faults up names store feeds tails old new ReadFault s text =
+IsDueOver tells seen shown may_leave moment left_since store_faults given faults up names store feeds tails old new ReadFault s text =
     IsFeedFault faults names feeds tails text ⊎ IsStoreFault tells seen shown may_leave store_faults store old new text
-IsDueOver tells seen shown may_leave store_faults given faults up names store feeds tails old new Usage s text = ⊥
-IsDueOver tells seen shown may_leave store_faults given faults up names store feeds tails old new WriteFault s text = ⊥
-IsDueOver tells seen shown may_leave store_faults given faults up names store feeds tails old new NoMemory s text = ⊥
+IsDueOver tells seen shown may_leave moment left_since store_faults given faults up names store feeds tails old new Usage s text = ⊥
+IsDueOver tells seen shown may_leave moment left_since store_faults given faults up names store feeds tails old new WriteFault s text = ⊥
+IsDueOver tells seen shown may_leave moment left_since store_faults given faults up names store feeds tails old new NoMemory s text = ⊥
 
 -- The text that is due at a status; a write fault and want of memory have none of their own.
 abbrev pub IsDue : {S T : Type 0} → (S → Type 0) → (S → List ℕ) → (S → List (List ℕ)) → (S → Image → Type 0) → (S → ℕ) →
-    (T → Option (List ℕ)) → (T → ℕ) → (Net → List ℕ → List Note → Type 0) → Told → (List ℕ → Type 0) → ServerAsked →
-    List (Option T) → List (Tail T) → Journal S → Journal S → Status → List ℕ → Type 0
-IsDue tells seen shown may_leave store_faults given faults up told is_sound asked feeds tails old new status text =
+    (S → ℕ → Image → Type 0) → (S → ℕ) → (T → Option (List ℕ)) → (T → ℕ) → (Net → List ℕ → List Note → Type 0) → Told →
+    (List ℕ → Type 0) → ServerAsked → List (Option T) → List (Tail T) → Journal S → Journal S → Status → List ℕ → Type 0
+IsDue tells seen shown may_leave moment left_since store_faults given faults up told is_sound asked feeds tails old new status text =
     IsOfFiles told is_sound asked status text
-    ⊎ IsOver told asked (IsDueOver tells seen shown may_leave store_faults given faults up asked.run.feeds asked.store feeds tails old new status) text
+    ⊎ IsOver told asked
+    (IsDueOver tells seen shown may_leave moment left_since store_faults given faults up asked.run.feeds asked.store feeds tails old new status)
+    text
 
 -- a call of some feed has failed
 pub record HasUnsynced {T : Type 0} (faults : T → ℕ) : Type 0 where

@@ -1,5 +1,5 @@
 -- Lives of a server over one store, each begun with what a crash left.
-use Rattle.std.specs.Prelude.{ℕ, ◌≡◌, ◌⊎◌, List, [], length, map, slice_get, Option, Some, Ok, IfSome}
+use Rattle.std.specs.Prelude.{ℕ, ◌≡◌, ◌⊎◌, List, [], length, map, slice_get, Option, None, Some, Ok, IfSome}
 use Rattle.dm_cert.specs.Answers.{Setting}
 use Rattle.dm_input.specs.Input.{Opening, OpeningAnswer, Told}
 use Rattle.dm_words.specs.Serving.{ServerAsked}
@@ -7,6 +7,8 @@ use Rattle.dm_store.specs.Calls.{AddsNone, Image, LeavesOnly}
 use Rattle.dm_store.specs.Journals.{HasCrashEnd, IsFound}
 use Rattle.dm_store.specs.declared.journal.Journal.{Journal}
 use Rattle.dm_book.specs.Books.{AreFronts, Book, IsSafe, reply_text}
+use Rattle.dm_tail.specs.Sources.{AnswerFronts}
+use Rattle.dm_tail.specs.declared.tail.Tail.{Tail}
 use Rattle.dm_restore.specs.Restoring.{IsRestored}
 use Rattle.dm_store_text.specs.Asked.{setting_for}
 
@@ -30,28 +32,47 @@ pub record IsLeft {S : Type 0} (seen : S → List ℕ) (shown : S → List (List
   pub replies : shown new ≡ shown old
   pub none : AddsNone (may_leave old) (may_leave new)
 
--- a crash left a true book that the first grew to, and what was shown is a front of its logs
-pub record IsSafeFrom (s : Setting) (first : Book) (image : Image) : Type 0 where
-  pub last : Book
-  pub safe : IsSafe s first last image
+-- ---- feeds
 
--- Whatever true book was found, a crash at any moment since left one that it grew to.
+-- what is given to a feed of a server, if it could be opened
+abbrev pub source_of : {T : Type 0} → (T → Option (List ℕ)) → Option T → Option (List ℕ)
+source_of source None = None
+source_of source (Some feed) = source feed
+
+abbrev pub tail_source : {T : Type 0} → (T → Option (List ℕ)) → Tail T → Option (List ℕ)
+tail_source source tail = source tail.feed
+
+-- the feeds at the end are none, or those of these sources, in their order
+abbrev pub AreFeedsOf : {T : Type 0} → (T → Option (List ℕ)) → List (Option (List ℕ)) → List (Tail T) → Type 0
+AreFeedsOf source sources tails = (tails ≡ []) ⊎ (map (tail_source source) tails ≡ sources)
+
+-- ---- one life
+
+-- Whatever a crash left at any moment of a life is safe between the first book and one last book, which is the same for all moments.
+-- Nothing was answered in that life, or each log of the last book answers a front of its own feed's source.
+pub record LivesOn {S : Type 0} (moment : S → ℕ) (left_since : S → ℕ → Image → Type 0) (s : Setting) (first : Book)
+    (sources : List (Option (List ℕ))) (old new : S) : Type 0 where
+  pub last : Book
+  pub leaves : LeavesOnly moment left_since old new (IsSafe s first last)
+  pub answers : (last ≡ first) ⊎ AnswerFronts sources last.logs
+
+-- Whatever true book was found, the life goes on from it.
 abbrev pub KeepsBooks : {S : Type 0} → (S → Type 0) → (S → List ℕ) → (S → List (List ℕ)) → (S → Image → Type 0) → (S → ℕ) →
-    (S → ℕ → Image → Type 0) → Setting → ℕ → S → S → Type 0
-KeepsBooks tells seen shown may_leave moment left_since s feeds old new =
+    (S → ℕ → Image → Type 0) → Setting → ℕ → List (Option (List ℕ)) → S → S → Type 0
+KeepsBooks tells seen shown may_leave moment left_since s feeds sources old new =
     (contents : List (List ℕ)) (first : Book) → IsTakenUp tells seen shown may_leave s feeds old contents first →
-    LeavesOnly moment left_since old new (IsSafeFrom s first)
+    LivesOn moment left_since s first sources old new
 
 -- The files under the names of the words determine a network and start rows, over which books are kept.
 pub record KeepsBooksOver {S : Type 0} (tells : S → Type 0) (seen : S → List ℕ) (shown : S → List (List ℕ))
     (may_leave : S → Image → Type 0) (moment : S → ℕ) (left_since : S → ℕ → Image → Type 0)
-    (told : Told) (asked : ServerAsked) (old new : S) : Type 0 where
+    (told : Told) (asked : ServerAsked) (sources : List (Option (List ℕ))) (old new : S) : Type 0 where
   pub opening : Opening
   pub opens : OpeningAnswer told asked.run.files (Ok opening)
-  pub keeps : KeepsBooks tells seen shown may_leave moment left_since (setting_for asked opening) (length asked.run.feeds) old new
+  pub keeps : KeepsBooks tells seen shown may_leave moment left_since (setting_for asked opening) (length asked.run.feeds) sources old new
 
 -- Nothing was done to the store, or it was taken up and books are kept.
 abbrev pub LivesSafely : {S : Type 0} → (S → Type 0) → (S → List ℕ) → (S → List (List ℕ)) → (S → Image → Type 0) → (S → ℕ) →
-    (S → ℕ → Image → Type 0) → Told → ServerAsked → Journal S → Journal S → Type 0
-LivesSafely tells seen shown may_leave moment left_since told asked old new =
-    (new ≡ old) ⊎ KeepsBooksOver tells seen shown may_leave moment left_since told asked old.store new.store
+    (S → ℕ → Image → Type 0) → Told → ServerAsked → List (Option (List ℕ)) → Journal S → Journal S → Type 0
+LivesSafely tells seen shown may_leave moment left_since told asked sources old new =
+    (new ≡ old) ⊎ KeepsBooksOver tells seen shown may_leave moment left_since told asked sources old.store new.store

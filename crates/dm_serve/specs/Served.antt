@@ -6,29 +6,31 @@ use Rattle.dm_cert.specs.declared.replies.FeedLog.{FeedLog}
 use Rattle.dm_cert.specs.Answers.{Setting}
 use Rattle.dm_cert.specs.RunTexts.{Run}
 use Rattle.dm_cert.specs.Runs.{IsTextOf}
-use Rattle.dm_store.specs.Calls.{Image}
+use Rattle.dm_store.specs.Calls.{Image, LeavesOnly}
 use Rattle.dm_store.specs.declared.journal.Journal.{Journal}
-use Rattle.dm_book.specs.Books.{Book, IsFrontBook}
+use Rattle.dm_book.specs.Books.{Book, IsFrontBook, IsSafe}
+use Rattle.dm_tail.specs.Sources.{AnswersWhole}
 use Rattle.dm_tail.specs.declared.tail.Tail.{Tail}
 use Rattle.dm_watch.specs.Settled.{HaveSettled}
-use Rattle.dm_catch_up.specs.Feeds.{AnswersFront}
 use Rattle.dm_serve.specs.Lives.{IsTakenUp}
 
 -- the book of a run
 abbrev pub book_of_run : Run → Book
 book_of_run run = record { history = run.history; logs = map (λ log. log.items) run.logs }
 
--- The run goes on from a book that was found, and the journal holds it: all of it is shown.
+-- The run goes on from a book that was found, and the journal holds it: all of it is shown. Whatever a crash left at any moment since
+-- the start is safe between that book and the run's.
 pub record GoesOnFrom {S : Type 0} (tells : S → Type 0) (seen : S → List ℕ) (shown : S → List (List ℕ)) (may_leave : S → Image → Type 0)
-    (s : Setting) (first : Book) (run : Run) (journal : Journal S) : Type 0 where
+    (moment : S → ℕ) (left_since : S → ℕ → Image → Type 0) (s : Setting) (first : Book) (run : Run) (old new : Journal S) : Type 0 where
   pub grows : IsFrontBook first (book_of_run run)
-  pub settled : HaveSettled tells seen shown may_leave s (map (λ log. log.items) run.logs) journal
+  pub settled : HaveSettled tells seen shown may_leave s (map (λ log. log.items) run.logs) new
+  pub leaves : LeavesOnly moment left_since old.store new.store (IsSafe s first (book_of_run run))
 
 -- The text is that of a true run, in version 2, of a network and start rows, with a log for each feed. Each log answers the due
--- lines of a front of what its feed has given, which ends with a line feed, each once and in order. Boards that no note names
--- are up with its times. The run goes on from what was found in the store.
+-- lines of all lines that end of what its feed has given, each once and in order. Boards that no note names are up with its times.
+-- The run goes on from what was found in the store.
 pub record IsDayOf {S T : Type 0} (tells : S → Type 0) (seen : S → List ℕ) (shown : S → List (List ℕ))
-    (may_leave : S → Image → Type 0) (given : T → Option (List ℕ))
+    (may_leave : S → Image → Type 0) (moment : S → ℕ) (left_since : S → ℕ → Image → Type 0) (given : T → Option (List ℕ))
     (up : Net → List ℕ → List Note → Type 0) (s : Setting) (feeds : ℕ) (tails : List (Tail T)) (old new : Journal S)
     (text : List ℕ) : Type 0 where
   pub run : Run
@@ -39,6 +41,6 @@ pub record IsDayOf {S T : Type 0} (tells : S → Type 0) (seen : S → List ℕ)
   pub as_many : length run.logs ≡ feeds
   pub as_many_tails : length tails ≡ feeds
   pub answers : (place : ℕ) (log : FeedLog) (tail : Tail T) → slice_get run.logs place ≡ Some log →
-      slice_get tails place ≡ Some tail → AnswersFront (given tail.feed) log.items
+      slice_get tails place ≡ Some tail → AnswersWhole (given tail.feed) log.items
   pub goes_on : (contents : List (List ℕ)) (first : Book) → IsTakenUp tells seen shown may_leave s feeds old.store contents first
-      → GoesOnFrom tells seen shown may_leave s first run new
+      → GoesOnFrom tells seen shown may_leave moment left_since s first run old new

@@ -1,5 +1,5 @@
 //! The ends of a server.
-ghost use Rattle.std.specs.Prelude.{◌≡◌, ◌≤◌, All, map, IfOk};
+ghost use Rattle.std.specs.Prelude.{◌≡◌, ◌⊎◌, ◌≤◌, All, [], map, IfOk};
 ghost use Rattle.dm_cert.specs.RunTexts.{IsSpelledLog};
 ghost use Rattle.dm_words.specs.Asked.{names_in};
 ghost use Rattle.dm_words.specs.ServerAsked.{server_of};
@@ -29,7 +29,8 @@ pub struct DayEnd<T: Growing + Drop> {
 
 /// The end of a server whose feeds are no more, or to which it did not come.
 pub fn no_day<T: Growing + Drop>(alloc: Global, status: Status) -> DayEnd<T>
-    ensures { result.status ≡ status }
+    ensures status { result.status ≡ status }
+    ensures none { result.tails.items ≡ [] }
 {
     DayEnd {
         status,
@@ -85,6 +86,7 @@ pub fn end_day<T: Growing + Drop, K: Sink>(
 ) -> DayEnd<T>
     requires { All IsSpelledLog (map log_in watch.feeds.items) }
     ensures ends { EndsDay K.taken K.faults watch.entry.desk.table watch.entry.feeds.items notes.now out.old out.new result }
+    ensures feeds { (result.tails.items ≡ []) ⊎ (result.tails.items ≡ map tail_in watch.entry.feeds.items) }
     ensures table { IsTable watch.entry.desk.table }
     ensures later { K.faults out.old ≤ K.faults out.new }
 {
@@ -108,6 +110,7 @@ fn end_feeds<T: Growing + Drop, K: Sink>(
 ) -> DayEnd<T>
     requires { All IsSpelledLog (map log_in feeds.items) }
     ensures ends { EndsDay K.taken K.faults table.now feeds.items notes.now out.old out.new result }
+    ensures feeds { (result.tails.items ≡ []) ⊎ (result.tails.items ≡ map tail_in feeds.items) }
     ensures table { IsTable table.now }
     ensures later { K.faults out.old ≤ K.faults out.new }
 {
@@ -130,6 +133,7 @@ pub fn end_at_feeds<T: Growing + Drop, K: Sink>(
 ) -> DayEnd<T>
     requires { HasReason stop }
     ensures ends { EndsAtFeeds K.taken K.faults (server_of words.now) feeds.items stop out.old out.new result }
+    ensures feeds { (result.tails.items ≡ []) ⊎ (result.tails.items ≡ map tail_in feeds.items) }
     ensures later { K.faults out.old ≤ K.faults out.new }
 {
     let Ok((_, tails)) = apart(alloc, feeds) else {

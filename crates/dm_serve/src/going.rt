@@ -1,14 +1,14 @@
 //! Rounds of a server, one after another.
-ghost use Rattle.std.specs.Prelude.{map, ◌≡◌, ◌≤◌, ◌<◌, ◌^◌, ℕ, List, All, length, vec_len, IfOk, IfErr, Result};
+ghost use Rattle.std.specs.Prelude.{map, false, ◌≡◌, ◌≤◌, ◌<◌, ◌^◌, ℕ, List, All, length, vec_len, IfOk, IfErr, Result};
 ghost use Rattle.dm_cert.specs.Answers.{Setting};
 ghost use Rattle.dm_desk.specs.Planning.{PlansUnder};
 ghost use Rattle.dm_book.specs.Books.{Book};
-ghost use Rattle.dm_store.specs.Calls.{LeavesOnly};
 ghost use Rattle.dm_display.specs.Displays.{AreUp, HasEarlierTimes, HasShownNothing, IsFor};
 ghost use Rattle.dm_table_desk.specs.Tables.{setting_of};
-ghost use Rattle.dm_watch.specs.Rounds.{IsWatching, desk_in};
+ghost use Rattle.dm_tail.specs.Sources.{source_in};
+ghost use Rattle.dm_watch.specs.Rounds.{HasNoneLeft, IsWatching, desk_in};
 ghost use Rattle.dm_watch.specs.Settled.{IsShown};
-ghost use Rattle.dm_serve.specs.Lives.{IsSafeFrom};
+ghost use Rattle.dm_serve.specs.Lives.{LivesOn};
 ghost use Rattle.dm_serve.specs.Inside.Stages.{GoesOver, HasGone, IsGoing, StopsGoing};
 
 use crate::pace::Pace;
@@ -44,12 +44,16 @@ pub fn go_round<
     requires watching { IsWatching T.given (desk_in watch) watch.feeds.items }
     requires shown { All IsShown watch.feeds.items }
     requires few { vec_len watch.feeds < 2 ^ 32 }
+    requires some { 0 < watch.batch }
     requires fits { IsFor watch.desk.table.network (vec_len boards.old) display.old }
     requires none { HasShownNothing display.old }
     ensures going { IfOk result (IsGoing T.given (setting_of watch.entry.desk.plans watch.entry.desk.table)
         (length watch.entry.feeds.items)) }
     ensures goes { (s : Setting) (first : Book) (start : S)
-        → GoesOver S.tells S.seen S.shown S.may_leave S.moment S.left_since s first start watch.entry journal.old journal.new result }
+        → GoesOver S.tells S.seen S.shown S.may_leave S.moment S.left_since s first (map (source_in T.source) watch.entry.feeds.items) start
+        watch.entry journal.old journal.new result }
+    ensures sources { IfOk result (λ r. map (source_in T.source) r.feeds.items ≡ map (source_in T.source) watch.entry.feeds.items) }
+    ensures none_left { IfOk result (λ r. All HasNoneLeft r.feeds.items) }
     ensures stops { IfErr result (StopsGoing S.tells S.seen S.shown S.may_leave S.moment S.left_since T.given S.faults T.faults watch.entry
         journal.old journal.new) }
     ensures told { IfOk result (λ _. W.told pace.new) }
@@ -96,7 +100,10 @@ fn go_once<'n, T: Growing + Drop, S: Store, P: Fn(&Snapshot, u64) -> Result<Plan
     ensures leaves { (s : Setting) (first : Book) (start : S)
         → setting_of watch.entry.desk.plans watch.entry.desk.table ≡ s
         → HasGone S.tells S.seen S.shown S.may_leave S.moment S.left_since s first watch.entry start journal.old
-        → LeavesOnly S.moment S.left_since start journal.new.store (IsSafeFrom s first) }
+        → LivesOn S.moment S.left_since s first (map (source_in T.source) watch.entry.feeds.items) start journal.new.store }
+    ensures sources { IfOk result (λ r. map (source_in T.source) r.0.feeds.items ≡ map (source_in T.source) watch.entry.feeds.items) }
+    ensures none_left { IfOk result (λ r. r.1 ≡ false → 0 < watch.entry.batch → All HasNoneLeft r.0.feeds.items) }
+    ensures batch { IfOk result (λ r. r.0.batch ≡ watch.entry.batch) }
     ensures stops { IfErr result (StopsGoing S.tells S.seen S.shown S.may_leave S.moment S.left_since T.given S.faults T.faults watch.entry
         journal.old journal.new) }
     ensures later { S.faults journal.old.store ≤ S.faults journal.new.store }

@@ -11,11 +11,14 @@
 //!
 //! [`serve_day`]:
 //!
-//! - `any_moment`, over a store that tells what a crash may leave: a crash at any moment leaves a journal with a true book that
-//!   goes on from the one that was found. Whatever a reply file showed by then is a front of that book's logs (`LivesSafely`).
-//! - `headline`, at status Ok: the text is that of a true run in version 2 that goes on from what was found. All of it is in the
-//!   journal and in the reply files. Each log answers the due lines of a front of its feed, each once and in order. The boards
-//!   are up with the run's times (`IsDayOf`).
+//! - `any_moment`, over a store that tells what a crash may leave: a crash at any moment leaves a journal with a true book
+//!   between the one that was found and one last book, the same for all moments. Whatever a reply file showed by then is a front
+//!   of that book's logs. Each log of the last book answers a front of its own feed's source, unless nothing was answered
+//!   (`LivesSafely`).
+//! - `headline`, at status Ok: the text is that of a true run in version 2 that goes on from what was found, and is the last book
+//!   of the life. All of it is in the journal and in the reply files. Each log answers the due lines of all lines that end of its
+//!   feed, each once and in order. The boards are up with the run's times (`IsDayOf`).
+//! - `same_feeds`: the feeds come back as they were given, in their order, or not at all.
 //! - `told`: it ends at Ok only where it was told to end.
 //! - `refused`, `read_fault`, `write_fault`: each of these statuses has its cause, as `specs/Ends` has it. Where a journal, a
 //!   reply file or a feed is refused at a start, or the store could not be read there, the store was only looked at, and is left

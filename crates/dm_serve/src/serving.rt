@@ -1,5 +1,5 @@
 //! A server, from its words to its end.
-ghost use Rattle.std.specs.Prelude.{◌≡◌, ◌≤◌, List, Option, Ok, All, length, map, vec_len, IfOk};
+ghost use Rattle.std.specs.Prelude.{◌≡◌, ◌≤◌, ◌<◌, List, Option, Ok, All, length, map, vec_len, IfOk};
 ghost use Rattle.std.specs.Io.KnownBytes.{Keeps};
 ghost use Rattle.std.specs.Thread.{IsSync};
 ghost use Rattle.dm_base.specs.declared.limits.TheConstants.{BOARDS, BUDGET, PENALTY, WORKERS};
@@ -11,11 +11,12 @@ ghost use Rattle.dm_input.specs.Stops.{IsKept};
 ghost use Rattle.dm_words.specs.ServerAsked.{server_of};
 ghost use Rattle.dm_book.specs.Books.{IsTrueBook};
 ghost use Rattle.dm_table_desk.specs.Tables.{setting_of};
+ghost use Rattle.dm_tail.specs.Sources.{source_in};
 ghost use Rattle.dm_watch.specs.Rounds.{IsWatching, book_in, desk_in};
 ghost use Rattle.dm_watch.specs.Settled.{IsShown};
 ghost use Rattle.dm_catch_up.specs.Catching.{IsFresh};
 ghost use Rattle.dm_restore.specs.Start.{book_back};
-ghost use Rattle.dm_serve.specs.Lives.{KeepsBooks, LivesSafely, NothingIsRead};
+ghost use Rattle.dm_serve.specs.Lives.{AreFeedsOf, KeepsBooks, LivesSafely, NothingIsRead, source_of};
 ghost use Rattle.dm_store_text.specs.Asked.{IsAsked, IsWithin, setting_for};
 ghost use Rattle.dm_serve.specs.Ends.{Ends, HasWriteFault, IsDue, IsDueOver};
 ghost use Rattle.dm_store_text.specs.Written.{Writes};
@@ -87,21 +88,21 @@ pub fn serve_day<
 
     // The text is that of a true run, which goes on from what the store held. Each log answers a front of its feed.
     ensures headline { result.status ≡ Status.Ok → Writes (K.taken out.old) (K.taken out.new)
-        (IsDue S.tells S.seen S.shown S.may_leave S.faults T.given T.faults
+        (IsDue S.tells S.seen S.shown S.may_leave S.moment S.left_since S.faults T.given T.faults
         (⟦<BoardList as Shown>⟧.up boards.old boards.new) (H.files shelf.old) (H.is_sound shelf.old)
         (server_of server.entry.words) server.entry.feeds.items result.tails.items journal.old journal.new Status.Ok) }
 
     // Each other status has its cause.
     ensures refused { result.status ≡ Status.Refused → Writes (K.taken out.old) (K.taken out.new)
-        (IsDue S.tells S.seen S.shown S.may_leave S.faults T.given T.faults
+        (IsDue S.tells S.seen S.shown S.may_leave S.moment S.left_since S.faults T.given T.faults
         (⟦<BoardList as Shown>⟧.up boards.old boards.new) (H.files shelf.old) (H.is_sound shelf.old)
         (server_of server.entry.words) server.entry.feeds.items result.tails.items journal.old journal.new Status.Refused) }
     ensures read_fault { result.status ≡ Status.ReadFault → Writes (K.taken out.old) (K.taken out.new)
-        (IsDue S.tells S.seen S.shown S.may_leave S.faults T.given T.faults
+        (IsDue S.tells S.seen S.shown S.may_leave S.moment S.left_since S.faults T.given T.faults
         (⟦<BoardList as Shown>⟧.up boards.old boards.new) (H.files shelf.old) (H.is_sound shelf.old)
         (server_of server.entry.words) server.entry.feeds.items result.tails.items journal.old journal.new Status.ReadFault) }
     ensures write_fault { result.status ≡ Status.WriteFault → HasWriteFault K.taken K.faults S.faults T.faults out.old out.new
-        journal.old journal.new (IsDue S.tells S.seen S.shown S.may_leave S.faults T.given T.faults
+        journal.old journal.new (IsDue S.tells S.seen S.shown S.may_leave S.moment S.left_since S.faults T.given T.faults
         (⟦<BoardList as Shown>⟧.up boards.old boards.new) (H.files shelf.old) (H.is_sound shelf.old)
         (server_of server.entry.words) server.entry.feeds.items result.tails.items journal.old journal.new) }
     ensures no_memory { result.status ≡ Status.NoMemory → Keeps (K.taken out.old) (K.taken out.new) }
@@ -109,9 +110,13 @@ pub fn serve_day<
     ensures told { result.status ≡ Status.Ok → W.told pace.new }
     ensures words_are_good { result.status ≡ Status.Usage → ⊥ }
 
-    // A crash at any moment leaves a true book that goes on from the one that was found, and whatever was shown is a front of it.
+    // A crash at any moment leaves a true book between the one that was found and one last book, and whatever was shown is a front of
+    // its logs. Each log of the last book answers a front of its own feed.
     ensures any_moment { LivesSafely S.tells S.seen S.shown S.may_leave S.moment S.left_since (H.files shelf.old)
-        (server_of server.entry.words) journal.old journal.new }
+        (server_of server.entry.words) (map (source_of T.source) server.entry.feeds.items) journal.old journal.new }
+
+    // The feeds come back as they were given, in their order, or not at all.
+    ensures same_feeds { AreFeedsOf T.source (map (source_of T.source) server.entry.feeds.items) result.tails.items }
 
     // Whatever the status, the shelf tells what it told, and no count of faults has fallen.
     ensures shelf_kept { IsKept H.files H.is_sound shelf.old shelf.new }
@@ -145,12 +150,13 @@ fn serve_files<
     requires unread { NothingIsRead T.given server.feeds.items }
     requires few_boards { vec_len boards.old ≤ BOARDS }
     ensures ends { Ends K.taken K.faults S.faults T.faults
-        (IsDue S.tells S.seen S.shown S.may_leave S.faults T.given T.faults
+        (IsDue S.tells S.seen S.shown S.may_leave S.moment S.left_since S.faults T.given T.faults
         (⟦<BoardList as Shown>⟧.up boards.old boards.new) (H.files shelf.old) (H.is_sound shelf.old)
         (server_of server.entry.words) server.entry.feeds.items result.tails.items journal.old journal.new)
         out.old out.new journal.old journal.new result.status }
     ensures safely { LivesSafely S.tells S.seen S.shown S.may_leave S.moment S.left_since (H.files shelf.old)
-        (server_of server.entry.words) journal.old journal.new }
+        (server_of server.entry.words) (map (source_of T.source) server.entry.feeds.items) journal.old journal.new }
+    ensures same_feeds { AreFeedsOf T.source (map (source_of T.source) server.entry.feeds.items) result.tails.items }
     ensures told { result.status ≡ Status.Ok → W.told pace.new }
     ensures kept { IsKept H.files H.is_sound shelf.old shelf.new }
     ensures later { K.faults out.old ≤ K.faults out.new }
@@ -204,14 +210,15 @@ fn serve_over<
     requires unread { NothingIsRead T.given feeds.items }
     requires few_boards { vec_len boards.old ≤ BOARDS }
     ensures ends { Ends K.taken K.faults S.faults T.faults
-        (λ status text. IsDueOver S.tells S.seen S.shown S.may_leave S.faults T.given T.faults
+        (λ status text. IsDueOver S.tells S.seen S.shown S.may_leave S.moment S.left_since S.faults T.given T.faults
         (⟦<BoardList as Shown>⟧.up boards.old boards.new) (asked_in serving.now).run.feeds (asked_in serving.now).store feeds.items
         result.tails.items journal.old journal.new status
         (setting_for (asked_in serving.now) (record { net = serving.now.net.now; rows = rows })) text)
         out.old out.new journal.old journal.new result.status }
     ensures keeps { KeepsBooks S.tells S.seen S.shown S.may_leave S.moment S.left_since
         (setting_for (asked_in serving.now) (record { net = serving.now.net.now; rows = rows })) (length (asked_in serving.now).run.feeds)
-        journal.old.store journal.new.store }
+        (map (source_of T.source) feeds.items) journal.old.store journal.new.store }
+    ensures same_feeds { AreFeedsOf T.source (map (source_of T.source) feeds.items) result.tails.items }
     ensures told { result.status ≡ Status.Ok → W.told pace.new }
     ensures later { K.faults out.old ≤ K.faults out.new }
     ensures store_later { S.faults journal.old.store ≤ S.faults journal.new.store }
@@ -276,7 +283,7 @@ fn serve_feeds<
         (setting_of restored.entry.desk.plans restored.entry.desk.table) (length (asked_in serving.now).run.feeds)
         (book_back restored.entry) restored.entry.is_new start.store journal.old.store
         → Ends K.taken K.faults S.faults T.faults
-        (λ status text. IsDueOver S.tells S.seen S.shown S.may_leave S.faults T.given T.faults
+        (λ status text. IsDueOver S.tells S.seen S.shown S.may_leave S.moment S.left_since S.faults T.given T.faults
         (⟦<BoardList as Shown>⟧.up boards.old boards.new) (asked_in serving.now).run.feeds (asked_in serving.now).store
         (map opened feeds.items) result.tails.items start journal.new status
         (setting_of restored.entry.desk.plans restored.entry.desk.table) text) out.old out.new start journal.new result.status }
@@ -285,7 +292,8 @@ fn serve_feeds<
         (book_back restored.entry) restored.entry.is_new start journal.old.store
         → KeepsBooks S.tells S.seen S.shown S.may_leave S.moment S.left_since
         (setting_of restored.entry.desk.plans restored.entry.desk.table) (length (asked_in serving.now).run.feeds)
-        start journal.new.store }
+        (map (source_in T.source) feeds.items) start journal.new.store }
+    ensures same_feeds { AreFeedsOf T.source (map (source_in T.source) feeds.items) result.tails.items }
     ensures told { result.status ≡ Status.Ok → W.told pace.new }
     ensures later { K.faults out.old ≤ K.faults out.new }
     ensures store_later { S.faults journal.old.store ≤ S.faults journal.new.store }
@@ -334,13 +342,14 @@ fn serve_found<
     requires as_many { length watch.feeds.items ≡ length (asked_in serving.now).run.feeds }
     requires watching { IsWatching T.given (desk_in watch) watch.feeds.items }
     requires shown { All IsShown watch.feeds.items }
+    requires some { 0 < watch.batch }
     requires few_boards { vec_len boards.old ≤ BOARDS }
     ensures ends { (start : Journal S) (feeds : List (Option T)) → S.faults start.store ≤ S.faults journal.old.store
         → IsReadBack S.tells S.seen S.shown S.may_leave S.moment S.left_since
         (setting_of watch.entry.desk.plans watch.entry.desk.table) (length (asked_in serving.now).run.feeds)
         (book_in watch.entry) is_new start.store journal.old.store
         → Ends K.taken K.faults S.faults T.faults
-        (λ status text. IsDueOver S.tells S.seen S.shown S.may_leave S.faults T.given T.faults
+        (λ status text. IsDueOver S.tells S.seen S.shown S.may_leave S.moment S.left_since S.faults T.given T.faults
         (⟦<BoardList as Shown>⟧.up boards.old boards.new) (asked_in serving.now).run.feeds (asked_in serving.now).store
         feeds result.tails.items start journal.new status
         (setting_of watch.entry.desk.plans watch.entry.desk.table) text) out.old out.new start journal.new result.status }
@@ -349,7 +358,8 @@ fn serve_found<
         (book_in watch.entry) is_new start journal.old.store
         → KeepsBooks S.tells S.seen S.shown S.may_leave S.moment S.left_since
         (setting_of watch.entry.desk.plans watch.entry.desk.table) (length (asked_in serving.now).run.feeds)
-        start journal.new.store }
+        (map (source_in T.source) watch.entry.feeds.items) start journal.new.store }
+    ensures same_feeds { AreFeedsOf T.source (map (source_in T.source) watch.entry.feeds.items) result.tails.items }
     ensures told { result.status ≡ Status.Ok → W.told pace.new }
     ensures later { K.faults out.old ≤ K.faults out.new }
     ensures store_later { S.faults journal.old.store ≤ S.faults journal.new.store }
@@ -396,13 +406,14 @@ fn serve_watch<
     requires as_many { length watch.feeds.items ≡ length (asked_in serving.now).run.feeds }
     requires watching { IsWatching T.given (desk_in watch) watch.feeds.items }
     requires shown { All IsShown watch.feeds.items }
+    requires some { 0 < watch.batch }
     requires few_boards { vec_len boards.old ≤ BOARDS }
     ensures ends { (start : Journal S) (feeds : List (Option T)) → S.faults start.store ≤ S.faults journal.old.store
         → HasGoneSince S.tells S.seen S.shown S.may_leave S.moment S.left_since
         (setting_of watch.entry.desk.plans watch.entry.desk.table)
         (length (asked_in serving.now).run.feeds) watch.entry start.store journal.old
         → Ends K.taken K.faults S.faults T.faults
-        (λ status text. IsDueOver S.tells S.seen S.shown S.may_leave S.faults T.given T.faults
+        (λ status text. IsDueOver S.tells S.seen S.shown S.may_leave S.moment S.left_since S.faults T.given T.faults
         (⟦<BoardList as Shown>⟧.up boards.old boards.new) (asked_in serving.now).run.feeds (asked_in serving.now).store
         feeds result.tails.items start journal.new status
         (setting_of watch.entry.desk.plans watch.entry.desk.table) text) out.old out.new start journal.new result.status }
@@ -412,7 +423,8 @@ fn serve_watch<
         (length (asked_in serving.now).run.feeds) watch.entry start journal.old
         → KeepsBooks S.tells S.seen S.shown S.may_leave S.moment S.left_since
         (setting_of watch.entry.desk.plans watch.entry.desk.table)
-        (length (asked_in serving.now).run.feeds) start journal.new.store }
+        (length (asked_in serving.now).run.feeds) (map (source_in T.source) watch.entry.feeds.items) start journal.new.store }
+    ensures same_feeds { AreFeedsOf T.source (map (source_in T.source) watch.entry.feeds.items) result.tails.items }
     ensures told { result.status ≡ Status.Ok → W.told pace.new }
     ensures later { K.faults out.old ≤ K.faults out.new }
     ensures store_later { S.faults journal.old.store ≤ S.faults journal.new.store }

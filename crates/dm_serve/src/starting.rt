@@ -7,6 +7,7 @@ ghost use Rattle.dm_rows.specs.Rows.{IsSized};
 ghost use Rattle.dm_cert.specs.RunTexts.{IsSpelledItem, IsSpelledLog};
 ghost use Rattle.dm_book.specs.Books.{IsTrueBook};
 ghost use Rattle.dm_table_desk.specs.Tables.{setting_of};
+ghost use Rattle.dm_tail.specs.Sources.{source_in};
 ghost use Rattle.dm_catch_up.specs.Catching.{IsFresh, RefusesFeed};
 ghost use Rattle.dm_restore.specs.Start.{book_back, setting_of_head};
 ghost use Rattle.dm_serve.specs.Inside.Replies.{Looks};
@@ -148,6 +149,7 @@ pub fn catch_up_all<T: Growing + Drop>(
     ensures all { OnOk result (AllGoOn T.given (map (λ log. log.items) logs.items) feeds.new.items) }
     ensures stops { IfErr result (StopsCatchingUp T.given T.faults (map (λ log. log.items) logs.items) feeds.old.items feeds.new.items) }
     ensures same { length feeds.new.items ≡ length feeds.old.items }
+    ensures sources { map (source_in T.source) feeds.new.items ≡ map (source_in T.source) feeds.old.items }
 {
     let mut place = 0;
     for log in logs {
@@ -170,6 +172,7 @@ fn go_on_with<T: Growing + Drop>(
     requires { IsFresh T.given watched.old }
     ensures goes_on { OnOk result (GoesOnWith T.given log.items watched.new) }
     ensures refused { IfErr result (RefusesFeed T.given T.faults log.items watched.old watched.new) }
+    ensures source { T.source watched.new.tail.feed ≡ T.source watched.old.tail.feed }
 {
     let FeedLog { items, stop: _ } = log;
     watched.log = items.into_vec();

@@ -1,7 +1,7 @@
 //! Crashes at each call of a life, and the lives after them.
 
-use crate::day::{LOGS, TEXT, UNREAD};
-use crate::lives::{Life, NONE, live};
+use crate::day::{DUE, FIRST, LOGS, SECOND, TEXT, UNREAD};
+use crate::lives::{ALL, Growth, Life, live};
 use dm_samples::Failure;
 use dm_store::{MemStore, StoreError, Tear};
 use dm_store_text::Status;
@@ -11,6 +11,11 @@ use std::thread::Threads;
 
 /// More calls than a life makes.
 const CALLS: u64 = 100;
+
+/// How many bytes the first feed has up to its first adopted plan, and the second up to its first question.
+const ADOPTED: usize = 32;
+
+const ASKED: usize = 5;
 
 /// How many calls a start begins with that only read: the journal, the reply file of each feed, and the journal that is to be
 /// repaired.
@@ -42,7 +47,7 @@ fn left_of(
 /// Whether a day without a crash comes to what is due.
 pub fn one_life<R: Threads + Wait + Sync + AllocGlobal>(rt: &R) -> Result<(), Failure> {
     let alloc = rt.alloc();
-    let life = live(rt, empty(alloc, &[])?, NONE)?;
+    let life = live(rt, empty(alloc, &[])?, ALL)?;
     if is_whole(alloc, &life)? {
         Ok(())
     } else {
@@ -59,7 +64,7 @@ pub fn from_nothing<R: Threads + Wait + Sync + AllocGlobal>(
     let alloc = rt.alloc();
     let mut line = String::new(alloc);
     for call in 1..CALLS {
-        let life = live(rt, empty(alloc, &[call])?, NONE)?;
+        let life = live(rt, empty(alloc, &[call])?, ALL)?;
         if life.status == Status::Ok {
             break;
         }
@@ -68,25 +73,81 @@ pub fn from_nothing<R: Threads + Wait + Sync + AllocGlobal>(
     Ok(line)
 }
 
-/// A digit or letter for each sync of a feed that fails, in a life that begins with an empty store.
-pub fn unsynced<R: Threads + Wait + Sync + AllocGlobal>(
+/// A digit or letter for each call of a feed that fails, in a life that begins with an empty store.
+pub fn failing_feed<R: Threads + Wait + Sync + AllocGlobal>(
     rt: &R,
     feed: usize,
 ) -> Result<String, Failure> {
     let alloc = rt.alloc();
     let mut line = String::new(alloc);
-    for sync in 1..CALLS {
-        let mut syncs = NONE;
-        if let Some(fails) = syncs.get_mut(feed) {
-            *fails = sync;
+    for call in 1..CALLS {
+        let listed = [call];
+        let mut growth: Growth<'_> = ALL;
+        if let Some(fails) = growth.fails.get_mut(feed) {
+            *fails = &listed;
         }
-        let life = live(rt, empty(alloc, &[])?, syncs)?;
-        if life.status == Status::Ok {
+        let life = live(rt, empty(alloc, &[])?, growth)?;
+        if is_whole(alloc, &life)? {
             break;
         }
-        line.push(letter_of(rt, &life, CALLS, Tear::All, false)?)?;
+        line.push(feed_letter(rt, &life)?)?;
     }
     Ok(line)
+}
+
+/// The status of a life of which a sync of a feed failed, `f` for one in which a feed was read no further, or a letter for what is
+/// wrong of it or behind it.
+fn feed_letter<R: Threads + Wait + Sync + AllocGlobal>(
+    rt: &R,
+    life: &Life,
+) -> Result<char, Failure> {
+    if life.status != Status::Ok {
+        return letter_of(rt, life, CALLS, Tear::All, false);
+    }
+    let alloc = rt.alloc();
+    let next = live(rt, left_of(alloc, &life.store, Tear::All, &[])?, ALL)?;
+    let before = left_of(alloc, &life.store, Tear::All, &[])?;
+    let after = left_of(alloc, &next.store, Tear::All, &[])?;
+    let mut each = DUE.iter().zip(before.was_shown()).zip(after.was_shown());
+    if next.status == Status::Ok
+        && each.all(|((due, earlier), log)| log.starts_with(earlier) && answers_each(log, due))
+    {
+        Ok('f')
+    } else {
+        Ok('n')
+    }
+}
+
+/// Whether a log answers each of these lines, once and in order.
+fn answers_each(log: &[u8], due: &[u8]) -> bool {
+    let mut due = due.iter();
+    let mut is_first = true;
+    for byte in log {
+        if is_first && byte.is_ascii_digit() && due.next() != Some(byte) {
+            return false;
+        }
+        is_first = *byte == b'\n';
+    }
+    due.next().is_none()
+}
+
+/// Whether a day comes to what is due where each feed stands in two parts, cut at each place behind the first lines: the first
+/// feed's adopted plan, and the second feed's first question.
+pub fn in_two_parts<R: Threads + Wait + Sync + AllocGlobal>(rt: &R) -> Result<(), Failure> {
+    for cut in ADOPTED..FIRST.len() + 1 {
+        let first = [cut];
+        let second = [ASKED + cut % (SECOND.len() - ASKED)];
+        let growth = Growth {
+            stands: [&first, &second],
+            fails: [&[], &[]],
+        };
+        let alloc = rt.alloc();
+        let life = live(rt, empty(alloc, &[])?, growth)?;
+        if !is_whole(alloc, &life)? {
+            return Err(Failure::Differs(cut as u32));
+        }
+    }
+    Ok(())
 }
 
 /// The status of a life of which this call failed, or a letter for what is wrong of it or behind it.
@@ -146,7 +207,7 @@ fn goes_on<R: Threads + Wait + Sync + AllocGlobal>(
     tear: Tear,
 ) -> Result<bool, Failure> {
     let alloc = rt.alloc();
-    let next = live(rt, left_of(alloc, &life.store, tear, &[])?, NONE)?;
+    let next = live(rt, left_of(alloc, &life.store, tear, &[])?, ALL)?;
     is_whole(alloc, &next)
 }
 
@@ -160,7 +221,7 @@ fn each_goes_on<R: Threads + Wait + Sync + AllocGlobal>(
         let alloc = rt.alloc();
         let store = left_of(alloc, &life.store, tear, &[call])?;
         let shown = [shown_by(alloc, &store, 0)?, shown_by(alloc, &store, 1)?];
-        let next = live(rt, store, NONE)?;
+        let next = live(rt, store, ALL)?;
         if next.status == Status::Ok {
             return Ok(call > READS);
         }

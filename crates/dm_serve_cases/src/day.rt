@@ -24,6 +24,9 @@ pub const FIRST: &[u8] = b"delay event 1 60\nplan 100\nadopt\ntime 6\ncost\nadop
 /// The second feed asks, and has a line that is none.
 pub const SECOND: &[u8] = b"cost\nnone\ncost\nread\n";
 
+/// The due lines of the feeds, each by its number of one digit.
+pub const DUE: [&[u8]; 2] = [b"123456", b"1234"];
+
 /// What the feeds are answered.
 pub const LOGS: [&[u8]; 2] = [FIRST_LOG, SECOND_LOG];
 

@@ -8,8 +8,10 @@
 //!
 //! For each way of tearing the program prints the status of each life whose call failed, by call. Where something is wrong it
 //! prints a letter instead: `s` for the life's status, `p` for what it printed, `f` for what it showed, `n` for a life after it.
-//! It does the same for each sync of a feed that fails. It stands on dm_serve for what it tries, on dm_store for the store, and
-//! on what a server is handed. It promises nothing.
+//! It does the same for each call of a feed that fails: `5` for a sync, and `f` for a read, where the feed is read no further, and
+//! the next life answers each line that was left. Where each feed comes in two parts, the day comes to the same text. It stands on
+//! dm_serve for what it tries, on dm_store for the store, on dm_tail for the feeds, and on what a server is handed. Store and feeds
+//! tell what the promises of dm_serve ask of them. It promises nothing.
 #![tactic(auto)]
 
 mod crashes;
@@ -17,7 +19,7 @@ mod day;
 mod lives;
 mod outside;
 
-use crate::crashes::{from_nothing, one_life, unsynced};
+use crate::crashes::{failing_feed, from_nothing, in_two_parts, one_life};
 use dm_samples::{Failure, report};
 use dm_store::Tear;
 use std::io;
@@ -36,11 +38,12 @@ const TEARS: [(&str, Tear, bool); 8] = [
 
 fn main(rt: HostRuntime) -> io::Result<()> {
     report(&rt, "one-life", one_life(&rt))?;
+    report(&rt, "feeds-in-two-parts", in_two_parts(&rt))?;
     for (name, tear, twice) in TEARS {
         print_line(&rt, name, from_nothing(&rt, tear, twice))?;
     }
-    print_line(&rt, "first-feed", unsynced(&rt, 0))?;
-    print_line(&rt, "second-feed", unsynced(&rt, 1))
+    print_line(&rt, "first-feed", failing_feed(&rt, 0))?;
+    print_line(&rt, "second-feed", failing_feed(&rt, 1))
 }
 
 /// Prints a name and a line.

@@ -37,6 +37,7 @@ asked_within asked h =
       );
       some_feed = h.asks.some_feed;
       few_feeds = h.asks.few_feeds;
+      some_line = no_less batch.value 1 BATCH STANDARD_ROUND asked.run.batch (omega arith) batch.is;
       few_lines = let few = no_more batch.value 1 BATCH STANDARD_ROUND asked.run.batch (omega arith) batch.is in omega (arith, few);
       workers = (
         no_less workers.value 1 WORKERS STANDARD_WORKERS asked.run.workers (omega arith) workers.is,

@@ -18,6 +18,7 @@ pub record IsWithin (asked : ServerAsked) : Type 0 where
   pub plans : (1 ≤ asked.run.files.plans) × (asked.run.files.plans ≤ PLANS)
   pub some_feed : 1 ≤ length asked.run.feeds
   pub few_feeds : length asked.run.feeds ≤ FEEDS
+  pub some_line : 1 ≤ asked.run.batch
   pub few_lines : asked.run.batch < 2 ^ 32
   pub workers : (1 ≤ asked.run.workers) × (asked.run.workers ≤ WORKERS)
 

@@ -53,7 +53,8 @@ abbrev pub PutsOne : {S T E : Type 0} → (S → Type 0) → (S → List ℕ) �
     (S → ℕ → Image → Type 0) → Watched T → ℕ → S → S → Result (Unit {0}) E → Type 0
 PutsOne {S} tells seen shown may_leave moment left_since watched place old new result =
     (s : Setting) (contents : List (List ℕ)) (book : Book) (start : S) (first rest : List (List ℕ)) (text : List ℕ) → place ≡ length first
-    → shown old ≡ first ++ text ∷ rest → AreFronts (first ++ log_text watched ∷ rest) (map reply_text book.logs) → IsKeptIn s contents book
+    → shown old ≡ first ++ text ∷ rest → IsPrefix text (log_text watched)
+    → AreFronts (first ++ log_text watched ∷ rest) (map reply_text book.logs) → IsKeptIn s contents book
     → IsStarting tells seen shown may_leave moment left_since s contents book start old
     → LeavesOnly moment left_since start new (IsSafe s book book)
     × OnOk result (IsStarting tells seen shown may_leave moment left_since s contents book start new

@@ -41,7 +41,7 @@ use Rattle.dm_restore.specs.declared.heads.Head.{Head}
 use Rattle.dm_restore.specs.declared.stops.RestoreStop.TheVariants as why
 use Rattle.dm_serve.specs.Ends.{HasUnsynced, IsFullOf}
 use Rattle.dm_serve.specs.Inside.Replies.{IsKeptIn, IsStarting, Looks}
-use Rattle.dm_serve.specs.Lives.{IsLeft, IsSafeFrom, IsTakenUp}
+use Rattle.dm_serve.specs.Lives.{IsLeft, IsTakenUp, LivesOn}
 use Rattle.dm_serve.specs.declared.ending.DayEnd.{DayEnd}
 use Rattle.dm_serve.specs.declared.opening.Unopened.{Unopened}
 use Rattle.dm_serve.specs.declared.opening.Unopened.TheVariants as unopened
@@ -195,16 +195,16 @@ pub record IsGoing {T : Type 0} (given : T → Option (List ℕ)) (s : Setting) 
 pub record HasGone {S T : Type 0} (tells : S → Type 0) (seen : S → List ℕ) (shown : S → List (List ℕ))
     (may_leave : S → Image → Type 0) (moment : S → ℕ) (left_since : S → ℕ → Image → Type 0)
     (s : Setting) (first : Book) (watch : Watch T) (start : S) (now : Journal S) : Type 0 where
-  pub leaves : LeavesOnly moment left_since start now.store (IsSafeFrom s first)
+  pub leaves : LeavesOnly moment left_since start now.store (IsSafe s first (book_in watch))
   pub grows : IsFrontBook first (book_in watch)
   pub settled : HaveSettled tells seen shown may_leave s (book_in watch).logs now
 
 -- Where a day has gone on since a start, it goes on as rounds are gone.
 abbrev pub GoesOver : {S T E : Type 0} → (S → Type 0) → (S → List ℕ) → (S → List (List ℕ)) → (S → Image → Type 0) → (S → ℕ) →
-    (S → ℕ → Image → Type 0) → Setting → Book → S → Watch T → Journal S → Journal S → Result (Watch T) E → Type 0
-GoesOver tells seen shown may_leave moment left_since s first start watch old new result =
+    (S → ℕ → Image → Type 0) → Setting → Book → List (Option (List ℕ)) → S → Watch T → Journal S → Journal S → Result (Watch T) E → Type 0
+GoesOver tells seen shown may_leave moment left_since s first sources start watch old new result =
     setting_of watch.desk.plans watch.desk.table ≡ s → HasGone tells seen shown may_leave moment left_since s first watch start old
-    → LeavesOnly moment left_since start new.store (IsSafeFrom s first)
+    → LivesOn moment left_since s first sources start new.store
     × IfOk result (λ r. HasGone tells seen shown may_leave moment left_since s first r start new)
 
 -- the cause of a stop as rounds are gone

@@ -1,5 +1,7 @@
+use Rattle.std.proofs.Common.{map}
+use Rattle.dm_tail.specs.Sources.{source_in}
 use Rattle.dm_serve.specs.Inside.Stages.{HasGone, IsGoing}
-use Rattle.dm_serve.proofs.Gone.{earlier_later, fits_later, goes_further, once_gone, once_leaves, once_stops, same_watch, up_later}
+use Rattle.dm_serve.proofs.Gone.{earlier_later, fits_later, goes_further, once_gone, once_lives, once_stops, same_watch, up_later}
 use Rattle.dm_serve.proofs.going.go_once.Goals as goal
 
 pub show_growth-requires-clause-fits : goal.show_growth-requires-clause-fits
@@ -10,7 +12,7 @@ show_growth-requires-clause-has g c = λ some. earlier_later g.T.Growing.given c
 
 pub returns-in-Err-clause-leaves : goal.returns-in-Err-clause-leaves
 returns-in-Err-clause-leaves g c =
-    once_leaves g.S.Store.tells g.S.Store.seen g.S.Store.shown g.S.Store.may_leave g.S.Store.moment g.S.Store.left_since c.args.watch c.args.journal.now c.round.new.journal _ c.in-Err.ensures.rounds
+    once_lives g.S.Store.tells g.S.Store.seen g.S.Store.shown g.S.Store.may_leave g.S.Store.moment g.S.Store.left_since c.args.watch c.args.journal.now c.round.new.journal (map (source_in g.T.Growing.source) c.args.watch.feeds.items) _ c.in-Err.ensures.rounds
 
 pub returns-in-Err-clause-stops : goal.returns-in-Err-clause-stops
 returns-in-Err-clause-stops g c =
@@ -27,11 +29,11 @@ returns-clause-gone g c = λ s first start is gone.
     same_watch c.in-Ok.answered.0 c.show_growth.new.table c.show_growth.ensures.same
     (λ w. HasGone g.S.Store.tells g.S.Store.seen g.S.Store.shown g.S.Store.may_leave g.S.Store.moment g.S.Store.left_since s first w start c.round.new.journal)
     (once_gone g.S.Store.tells g.S.Store.seen g.S.Store.shown g.S.Store.may_leave g.S.Store.moment g.S.Store.left_since c.args.watch c.args.journal.now c.round.new.journal
-    c.in-Ok.answered.0 c.in-Ok.answered.1 c.in-Ok.ensures.rounds s first start is gone)
+    (map (source_in g.T.Growing.source) c.args.watch.feeds.items) c.in-Ok.answered.0 c.in-Ok.answered.1 c.in-Ok.ensures.rounds s first start is gone)
 
 pub returns-clause-leaves : goal.returns-clause-leaves
 returns-clause-leaves g c =
-    once_leaves g.S.Store.tells g.S.Store.seen g.S.Store.shown g.S.Store.may_leave g.S.Store.moment g.S.Store.left_since c.args.watch c.args.journal.now c.round.new.journal _ c.in-Ok.ensures.rounds
+    once_lives g.S.Store.tells g.S.Store.seen g.S.Store.shown g.S.Store.may_leave g.S.Store.moment g.S.Store.left_since c.args.watch c.args.journal.now c.round.new.journal (map (source_in g.T.Growing.source) c.args.watch.feeds.items) _ c.in-Ok.ensures.rounds
 
 pub returns-clause-up : goal.returns-clause-up
 returns-clause-up g c = λ first up.

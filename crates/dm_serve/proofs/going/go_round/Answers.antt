@@ -1,6 +1,7 @@
-use Rattle.std.proofs.Common.{◌≡◌, ◌<◌, ◌^◌, ℕ, vec_len, refl, sym, subst, ◌∙◌, arith}
+use Rattle.std.proofs.Common.{◌≡◌, ◌<◌, ◌^◌, ℕ, List, Option, vec_len, refl, sym, subst, ◌∙◌, arith}
 use Rattle.dm_desk.specs.Planning.{PlansUnder}
 use Rattle.dm_display.specs.Displays.{IsFor}
+use Rattle.dm_serve.specs.Lives.{LivesOn}
 use Rattle.dm_serve.proofs.Gone.{later_on, stops_on, up_first}
 use Rattle.dm_serve.proofs.going.go_round.Goals as goal
 
@@ -9,6 +10,8 @@ loop-round-init g c = record {
   going = record { setting = refl; as_many = refl; watching = c.requires.watching; shown = c.requires.shown };
   gone = λ s first start is gone. gone;
   up = up_first _ _ _ _ c.args.watch.desk.table c.args.display.now c.show.new.self c.args.boards.now.items c.show.new.boards.items c.requires.none c.show.ensures;
+  batch = refl;
+  sources = refl;
   later = omega arith;
 }
 
@@ -38,12 +41,17 @@ loop-round-preserved g c = record {
   going = c.in-Ok.ensures.going _ _ c.loop-round.invariant.going;
   gone = λ s first start is gone. c.in-Ok.ensures.gone s first start (c.loop-round.invariant.going.setting ∙ is) (c.loop-round.invariant.gone s first start is gone);
   up = c.in-Ok.ensures.up _ c.loop-round.invariant.up;
+  batch = c.in-Ok.ensures.batch ∙ c.loop-round.invariant.batch;
+  sources = c.in-Ok.ensures.sources ∙ c.loop-round.invariant.sources;
   later = later_on _ _ _ c.loop-round.invariant.later c.in-Ok.ensures.later;
 }
 
 pub returns-in-Err-clause-goes : goal.returns-in-Err-clause-goes
-returns-in-Err-clause-goes g c = λ s first start is gone.
-    (c.in-Err.ensures.leaves s first start (c.loop-round.invariant.going.setting ∙ is) (c.loop-round.invariant.gone s first start is gone), tt)
+returns-in-Err-clause-goes g c = λ s first start is gone. (
+  subst (λ (l : List (Option (List ℕ))). LivesOn g.S.Store.moment g.S.Store.left_since s first l start c.go_once.new.journal.store) c.loop-round.invariant.sources
+      (c.in-Err.ensures.leaves s first start (c.loop-round.invariant.going.setting ∙ is) (c.loop-round.invariant.gone s first start is gone)),
+  tt,
+)
 
 pub returns-in-Err-clause-stops : goal.returns-in-Err-clause-stops
 returns-in-Err-clause-stops g c =
@@ -62,8 +70,14 @@ returns-then-not-next-clause-going g c = c.in-Ok.ensures.going _ _ c.loop-round.
 
 pub returns-then-not-next-clause-goes : goal.returns-then-not-next-clause-goes
 returns-then-not-next-clause-goes g c = λ s first start is gone.
-    let more = c.in-Ok.ensures.gone s first start (c.loop-round.invariant.going.setting ∙ is) (c.loop-round.invariant.gone s first start is gone) in
-    (more.leaves, more)
+    let more = c.in-Ok.ensures.gone s first start (c.loop-round.invariant.going.setting ∙ is) (c.loop-round.invariant.gone s first start is gone) in (
+      subst (λ (l : List (Option (List ℕ))). LivesOn g.S.Store.moment g.S.Store.left_since s first l start c.go_once.new.journal.store) c.loop-round.invariant.sources
+          (c.in-Ok.ensures.leaves s first start (c.loop-round.invariant.going.setting ∙ is) (c.loop-round.invariant.gone s first start is gone)),
+      more,
+    )
+
+pub returns-then-not-next-clause-sources : goal.returns-then-not-next-clause-sources
+returns-then-not-next-clause-sources g c = c.in-Ok.ensures.sources ∙ c.loop-round.invariant.sources
 
 pub returns-then-not-next-clause-later : goal.returns-then-not-next-clause-later
 returns-then-not-next-clause-later g c = later_on _ _ _ c.loop-round.invariant.later c.in-Ok.ensures.later
@@ -73,3 +87,6 @@ returns-then-not-next-clause-up g c = c.in-Ok.ensures.up _ c.loop-round.invarian
 
 pub returns-then-not-next-clause-stays : goal.returns-then-not-next-clause-stays
 returns-then-not-next-clause-stays g c = (c.in-Ok.ensures.up _ c.loop-round.invariant.up).kept.kept.stops
+
+pub returns-then-not-next-clause-none_left : goal.returns-then-not-next-clause-none_left
+returns-then-not-next-clause-none_left g c = c.in-Ok.ensures.none_left c.if-not-is_new.true (subst (λ (n : ℕ). 0 < n) (sym c.loop-round.invariant.batch) c.requires.some)

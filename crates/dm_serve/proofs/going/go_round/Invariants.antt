@@ -1,8 +1,9 @@
-use Rattle.std.proofs.Common.{◌≡◌, ◌≤◌, length}
+use Rattle.std.proofs.Common.{◌≡◌, ◌≤◌, length, map}
 use Rattle.dm_cert.specs.Answers.{Setting}
 use Rattle.dm_book.specs.Books.{Book}
 use Rattle.dm_display.specs.Displays.{AreUp}
 use Rattle.dm_table_desk.specs.Tables.{setting_of}
+use Rattle.dm_tail.specs.Sources.{source_in}
 use Rattle.dm_serve.specs.Inside.Stages.{HasGone, IsGoing}
 use Rattle.dm_serve.proofs.going.go_round.Given as goal
 
@@ -17,5 +18,7 @@ invariant-loop-round g l =
           AreUp (λ b. (goal.Board-dyn g (b.vtable, b.value)).place b.value) (λ b. (goal.Board-dyn g (b.vtable, b.value)).times b.value)
           (λ b. (goal.Board-dyn g (b.vtable, b.value)).faults b.value) (λ b. (goal.Board-dyn g (b.vtable, b.value)).is_sound b.value)
           l.watch.desk.table l.display l.fn.boards.items l.boards.items;
+      batch : l.watch.batch ≡ l.fn.watch.batch;
+      sources : map (source_in g.T.Growing.source) l.watch.feeds.items ≡ map (source_in g.T.Growing.source) l.fn.watch.feeds.items;
       later : g.S.Store.faults l.fn.journal.store ≤ g.S.Store.faults l.journal.store;
     }

@@ -1,10 +1,13 @@
-use Rattle.std.proofs.Common.{◌∙◌, length, map, refl}
+use Rattle.std.proofs.Common.{◌∙◌, ℕ, List, Option, inl, length, map, refl, subst}
 use Rattle.std.proofs.lemmas.List.{length-map}
 use Rattle.dm_cert.specs.declared.replies.FeedLog.{FeedLog}
 use Rattle.dm_restore.specs.Start.{book_back}
 use Rattle.dm_table_desk.specs.Tables.{desk_of, setting_of}
 use Rattle.dm_words.specs.ServerAsked.{server_of}
 use Rattle.dm_serve.specs.Inside.Opening.{opened}
+use Rattle.dm_tail.specs.Sources.{source_in}
+use Rattle.dm_serve.specs.Lives.{AreFeedsOf, KeepsBooks}
+use Rattle.dm_serve.proofs.Caught.{feeds_of}
 use Rattle.dm_serve.proofs.Standing.{all_shown, watching}
 use Rattle.dm_serve.proofs.Stopping.{at_feeds_ends, at_feeds_never, catching_reason, wanting_ends}
 use Rattle.dm_serve.proofs.Taking.{book_beside, looked_keeps, read_back_as, spelled_logs}
@@ -26,11 +29,12 @@ pub returns-in_default-clause-ends : goal.returns-in_default-clause-ends
 returns-in_default-clause-ends g c = λ start later back.
     wanting_ends g.K.Sink.taken g.K.Sink.faults g.S.Store.tells g.S.Store.seen g.S.Store.shown g.S.Store.may_leave g.S.Store.moment g.S.Store.left_since g.S.Store.faults g.T.Growing.given g.T.Growing.faults _
     (setting_of c.args.restored.desk.plans c.args.restored.desk.table) (server_of c.args.serving.now.words.now).run.feeds (server_of c.args.serving.now.words.now).store (map opened c.args.feeds.items) c.no_day.result.tails.items c.args.out.now c.args.out.now start c.args.journal.now
-    c.no_day.result.status refl c.no_day.ensures
+    c.no_day.result.status refl c.no_day.ensures.status
 
 pub returns-in_default-clause-keeps : goal.returns-in_default-clause-keeps
 returns-in_default-clause-keeps g c = λ start back.
-    looked_keeps g.S.Store.tells g.S.Store.seen g.S.Store.shown g.S.Store.may_leave g.S.Store.moment g.S.Store.left_since (setting_of c.args.restored.desk.plans c.args.restored.desk.table) (length (server_of c.args.serving.now.words.now).run.feeds) start c.args.journal.now.store back.looks
+    looked_keeps g.S.Store.tells g.S.Store.seen g.S.Store.shown g.S.Store.may_leave g.S.Store.moment g.S.Store.left_since (setting_of c.args.restored.desk.plans c.args.restored.desk.table) (length (server_of c.args.serving.now.words.now).run.feeds)
+    (map (source_in g.T.Growing.source) c.args.feeds.items) start c.args.journal.now.store back.looks
 
 pub returns-in-Err-clause-ends : goal.returns-in-Err-clause-ends
 returns-in-Err-clause-ends g c = λ start later back.
@@ -40,7 +44,8 @@ returns-in-Err-clause-ends g c = λ start later back.
 
 pub returns-in-Err-clause-keeps : goal.returns-in-Err-clause-keeps
 returns-in-Err-clause-keeps g c = λ start back.
-    looked_keeps g.S.Store.tells g.S.Store.seen g.S.Store.shown g.S.Store.may_leave g.S.Store.moment g.S.Store.left_since (setting_of c.args.restored.desk.plans c.args.restored.desk.table) (length (server_of c.args.serving.now.words.now).run.feeds) start c.args.journal.now.store back.looks
+    looked_keeps g.S.Store.tells g.S.Store.seen g.S.Store.shown g.S.Store.may_leave g.S.Store.moment g.S.Store.left_since (setting_of c.args.restored.desk.plans c.args.restored.desk.table) (length (server_of c.args.serving.now.words.now).run.feeds)
+    (map (source_in g.T.Growing.source) c.args.feeds.items) start c.args.journal.now.store back.looks
 
 pub returns-in-Err-clause-told : goal.returns-in-Err-clause-told
 returns-in-Err-clause-told g c = λ e. absurd (at_feeds_never g.K.Sink.taken g.K.Sink.faults (server_of c.args.serving.now.words.now) c.catch_up_all.new.feeds.items c.in-Err.stop c.args.out.now c.end_at_feeds.new.out c.end_at_feeds.result c.end_at_feeds.ensures.ends e)
@@ -55,6 +60,20 @@ returns-clause-ends g c = λ start later back.
 pub returns-clause-keeps : goal.returns-clause-keeps
 returns-clause-keeps g c = λ start back.
     let logs = map (λ (log : FeedLog). log.items) c.args.restored.logs.items in
-    c.serve_found.ensures.keeps start
+    subst
+    (λ (l : List (Option (List ℕ))).
+    KeepsBooks g.S.Store.tells g.S.Store.seen g.S.Store.shown g.S.Store.may_leave g.S.Store.moment g.S.Store.left_since (setting_of c.args.restored.desk.plans c.args.restored.desk.table)
+    (length (server_of c.args.serving.now.words.now).run.feeds) l start c.serve_found.new.journal.store)
+    c.catch_up_all.ensures.sources
+    (c.serve_found.ensures.keeps start
     (read_back_as g.S.Store.tells g.S.Store.seen g.S.Store.shown g.S.Store.may_leave g.S.Store.moment g.S.Store.left_since (setting_of c.args.restored.desk.plans c.args.restored.desk.table) (length (server_of c.args.serving.now.words.now).run.feeds)
-    (book_back c.args.restored) _ c.args.restored.is_new start c.args.journal.now.store (book_beside g.T.Growing.given c.args.restored.desk.table.history logs c.catch_up_all.new.feeds.items c.in-Ok-catch_up_all.ensures.all) back)
+    (book_back c.args.restored) _ c.args.restored.is_new start c.args.journal.now.store (book_beside g.T.Growing.given c.args.restored.desk.table.history logs c.catch_up_all.new.feeds.items c.in-Ok-catch_up_all.ensures.all) back))
+
+pub returns-in_default-clause-same_feeds : goal.returns-in_default-clause-same_feeds
+returns-in_default-clause-same_feeds g c = inl c.no_day.ensures.none
+
+pub returns-in-Err-clause-same_feeds : goal.returns-in-Err-clause-same_feeds
+returns-in-Err-clause-same_feeds g c = feeds_of g.T.Growing.source _ c.catch_up_all.new.feeds.items c.end_at_feeds.result.tails.items c.catch_up_all.ensures.sources c.end_at_feeds.ensures.feeds
+
+pub returns-clause-same_feeds : goal.returns-clause-same_feeds
+returns-clause-same_feeds g c = subst (λ (l : List (Option (List ℕ))). AreFeedsOf g.T.Growing.source l c.serve_found.result.tails.items) c.catch_up_all.ensures.sources c.serve_found.ensures.same_feeds

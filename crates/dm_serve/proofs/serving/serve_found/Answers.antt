@@ -1,7 +1,8 @@
-use Rattle.std.proofs.Common.{◌≡◌, ◌∙◌, List, Ok, length, subst, sym, All, arith}
+use Rattle.std.proofs.Common.{◌≡◌, ◌∙◌, inl, List, Ok, length, map, subst, sym, All, arith}
 use Rattle.dm_cert.specs.RunTexts.{IsSpelledItem}
 use Rattle.dm_restore.specs.declared.heads.Head.{Head}
 use Rattle.dm_table_desk.specs.Tables.{desk_of, setting_of}
+use Rattle.dm_tail.specs.Sources.{source_in}
 use Rattle.dm_tail.specs.declared.watched.Watched.{Watched}
 use Rattle.dm_watch.specs.Rounds.{book_in}
 use Rattle.dm_words.specs.ServerAsked.{server_of}
@@ -43,7 +44,7 @@ returns-in-Ok-clause-keeps g c = λ start back.
 
 pub returns-in-Err-clause-ends : goal.returns-in-Err-clause-ends
 returns-in-Err-clause-ends g c = λ start feeds later back.
-    rw c.no_day.ensures
+    rw c.no_day.ensures.status
     (putting_ends g.K.Sink.taken g.K.Sink.faults g.S.Store.tells g.S.Store.seen g.S.Store.shown g.S.Store.may_leave g.S.Store.moment g.S.Store.left_since g.S.Store.faults g.T.Growing.given g.T.Growing.faults _
     (setting_of c.args.watch.desk.plans c.args.watch.desk.table) (server_of c.args.serving.now.words.now).run.feeds (server_of c.args.serving.now.words.now).store feeds c.no_day.result.tails.items c.args.out.now c.end_start.new.out start c.take_up.new.journal
     (book_in c.args.watch) c.args.is_new c.args.journal.now.store c.in-Err.stop c.end_start.result later back c.in-Err.ensures.stops c.end_start.ensures.ends)
@@ -57,6 +58,10 @@ returns-in-Err-clause-keeps g c = λ start back.
     c.args.journal.now c.take_up.new.journal c.requires.penalty c.requires.plans many back c.take_up.result
     (subst (λ (l : List (Watched _)). TakesUp {E = StartStop} g.S.Store.tells g.S.Store.seen g.S.Store.shown g.S.Store.may_leave g.S.Store.moment g.S.Store.left_since head c.args.is_new l c.args.journal.now c.take_up.new.journal c.take_up.result) c.deref.ensures.value
     c.take_up.ensures.takes)
+    (map (source_in g.T.Growing.source) c.args.watch.feeds.items)
 
 pub returns-in-Err-clause-told : goal.returns-in-Err-clause-told
-returns-in-Err-clause-told g c = λ e. absurd (start_never g.K.Sink.taken g.K.Sink.faults c.args.out.now c.end_start.new.out c.end_start.result _ _ c.in-Err.stop c.end_start.ensures.ends (sym c.no_day.ensures ∙ e))
+returns-in-Err-clause-told g c = λ e. absurd (start_never g.K.Sink.taken g.K.Sink.faults c.args.out.now c.end_start.new.out c.end_start.result _ _ c.in-Err.stop c.end_start.ensures.ends (sym c.no_day.ensures.status ∙ e))
+
+pub returns-in-Err-clause-same_feeds : goal.returns-in-Err-clause-same_feeds
+returns-in-Err-clause-same_feeds g c = inl c.no_day.ensures.none

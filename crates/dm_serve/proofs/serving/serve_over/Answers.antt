@@ -1,4 +1,4 @@
-use Rattle.std.proofs.Common.{◌≡◌, ◌≤◌, ◌∙◌, ℕ, length, map, subst, sym, ap, arith}
+use Rattle.std.proofs.Common.{◌≡◌, ◌≤◌, ◌∙◌, ℕ, List, Option, inl, length, map, subst, sym, ap, arith}
 use Rattle.dm_base.specs.declared.limits.TheConstants.{FEEDS}
 use Rattle.dm_cert.specs.Answers.{Setting}
 use Rattle.dm_book.specs.Books.{IsTrueBook}
@@ -9,7 +9,9 @@ use Rattle.dm_store_text.specs.Asked.{setting_for}
 use Rattle.dm_store.specs.declared.journal.Journal.{Journal}
 use Rattle.dm_serve.specs.Inside.Opening.{opened}
 use Rattle.dm_serve.specs.Inside.Stages.{StopsReadingBack}
-use Rattle.dm_serve.proofs.Caught.{all_fresh, as_many_opened}
+use Rattle.dm_tail.specs.Sources.{source_in}
+use Rattle.dm_serve.specs.Lives.{AreFeedsOf, source_of}
+use Rattle.dm_serve.proofs.Caught.{all_fresh, as_many_opened, same_sources}
 use Rattle.dm_serve.proofs.Looked.{looks_none}
 use Rattle.dm_serve.proofs.Overs.{ends_over_same, kept_over, was_read_back}
 use Rattle.dm_serve.proofs.Stopping.{reading_ends, reading_reason, start_never, unopened_ends, unopened_never}
@@ -18,18 +20,18 @@ use Rattle.dm_serve.proofs.serving.serve_over.Goals as goal
 
 pub returns-in-Err-clause-ends : goal.returns-in-Err-clause-ends
 returns-in-Err-clause-ends g c =
-    rw c.no_day.ensures
+    rw c.no_day.ensures.status
     (unopened_ends g.K.Sink.taken g.K.Sink.faults g.S.Store.tells g.S.Store.seen g.S.Store.shown g.S.Store.may_leave g.S.Store.moment g.S.Store.left_since g.S.Store.faults g.T.Growing.given g.T.Growing.faults _
     (setting_for (server_of c.args.serving.now.words.now) (record { net = c.args.serving.now.net.now; rows = c.args.rows })) (server_of c.args.serving.now.words.now).run.feeds (server_of c.args.serving.now.words.now).store c.args.feeds.items c.no_day.result.tails.items c.args.out.now c.end_unopened.new.out
     c.args.journal.now c.args.journal.now c.in-Err.stop c.end_unopened.result c.requires.as_many c.in-Err.ensures.unopened c.end_unopened.ensures.ends)
 
 pub returns-in-Err-clause-keeps : goal.returns-in-Err-clause-keeps
 returns-in-Err-clause-keeps g c =
-    looked_keeps g.S.Store.tells g.S.Store.seen g.S.Store.shown g.S.Store.may_leave g.S.Store.moment g.S.Store.left_since _ _ c.args.journal.now.store c.args.journal.now.store
+    looked_keeps g.S.Store.tells g.S.Store.seen g.S.Store.shown g.S.Store.may_leave g.S.Store.moment g.S.Store.left_since _ _ _ c.args.journal.now.store c.args.journal.now.store
     (looks_none g.S.Store.tells g.S.Store.seen g.S.Store.shown g.S.Store.may_leave g.S.Store.moment g.S.Store.left_since g.met.S.Store.shows_now g.met.S.Store.only_now c.args.journal.now.store)
 
 pub returns-in-Err-clause-told : goal.returns-in-Err-clause-told
-returns-in-Err-clause-told g c = λ e. absurd (unopened_never g.K.Sink.taken g.K.Sink.faults c.args.out.now c.end_unopened.new.out c.end_unopened.result _ c.in-Err.stop c.end_unopened.ensures.ends (sym c.no_day.ensures ∙ e))
+returns-in-Err-clause-told g c = λ e. absurd (unopened_never g.K.Sink.taken g.K.Sink.faults c.args.out.now c.end_unopened.new.out c.end_unopened.result _ c.in-Err.stop c.end_unopened.ensures.ends (sym c.no_day.ensures.status ∙ e))
 
 pub read_back-requires-clause-penalty : goal.read_back-requires-clause-penalty
 read_back-requires-clause-penalty g c = c.requires.within.penalty
@@ -86,7 +88,7 @@ returns-in-Ok-read_back-clause-ends g c =
     let many : c.len.result ≡ length asked.run.feeds = omega (arith, c.len.ensures, c.in-Ok.watched.ok.0, opened_all, c.requires.as_many) in
     let back = was_read_back g.S.Store.tells g.S.Store.seen g.S.Store.shown g.S.Store.may_leave g.S.Store.moment g.S.Store.left_since s s_now same (length asked.run.feeds) c.len.result many (book_back r) r.is_new c.args.journal.now.store c.read_back.new.store
     c.read_back.ensures.looks c.in-Ok-read_back.ensures.finds c.in-Ok-read_back.ensures.whole in
-    ends_over_same g.K.Sink.taken g.K.Sink.faults g.S.Store.tells g.S.Store.seen g.S.Store.shown g.S.Store.may_leave g.S.Store.faults g.T.Growing.given g.T.Growing.faults _ asked.run.feeds asked.store
+    ends_over_same g.K.Sink.taken g.K.Sink.faults g.S.Store.tells g.S.Store.seen g.S.Store.shown g.S.Store.may_leave g.S.Store.moment g.S.Store.left_since g.S.Store.faults g.T.Growing.given g.T.Growing.faults _ asked.run.feeds asked.store
     c.serve_feeds.result.tails.items c.args.out.now c.serve_feeds.new.out c.args.journal.now c.serve_feeds.new.journal c.serve_feeds.result.status s s_now same c.args.feeds.items (map opened c.in-Ok.watched.items) c.in-Ok.ensures.unread.are
     (c.serve_feeds.ensures.ends c.args.journal.now c.read_back.ensures.later back)
 
@@ -101,7 +103,9 @@ returns-in-Ok-read_back-clause-keeps g c =
     let many : c.len.result ≡ length asked.run.feeds = omega (arith, c.len.ensures, c.in-Ok.watched.ok.0, opened_all, c.requires.as_many) in
     let back = was_read_back g.S.Store.tells g.S.Store.seen g.S.Store.shown g.S.Store.may_leave g.S.Store.moment g.S.Store.left_since s s_now same (length asked.run.feeds) c.len.result many (book_back r) r.is_new c.args.journal.now.store c.read_back.new.store
     c.read_back.ensures.looks c.in-Ok-read_back.ensures.finds c.in-Ok-read_back.ensures.whole in
-    kept_over g.S.Store.tells g.S.Store.seen g.S.Store.shown g.S.Store.may_leave g.S.Store.moment g.S.Store.left_since s s_now same (length asked.run.feeds) c.len.result many (book_back r) r.is_new c.args.journal.now.store c.read_back.new.store c.serve_feeds.new.journal.store (c.serve_feeds.ensures.keeps c.args.journal.now.store back)
+    kept_over g.S.Store.tells g.S.Store.seen g.S.Store.shown g.S.Store.may_leave g.S.Store.moment g.S.Store.left_since s s_now same (length asked.run.feeds) c.len.result many (book_back r) r.is_new c.args.journal.now.store c.read_back.new.store
+    (map (source_of g.T.Growing.source) c.args.feeds.items) (map (source_in g.T.Growing.source) c.in-Ok.watched.items) (same_sources g.T.Growing.source c.args.feeds.items c.in-Ok.watched.items c.in-Ok.ensures.unread)
+    c.serve_feeds.new.journal.store (c.serve_feeds.ensures.keeps c.args.journal.now.store back)
 
 pub returns-in-Err-read_back-clause-ends : goal.returns-in-Err-read_back-clause-ends
 returns-in-Err-read_back-clause-ends g c =
@@ -110,13 +114,24 @@ returns-in-Err-read_back-clause-ends g c =
     let opened_all = as_many_opened c.args.feeds.items c.in-Ok.watched.items c.in-Ok.ensures.unread.are in
     let many : c.len.result ≡ length asked.run.feeds = omega (arith, c.len.ensures, c.in-Ok.watched.ok.0, opened_all, c.requires.as_many) in
     let new : Journal _ = record { store = c.read_back.new.store; end = c.args.journal.now.end } in
-    rw c.no_day-in-Err-read_back.ensures
+    rw c.no_day-in-Err-read_back.ensures.status
     (reading_ends g.K.Sink.taken g.K.Sink.faults g.S.Store.tells g.S.Store.seen g.S.Store.shown g.S.Store.may_leave g.S.Store.moment g.S.Store.left_since g.S.Store.faults g.T.Growing.given g.T.Growing.faults _
     s asked.run.feeds asked.store c.args.feeds.items c.no_day-in-Err-read_back.result.tails.items c.args.out.now c.end_start.new.out c.args.journal.now new c.in-Err-read_back.stop c.end_start.result c.read_back.ensures.looks
     (subst (λ (m : ℕ). StopsReadingBack g.S.Store.tells g.S.Store.seen g.S.Store.shown g.S.Store.may_leave g.S.Store.faults s m c.args.journal.now.store c.read_back.new.store c.in-Err-read_back.stop) many c.in-Err-read_back.ensures.stops) c.end_start.ensures.ends)
 
 pub returns-in-Err-read_back-clause-keeps : goal.returns-in-Err-read_back-clause-keeps
-returns-in-Err-read_back-clause-keeps g c = looked_keeps g.S.Store.tells g.S.Store.seen g.S.Store.shown g.S.Store.may_leave g.S.Store.moment g.S.Store.left_since _ _ c.args.journal.now.store c.read_back.new.store c.read_back.ensures.looks
+returns-in-Err-read_back-clause-keeps g c = looked_keeps g.S.Store.tells g.S.Store.seen g.S.Store.shown g.S.Store.may_leave g.S.Store.moment g.S.Store.left_since _ _ _ c.args.journal.now.store c.read_back.new.store c.read_back.ensures.looks
 
 pub returns-in-Err-read_back-clause-told : goal.returns-in-Err-read_back-clause-told
-returns-in-Err-read_back-clause-told g c = λ e. absurd (start_never g.K.Sink.taken g.K.Sink.faults c.args.out.now c.end_start.new.out c.end_start.result _ _ c.in-Err-read_back.stop c.end_start.ensures.ends (sym c.no_day-in-Err-read_back.ensures ∙ e))
+returns-in-Err-read_back-clause-told g c = λ e. absurd (start_never g.K.Sink.taken g.K.Sink.faults c.args.out.now c.end_start.new.out c.end_start.result _ _ c.in-Err-read_back.stop c.end_start.ensures.ends (sym c.no_day-in-Err-read_back.ensures.status ∙ e))
+
+pub returns-in-Err-clause-same_feeds : goal.returns-in-Err-clause-same_feeds
+returns-in-Err-clause-same_feeds g c = inl c.no_day.ensures.none
+
+pub returns-in-Err-read_back-clause-same_feeds : goal.returns-in-Err-read_back-clause-same_feeds
+returns-in-Err-read_back-clause-same_feeds g c = inl c.no_day-in-Err-read_back.ensures.none
+
+pub returns-in-Ok-read_back-clause-same_feeds : goal.returns-in-Ok-read_back-clause-same_feeds
+returns-in-Ok-read_back-clause-same_feeds g c =
+    subst (λ (l : List (Option (List ℕ))). AreFeedsOf g.T.Growing.source l c.serve_feeds.result.tails.items)
+    (sym (same_sources g.T.Growing.source c.args.feeds.items c.in-Ok.watched.items c.in-Ok.ensures.unread)) c.serve_feeds.ensures.same_feeds

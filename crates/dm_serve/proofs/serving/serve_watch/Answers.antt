@@ -1,4 +1,4 @@
-use Rattle.std.proofs.Common.{rules, ℕ, List, length, refl, sym, subst}
+use Rattle.std.proofs.Common.{rules, ℕ, inl, inr, List, length, refl, sym, subst}
 use Rattle.dm_network.specs.Net.{Net}
 use Rattle.dm_cert.specs.Answers.{Setting}
 use Rattle.dm_cert.specs.declared.notes.Note.{Note}
@@ -6,8 +6,11 @@ use Rattle.dm_cert.specs.Runs.{AreTrueNotes}
 use Rattle.dm_display.specs.Displays.{IsFor}
 use Rattle.dm_publish.specs.Since.{AreUpSince}
 use Rattle.dm_table_desk.specs.Tables.{setting_of}
+use Rattle.dm_tail.proofs.Sources.{answer_sources}
+use Rattle.dm_watch.specs.Rounds.{book_in, desk_in}
 use Rattle.dm_words.specs.ServerAsked.{server_of}
 use Rattle.dm_serve.specs.Inside.Stages.{IsGoing}
+use Rattle.dm_serve.proofs.Caught.{feeds_of}
 use Rattle.dm_serve.proofs.Ended.{ends_day, ends_round_so, ends_wanting_so, few_feeds, plans_under}
 use Rattle.dm_serve.proofs.Printed.{is_day, spelled_logs}
 use Rattle.dm_serve.proofs.serving.serve_watch.Goals as goal
@@ -33,10 +36,16 @@ pub returns-in_default-clause-ends : goal.returns-in_default-clause-ends
 returns-in_default-clause-ends g c = λ start feeds low since.
     ends_wanting_so g.K.Sink.taken g.K.Sink.faults g.S.Store.tells g.S.Store.seen g.S.Store.shown g.S.Store.may_leave g.S.Store.moment g.S.Store.left_since g.S.Store.faults g.T.Growing.given g.T.Growing.faults
     _ (server_of c.args.serving.now.words.now).run.feeds (server_of c.args.serving.now.words.now).store (setting_of c.args.watch.desk.plans c.args.watch.desk.table) feeds c.args.out.now c.args.out.now start c.args.journal.now
-    c.no_day.result.tails.items c.no_day.result.status refl c.no_day.ensures
+    c.no_day.result.tails.items c.no_day.result.status refl c.no_day.ensures.status
 
 pub returns-in_default-clause-keeps : goal.returns-in_default-clause-keeps
-returns-in_default-clause-keeps g c = λ start since contents first t. (since contents first t).leaves
+returns-in_default-clause-keeps g c = λ start since contents first t.
+    let watch = c.args.watch in
+    record {
+      last = book_in watch;
+      leaves = (since contents first t).leaves;
+      answers = inr (answer_sources g.T.Growing.given g.T.Growing.source g.met.T.Growing.from_source (desk_in watch) watch.feeds.items c.requires.watching.each);
+    }
 
 pub returns-in-Ok-go_round-clause-ends : goal.returns-in-Ok-go_round-clause-ends
 returns-in-Ok-go_round-clause-ends g c = λ start feeds low since.
@@ -54,7 +63,7 @@ returns-in-Ok-go_round-clause-ends g c = λ start feeds low since.
     c.in-Ok-go_round.watch.desk.table c.in-Ok-go_round.watch.feeds.items c.notes.result.now c.end_day.result
     (λ are fits.
     is_day g.T.Growing.given s n c.in-Ok-go_round.watch going c.notes.result.now g.S.Store.tells g.S.Store.seen g.S.Store.shown g.S.Store.may_leave g.S.Store.moment g.S.Store.left_since
-    up start c.go_round.new.journal c.end_day.result.tails.items c.end_day.ensures.table fits noted c.requires.within.some_feed c.requires.within.few_feeds boards are
+    up start c.go_round.new.journal c.end_day.result.tails.items c.end_day.ensures.table fits noted c.requires.within.some_feed c.requires.within.few_feeds boards are c.in-Ok-go_round.ensures.none_left
     (λ contents first t. (c.in-Ok-go_round.ensures.goes s first start.store refl (since contents first t)).1))
     c.end_day.ensures.ends
 
@@ -66,8 +75,17 @@ pub returns-clause-ends : goal.returns-clause-ends
 returns-clause-ends g c = λ start feeds low since.
     ends_round_so g.K.Sink.taken g.K.Sink.faults g.S.Store.tells g.S.Store.seen g.S.Store.shown g.S.Store.may_leave g.S.Store.moment g.S.Store.left_since g.S.Store.faults g.T.Growing.given g.T.Growing.faults
     _ (server_of c.args.serving.now.words.now).run.feeds (server_of c.args.serving.now.words.now).store (setting_of c.args.watch.desk.plans c.args.watch.desk.table) feeds c.args.out.now c.end_round.new.out start c.go_round.new.journal
-    c.args.watch c.args.journal.now refl low since c.no_day-in-Err.result.tails.items c.end_round.result c.in-Err.stop c.in-Err.ensures.stops c.end_round.ensures.ends c.no_day-in-Err.result.status c.no_day-in-Err.ensures
+    c.args.watch c.args.journal.now refl low since c.no_day-in-Err.result.tails.items c.end_round.result c.in-Err.stop c.in-Err.ensures.stops c.end_round.ensures.ends c.no_day-in-Err.result.status c.no_day-in-Err.ensures.status
 
 pub returns-clause-keeps : goal.returns-clause-keeps
 returns-clause-keeps g c = λ start since contents first t.
     (c.in-Err.ensures.goes (setting_of c.args.watch.desk.plans c.args.watch.desk.table) first start refl (since contents first t)).0
+
+pub returns-in_default-clause-same_feeds : goal.returns-in_default-clause-same_feeds
+returns-in_default-clause-same_feeds g c = inl c.no_day.ensures.none
+
+pub returns-in-Ok-go_round-clause-same_feeds : goal.returns-in-Ok-go_round-clause-same_feeds
+returns-in-Ok-go_round-clause-same_feeds g c = feeds_of g.T.Growing.source _ c.in-Ok-go_round.watch.feeds.items c.end_day.result.tails.items c.in-Ok-go_round.ensures.sources c.end_day.ensures.feeds
+
+pub returns-clause-same_feeds : goal.returns-clause-same_feeds
+returns-clause-same_feeds g c = inl c.no_day-in-Err.ensures.none

@@ -1,0 +1,2 @@
+-- Feeds of which nothing was read.
+pub mod Feeds
