@@ -1,0 +1,445 @@
+"""Works at the dispatcher's desk in a browser without a window:
+
+    dispatch-tools control_room DISPATCHER [--trains=40] [--pictures=FOLDER]
+
+Over a generated day it starts a server (`serve`) with two feeds, and the desk. With Debian's `chromium` it does a control room's
+work. It reports a delay on the page, and sees the reply, the train and the board move. It asks for a plan, compares it, and
+adopts it, or finds it old. It takes a correction back. It tries a window and the waiting rules. It looks that names which are
+scripts do nothing. It sends what must be refused: requests from another origin, without a token, too long, or with a path
+upwards. It kills the server and starts it again while the page is open. Then it measures the first picture, an entry from the
+feed to the screen, ten pages at once, and memory.
+
+It prints what differs, and the status is then 1. With --pictures it leaves pictures of the page in FOLDER, by day and by night.
+"""
+from __future__ import annotations
+
+import argparse
+import http.client
+import json
+import os
+import secrets
+import shutil
+import subprocess
+import sys
+import tempfile
+import time
+from typing import Callable, Optional, Sequence
+
+from dispatch_tools.days.generated import write_day
+from dispatch_tools.dev.browser import Browser, CHROMIUM, MISSING
+from dispatch_tools.dev.hostile_names import HOSTILE
+from dispatch_tools.formats.names import in_print
+from dispatch_tools.here import words_of
+from dispatch_tools.live.serving import Server
+from dispatch_tools.words import add_program, command_line, whole_between
+
+# What the desk promises: seconds to the first picture and from a feed to the screen, bytes of memory, and pages at once.
+FIRST, SEEN, MEMORY, PAGES = 2.0, 0.2, 200 << 20, 10
+
+# The seconds within which pages that are opened at once have to stand.
+SETTLED = 4.0
+
+# The seconds after which something counts as missing.
+PATIENCE = 60.0
+
+
+class Wrong(Exception):
+    """The page does not do what it should."""
+
+
+class Desk:
+    """A day in a folder, its server and its page."""
+
+    def __init__(self, program: str, folder: str, trains: int, store: str = 'store') -> None:
+        self.program, self.folder = program, folder
+        write_day(7, trains, folder)
+        self.net = os.path.join(folder, 'net')
+        self.store = os.path.join(folder, store)
+        self.feeds = [os.path.join(folder, name) for name in ('others', 'own')]
+        self.token = secrets.token_urlsafe(16)
+        with open(os.open(os.path.join(folder, 'token'), os.O_WRONLY | os.O_CREAT, 0o600), 'w', encoding='ascii') as file:
+            file.write(self.token)
+        self.server = Server(program, self.net, self.store, self.feeds, ['--plans=100'])
+        self.page: Optional[subprocess.Popen[str]] = None
+        self.port = 0
+
+    def name(self, file: str, names: dict[int, str]) -> None:
+        """Gives the network a file of names."""
+        with open(os.path.join(self.net, file), 'w', encoding='utf-8', newline='') as into:
+            into.write(in_print(['id', 'name'], names.items()))
+
+    def open(self, *words: str) -> None:
+        command = [*words_of('desk'), self.net, self.store, self.feeds[1], '--feed=2', '--port=0',
+                   f'--program={self.program}', *words]
+        self.page = subprocess.Popen(command, stdout=subprocess.PIPE, text=True)
+        assert self.page.stdout is not None
+        self.port = int(self.page.stdout.readline().rstrip('/\n').rsplit(':', 1)[1])
+
+    @property
+    def address(self) -> str:
+        return f'http://127.0.0.1:{self.port}/'
+
+    def tell(self, *lines: str) -> None:
+        """Appends lines to the feed of another source."""
+        self.server.append(0, lines)
+
+    def close(self) -> None:
+        self.server.kill()
+        if self.page is not None:
+            self.page.terminate()
+            self.page.wait()
+
+    def ask(self, method: str, path: str, body: bytes = b'', **headers: str) -> tuple[int, str]:
+        """The status and the text of the answer to a request that no page makes."""
+        line = http.client.HTTPConnection('127.0.0.1', self.port, timeout=PATIENCE)
+        line.putrequest(method, path, skip_host='Host' in headers)
+        given = {'Content-Length': str(len(body)), 'Content-Type': 'application/json', **headers} if method == 'POST' else headers
+        for name, value in given.items():
+            line.putheader(name.replace('_', '-'), value)
+        try:
+            line.endheaders(body or None)
+        except (ConnectionError, BrokenPipeError):
+            pass
+        answer = line.getresponse()
+        words = answer.read(65_536).decode(errors='replace') if answer.getheader('Content-Type') != 'text/event-stream; charset=utf-8' else ''
+        line.close()
+        return answer.status, words
+
+
+# ---- The page
+
+
+def until(browser: Browser, expression: str, what: str) -> float:
+    """Waits until something holds on the page; the seconds that it took."""
+    began = time.monotonic()
+    while not browser.value(expression):
+        if time.monotonic() - began > PATIENCE:
+            raise Wrong(f'{what}: {expression}')
+        time.sleep(0.01)
+    return time.monotonic() - began
+
+
+def text(selector: str) -> str:
+    return f'(document.querySelector({json.dumps(selector)})?.textContent ?? "")'
+
+
+def has(selector: str, words: str) -> str:
+    return f'{text(selector)}.includes({json.dumps(words)})'
+
+
+def press(browser: Browser, label: str) -> None:
+    """Presses the button with this label, or whose name for a screen reader begins with it."""
+    browser.value(f'''[...document.querySelectorAll('button')].find(one => one.textContent === {json.dumps(label)}
+        || (one.getAttribute('aria-label') || '').startsWith({json.dumps(label)})).click()''')
+
+
+def choose(browser: Browser, name: str, value: object) -> None:
+    browser.value(f'''(one => {{ one.value = {json.dumps(value)}; one.dispatchEvent(new Event('change')); }})
+        (document.getElementById({json.dumps(name)}))''')
+
+
+def fill(browser: Browser, name: str, value: object) -> None:
+    browser.value(f'document.getElementById({json.dumps(name)}).value = {json.dumps(value)}')
+
+
+def visit(browser: Browser, desk: Desk, token: bool = True) -> float:
+    """Opens the page; the seconds until its first picture is whole."""
+    began = time.monotonic()
+    browser.visit(desk.address)
+    until(browser, "!!document.querySelector('#view svg') && !!document.querySelector('#train table')", 'the first picture')
+    took = time.monotonic() - began
+    if token:
+        fill(browser, 'token', desk.token)
+        press(browser, 'Use')
+        until(browser, "!document.getElementById('tell').hidden", 'the token is taken')
+    return took
+
+
+# ---- What a dispatcher does
+
+
+def reports_a_delay(browser: Browser, desk: Desk) -> None:
+    """The reply, the train's line and the board move."""
+    choose(browser, 'trains', '2')
+    until(browser, has('#train caption', 'Train 41'), 'the train is shown')
+    choose(browser, 'lines', next(str(line) for line in range(8) if 'data-t="2"' in desk.ask('GET', f'/line?line={line}')[1]))
+    choose(browser, 'stops', browser.value("(async () => (await (await fetch('/day')).json()).stops.length)()") and '23')
+    until(browser, "!!document.querySelector('#view .train[data-t=\"2\"]')", 'its line is drawn')
+    until(browser, has('#board', 'Train 41'), 'its board is shown')
+    path = "document.querySelector('#view .train[data-t=\"2\"]').innerHTML"
+    drawn = browser.value(path)
+    fill(browser, 'event', '41')
+    fill(browser, 'minutes', '7')
+    press(browser, 'Is late')
+    until(browser, has('#told tbody tr', '7 min late') + ' && ' + has('#told tbody tr', 'entered as'), 'the reply')
+    until(browser, has('#train tbody', '7 min'), 'the train is late')
+    until(browser, has('#board tbody', '6:08'), 'the board has moved')
+    until(browser, has('#late tbody', 'Train 41'), 'it stands among the late trains')
+    until(browser, has('#alerts', 'Train 41'), 'there is an alert')
+    until(browser, f'{path} !== {json.dumps(drawn)}', 'its line has moved')
+
+
+def takes_it_back(browser: Browser, desk: Desk) -> None:
+    press(browser, 'Undo: Train 41')
+    until(browser, has('#told tbody tr', 'not late by itself'), 'the correction is reported')
+    until(browser, f'!{has("#late", "Train 41")}', 'the train is punctual again')
+
+
+def drops_a_change(browser: Browser, desk: Desk) -> None:
+    press(browser, 'Drop the change Train 41 ')
+    until(browser, has('#told tbody tr', 'does not wait for Train 41') + ' && ' + has('#told tbody tr', 'entered as'), 'the change is dropped')
+    until(browser, has('#choices', 'dropped'), 'the train says so')
+
+
+def turns_a_pair(browser: Browser, desk: Desk) -> None:
+    press(browser, 'Turn: ')
+    until(browser, has('#told tbody tr', 'goes before') + ' && ' + has('#told tbody tr', 'entered as'), 'an order is turned')
+
+
+def reports_what_passed(browser: Browser, desk: Desk) -> None:
+    fill(browser, 'event', '41')
+    fill(browser, 'at', '6:01:30')
+    press(browser, 'Has passed')
+    until(browser, has('#train tbody tr', 'passed'), 'the train has left')
+    fill(browser, 'event', '41')
+    press(browser, 'Is late')
+    until(browser, has('#told tbody tr', 'refused: Train 41 leaves'), 'a delay of a train that has left is refused in words')
+    fill(browser, 'event', '41')
+    press(browser, 'Has not passed after all')
+    until(browser, f'!{has("#train tbody tr", "passed")}', 'it is recalled')
+
+
+def plans(browser: Browser, desk: Desk) -> None:
+    """A plan is compared and adopted. An old plan is not adopted."""
+    desk.tell('delay event 41 600', 'delay event 61 900', 'delay event 101 300')
+    until(browser, has('#late', 'Train 61'), 'others report delays')
+    fill(browser, 'nodes', '300')
+    press(browser, 'Ask for a plan')
+    until(browser, has('#planned', 'instead of') + ' && ' + has('#planned', 'Nothing was entered since'), 'what the plan would change')
+    for words in ('Choices', 'Trains', 'no choices cost less than', 'orders turned', 'at their last stop', 'earlier'):
+        if not browser.value(has('#planned', words)):
+            raise Wrong(f'the comparison does not say "{words}"')
+    desk.tell('delay event 141 60')
+    until(browser, has('#planned', 'is old'), 'the plan became old')
+    until(browser, has('#alerts', 'is old'), 'there is an alert of it')
+    line, adopt = browser.value(text('#told tbody th')), {'Origin': desk.address.rstrip('/'), 'Authorization': f'Bearer {desk.token}'}
+    if desk.ask('POST', '/adopt', json.dumps({'plan': int(line)}).encode(), **adopt)[0] != 200:
+        raise Wrong('the last plan is not adopted by its line')
+    until(browser, has('#told', 'something was entered since the plan'), 'the server says that it is old')
+    press(browser, 'Ask again')
+    until(browser, has('#planned', 'Nothing was entered since') + ' && ' + has('#planned', 'instead of'), 'a new plan')
+    if desk.ask('POST', '/adopt', json.dumps({'plan': int(line)}).encode(), **adopt)[0] != 409:
+        raise Wrong('a plan is adopted that was asked for before the last one')
+    cost = str(browser.value(text('#planned'))).split('optimal: ')[-1].split('Optimal: ')[-1].split(' instead of')[0]
+    press(browser, 'Adopt this plan')
+    until(browser, has('#planned', 'Adopted as entry'), 'the plan is adopted')
+    until(browser, f'{text("#cost")} === {json.dumps(cost)}', 'the day costs what the plan said')
+
+
+def tries(browser: Browser, desk: Desk) -> None:
+    """A window with a choice held, and the waiting rules; nothing of them is entered."""
+    entries = browser.value(text('#entries'))
+    press(browser, 'Hold in what-if: ')
+    fill(browser, 'begin', '6:00')
+    fill(browser, 'end', '6:30')
+    press(browser, 'Plan this window')
+    until(browser, has('#windowed', 'instead of'), 'the window is compared')
+    press(browser, 'Compare waiting rules')
+    until(browser, "!!document.querySelector('#ruled svg polyline')", 'the rules are drawn')
+    if browser.value(text('#entries')) != entries:
+        raise Wrong('what was only tried was entered')
+
+
+def is_killed(browser: Browser, desk: Desk) -> None:
+    """The page says that the server has ended, and goes on when it is started again."""
+    desk.server.kill()
+    until(browser, has('#alerts', 'No server runs'), 'the page says that no server runs')
+    choose(browser, 'trains', '4')
+    until(browser, has('#train caption', 'Train 81'), 'the page goes on')
+    press(browser, 'Not late by itself')
+    until(browser, has('#told', 'waits for the server'), 'a line waits')
+    desk.server.start()
+    until(browser, f'!{has("#told", "waits for the server")} && !{has("#alerts", "No server runs")}', 'it is answered by the next server')
+
+
+def keys(browser: Browser, desk: Desk) -> None:
+    """All is reached by keys, each control has a name, and a delay is reported without a mouse."""
+    browser.value('document.activeElement.blur(); scrollTo(0, 0)')
+    reached = []
+    for _ in range(12):
+        browser.press('Tab')
+        reached.append(browser.value("document.activeElement.id || document.activeElement.textContent"))
+    wanted = ['Late trains', 'Train and what to report', 'wanted', 'Show', 'leave', 'numbers']
+    if [name for name in reached if name in wanted] != wanted:
+        raise Wrong(f'keys reach {reached}')
+    hidden = browser.value("""[...document.querySelectorAll('button,input,select,.scroll,#view')].filter(one => one.checkVisibility() && !one.disabled)
+        .filter(one => (one.focus(), document.activeElement !== one)).map(one => one.outerHTML.slice(0, 80))""")
+    if hidden:
+        raise Wrong(f'not reached by keys: {hidden}')
+    fill(browser, 'minutes', '13')
+    browser.value("document.getElementById('minutes').focus()")
+    browser.press('Enter', '\r')
+    until(browser, has('#told tbody tr', '13 min late') + ' && ' + has('#told tbody tr', 'entered as'), 'a delay is reported by keys')
+    nodes = browser.ask('Accessibility.getFullAXTree')['nodes']
+    controls = ('button', 'textbox', 'combobox', 'checkbox', 'searchbox', 'spinbutton', 'region')
+    nameless = [node['role']['value'] for node in nodes if not node.get('ignored') and node.get('role', {}).get('value') in controls
+                and not node.get('name', {}).get('value')]
+    if nameless:
+        raise Wrong(f'controls without a name: {nameless}')
+    live = browser.value("[...document.querySelectorAll('[role=status],[role=alert],[aria-live]')].map(one => one.id)")
+    if live != ['link', 'said']:
+        raise Wrong(f'live regions: {live}')
+
+
+def refuses(desk: Desk) -> None:
+    """What is no page of the desk gets nothing, and nothing of it stands in the feed."""
+    with open(desk.feeds[1], 'rb') as file:
+        before = file.read()
+    own, right = f'http://127.0.0.1:{desk.port}', f'Bearer {desk.token}'
+    line = json.dumps({'kind': 'delay event', 'numbers': [41, 60]}).encode()
+    cases: list[tuple[str, int, tuple[int, str]]] = [
+        ('another origin', 403, desk.ask('POST', '/tell', line, Origin='http://evil.example', Authorization=right)),
+        ('no origin', 403, desk.ask('POST', '/tell', line, Authorization=right)),
+        ('no token', 403, desk.ask('POST', '/tell', line, Origin=own)),
+        ('a wrong token', 403, desk.ask('POST', '/tell', line, Origin=own, Authorization=right + 'x')),
+        ('another host', 403, desk.ask('GET', '/', Host='evil.example')),
+        ('a page of another site', 403, desk.ask('GET', '/day', Sec_Fetch_Site='cross-site', Sec_Fetch_Mode='cors')),
+        ('a mile of a body', 413, desk.ask('POST', '/tell', b'1' * 1_609_344, Origin=own, Authorization=right)),
+        ('a mile of an address', 414, desk.ask('GET', '/' + 'x' * 100_000)),
+        ('a path upwards', 404, desk.ask('GET', '/../../../etc/passwd')),
+        ('a path upwards in code', 404, desk.ask('GET', '/%2e%2e/desk.py')),
+        ('a line in a line', 409, desk.ask('POST', '/tell', b'{"kind": "delay event", "numbers": ["41 60\\nadopt", 1]}', Origin=own, Authorization=right)),
+        ('the clock', 409, desk.ask('POST', '/tell', b'{"kind": "now", "numbers": [1]}', Origin=own, Authorization=right)),
+        ('no JSON', 400, desk.ask('POST', '/tell', b'[' * 4000, Origin=own, Authorization=right)),
+    ]
+    for what, wanted, (status, words) in cases:
+        if status != wanted:
+            raise Wrong(f'{what} is answered with {status}: {words[:200]}')
+    with open(desk.feeds[1], 'rb') as file:
+        if file.read() != before:
+            raise Wrong('something that was refused stands in the feed')
+
+
+def only_shows(browser: Browser, program: str, folder: str) -> None:
+    """Hostile names do nothing, and a desk without a token only shows."""
+    desk = Desk(program, folder, 40)
+    desk.name('Stops.csv', dict(enumerate(HOSTILE, 1)))
+    desk.name('Trains.csv', {20 * place + 1: name for place, name in enumerate(HOSTILE)})
+    desk.tell(*(f'delay event {20 * place + 1} {600 + place}' for place in range(len(HOSTILE))), 'now 21600')
+    desk.server.start()
+    desk.open()
+    try:
+        visit(browser, desk, token=False)
+        until(browser, "document.querySelectorAll('#late tbody tr').length >= 20", 'the late trains')
+        for place in range(len(HOSTILE)):
+            choose(browser, 'trains', str(place))
+        until(browser, f"document.querySelectorAll('#trains option')[3].textContent === {json.dumps(HOSTILE[3])}", 'a name is text')
+        if browser.value('typeof hurt') != 'undefined' or browser.value("document.querySelectorAll('img, #late script, #late svg').length"):
+            raise Wrong('a name is more than text')
+        status = desk.ask('POST', '/tell', b'{"kind": "adopt", "numbers": []}', Origin=f'http://127.0.0.1:{desk.port}', Authorization='Bearer ')[0]
+        shown = browser.value("[...document.querySelectorAll('form')].filter(form => form.checkVisibility()).map(form => form.id)")
+        if status != 403 or shown != ['find']:
+            raise Wrong(f'a desk without a token takes a line ({status}) or offers to ({shown})')
+    finally:
+        desk.close()
+
+
+# ---- Measured
+
+
+def memory_of(process: int) -> int:
+    """The most memory that a process had."""
+    with open(f'/proc/{process}/status', encoding='ascii') as file:
+        return next(int(line.split()[1]) << 10 for line in file if line.startswith('VmHWM'))
+
+
+def entries_seen(browser: Browser, desk: Desk, count: int) -> list[float]:
+    """How long each of so many entries takes from the feed to the screen."""
+    took = []
+    for number in range(count):
+        seen = f'{text("#journal tbody tr")}.includes("{number + 1} min {number + 1} s")'
+        began = time.monotonic()
+        desk.tell(f'delay event {20 * number + 201} {61 * (number + 1)}')
+        browser.value(f'new Promise(done => {{ const look = () => {seen} ? done(true) : setTimeout(look, 2); look(); }})')
+        took.append(time.monotonic() - began)
+    return sorted(took)
+
+
+def measured(desk: Desk, browser: Browser, first: float) -> bool:
+    """Whether the page is as quick and small as it should be."""
+    alone = entries_seen(browser, desk, 20)
+    for _ in range(PAGES - 1):
+        browser.beside(desk.address)
+    time.sleep(SETTLED)
+    together = entries_seen(browser, desk, 20)
+    assert desk.page is not None
+    memory = memory_of(desk.page.pid)
+    print(f'first picture {first:.2f} s; an entry on the screen {alone[10] * 1000:.0f} ms in the middle, {alone[-1] * 1000:.0f} ms at most; with {PAGES} '
+          f'pages {together[10] * 1000:.0f} ms and {together[-1] * 1000:.0f} ms; {memory >> 20} MB')
+    return first <= FIRST and alone[10] <= SEEN and together[10] <= SEEN and memory <= MEMORY
+
+
+def pictures(browser: Browser, folder: str, trains: int) -> None:
+    os.makedirs(folder, exist_ok=True)
+    for scheme in ('light', 'dark'):
+        browser.look(1500, 1150, scheme)
+        browser.value('scrollTo(0, 0)')
+        browser.settled()
+        with open(os.path.join(folder, f'desk-{trains}-{"day" if scheme == "light" else "night"}.png'), 'wb') as file:
+            file.write(browser.picture())
+
+
+WORK: list[Callable[[Browser, Desk], None]] = [
+    reports_a_delay, takes_it_back, drops_a_change, turns_a_pair, reports_what_passed, plans, tries, is_killed, keys,
+]
+
+
+def tried(given: argparse.Namespace, folder: str) -> bool:
+    browser = Browser()
+    desk = Desk(given.program, os.path.join(folder, 'day'), given.trains)
+    try:
+        browser.look(1500, 1150)
+        desk.server.start()
+        desk.open(f'--token={os.path.join(desk.folder, "token")}')
+        first = visit(browser, desk)
+        desk.tell('now 21600')
+        for work in [] if given.only_measured else WORK:
+            print(f'{work.__name__.replace("_", " ")}', flush=True)
+            work(browser, desk)
+        if given.pictures:
+            pictures(browser, given.pictures, given.trains)
+        quick = measured(desk, browser, first)
+        if given.only_measured:
+            return quick
+        refuses(desk)
+        only_shows(browser, given.program, os.path.join(folder, 'hostile'))
+        return quick
+    finally:
+        desk.close()
+        browser.close()
+
+
+def arguments(argv: Sequence[str] | None) -> argparse.Namespace:
+    words = command_line(__doc__)
+    add_program(words)
+    words.add_argument('--trains', type=whole_between(40, 2_000), default=40, metavar='N', help='trains of the day (40)')
+    words.add_argument('--pictures', metavar='FOLDER', help='folder for pictures of the page')
+    words.add_argument('--only-measured', action='store_true', help='measure only')
+    return words.parse_args(argv)
+
+
+def main(argv: Sequence[str] | None = None) -> int:
+    given = arguments(argv)
+    if CHROMIUM is None:
+        print(MISSING, file=sys.stderr)
+        return 2
+    folder = tempfile.mkdtemp(prefix='desk-')
+    try:
+        quick = tried(given, folder)
+    except Wrong as wrong:
+        print(f'{wrong}\n{folder}')
+        return 1
+    shutil.rmtree(folder)
+    if not quick:
+        print('the page is slower or larger than it should be')
+    return 0 if quick else 1

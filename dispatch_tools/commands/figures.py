@@ -1,0 +1,41 @@
+"""Makes the figures of a study of waiting rules: dispatch-tools figures NET TEXT FOLDER [--dispatcher PROGRAM]
+
+NET is the folder of a network, and TEXT the text of a run over it. The figures are about the rows after all entries of TEXT.
+FOLDER gets three of them, each as a picture (.svg) and as a table (.csv). Costs are in thousandths of passenger seconds:
+
+    rules      the cost of each waiting rule: `never`, at most k seconds, `always`; beside them the cost and the bound of a plan
+    budgets    the cost and the bound of a plan by its budget of nodes
+    lateness   how late the arrivals of each quarter of an hour are, before and after a plan is adopted
+
+The last column of a table is the command that made the numbers of its row. The last figure comes from a run of the file `feed` in
+FOLDER. Its lines bring back the rows of TEXT, ask for a plan and adopt it. PROGRAM is the built program. The script calls its
+commands `rules` and `run` some forty times. Standard error shows how far it is.
+
+The status is 2, and no picture is written, if a file or a text is not good, or if PROGRAM says so.
+"""
+from __future__ import annotations
+
+import sys
+from typing import Sequence
+
+from dispatch_tools.formats.files import BadFile
+from dispatch_tools.pictures.figures import make_all, progress
+from dispatch_tools.words import add_delays, add_network, command_line
+
+
+def main(argv: Sequence[str] | None = None) -> int:
+    words = command_line(__doc__)
+    add_network(words)
+    words.add_argument('text', metavar='TEXT', help='the text of a run over it')
+    words.add_argument('folder', metavar='FOLDER', help='folder for the figures')
+    words.add_argument('--dispatcher', default='dispatcher', metavar='PROGRAM', help='the built program (dispatcher in the path)')
+    add_delays(words)
+    given = words.parse_args(argv)
+    try:
+        make_all(given)
+        progress('\n')
+    except BadFile as fault:
+        progress('\n')
+        print(f'figures: {fault}', file=sys.stderr)
+        return 2
+    return 0

@@ -1,0 +1,1 @@
+"""Days: made of timetables, drawn, played and planned."""

@@ -1,0 +1,209 @@
+"""What looks wrong in a network and in feeds."""
+from __future__ import annotations
+
+import os
+from collections import Counter
+from typing import Iterable, Iterator, NamedTuple, Optional
+
+from dispatch_tools.formats.files import BadFile, in_one_line, text_of
+from dispatch_tools.formats.giv import ACTIVITIES, activity_row, event_row, EVENTS, rows_of_file
+from dispatch_tools.formats.names import numbered
+from dispatch_tools.formats.runtext import due_items, Said
+from dispatch_tools.model.network import Activity, Event, Network
+from dispatch_tools.model.railway import LARGEST_DELAY, LARGEST_PASSED
+
+DAY = 86_400
+
+# At most so many oddities of each kind are reported. Of the others only the number is.
+MOST = 20
+
+
+class Oddity(NamedTuple):
+    """Something odd: its kind, the file and the line, and what is odd there."""
+    kind: str
+    name: str
+    line: int
+    what: str
+
+
+class Files(NamedTuple):
+    """A network, the folder of its files, and the lines of its events and activities by id."""
+    network: Network
+    folder: str
+    event_lines: dict[int, int]
+    activity_lines: dict[int, int]
+
+    def at_event(self, kind: str, event: Event, what: str) -> Oddity:
+        return Oddity(kind, os.path.join(self.folder, EVENTS), self.event_lines[event.id], f'event {event.id}: {what}')
+
+    def at_activity(self, kind: str, activity: Activity, what: str) -> Oddity:
+        name = os.path.join(self.folder, ACTIVITIES)
+        return Oddity(kind, name, self.activity_lines[activity.id], f'{activity.kind} {activity.id}: {what}')
+
+    def ends(self, place: int) -> tuple[Event, Event]:
+        """The events at the tail and the head of an activity."""
+        return self.network.events[self.network.tails[place]], self.network.events[self.network.heads[place]]
+
+
+def read_files(folder: str) -> Files:
+    """The network of a folder with the lines of its records; BadFile if it is none."""
+    events = list(rows_of_file(folder, EVENTS, event_row))
+    activities = list(rows_of_file(folder, ACTIVITIES, activity_row))
+    known = {event.id for _, event in events}
+    for line, activity in activities:
+        for end in (activity.tail, activity.head):
+            if end not in known:
+                raise BadFile(os.path.join(folder, ACTIVITIES), line, f'there is no event {end}')
+    network = Network([event for _, event in events], [activity for _, activity in activities])
+    return Files(
+        network, folder, {event.id: line for line, event in events}, {activity.id: line for line, activity in activities},
+    )
+
+
+# ---- Networks
+
+
+def schedule_oddities(files: Files) -> Iterator[Oddity]:
+    """Activities that run back in time, and those shorter than their bounds."""
+    for place, activity in enumerate(files.network.activities):
+        tail, head = files.ends(place)
+        slack = head.time - tail.time - activity.lower
+        if files.network.pair_by_activity[place] is not None and head.time < tail.time:
+            continue
+        if head.time < tail.time:
+            yield files.at_activity('backwards', activity, f'its head is scheduled {tail.time - head.time} s before its tail')
+        elif slack < 0 and activity.kind == 'change':
+            yield files.at_activity('change', activity, f'nobody can make it: {-slack} s too short for its bound of {activity.lower} s')
+        elif slack < 0:
+            yield files.at_activity('short', activity, f'its schedule is {-slack} s below its bound of {activity.lower} s')
+
+
+def swapped_columns(files: Files) -> Iterator[Oddity]:
+    """Columns whose numbers look like those of another; each is named once."""
+    network = files.network
+    drives = [place for place, activity in enumerate(network.activities) if activity.kind == 'drive']
+    back = [place for place in drives if files.ends(place)[1].time < files.ends(place)[0].time]
+    if drives and 2 * len(back) > len(drives):
+        yield files.at_activity('swapped', network.activities[back[0]], 'most drives run back in time: are tail and head swapped?')
+    weighted = [event for event in network.events if event.weight]
+    heavy = [event for event in weighted if event.weight > 1000 * event.time and event.weight > 3_600_000]
+    if weighted and 2 * len(heavy) > len(weighted):
+        yield files.at_event('swapped', heavy[0], 'most events have more passengers than seconds: are time and weight swapped?')
+
+
+def jumps(files: Files) -> Iterator[Oddity]:
+    """Trains that wait from one stop to another, or drive from a stop to itself."""
+    for place, activity in enumerate(files.network.activities):
+        tail, head = files.ends(place)
+        if activity.kind == 'wait' and tail.stop != head.stop:
+            yield files.at_activity('jump', activity, f'the train waits from stop {tail.stop} to stop {head.stop}')
+        if activity.kind == 'drive' and tail.stop == head.stop:
+            yield files.at_activity('jump', activity, f'the train drives from stop {tail.stop} to the same stop')
+
+
+def kind_oddities(files: Files) -> Iterator[Oddity]:
+    """Drives, waits and changes between events of another kind than a train has there."""
+    due = {'drive': ('departure', 'arrival'), 'wait': ('arrival', 'departure'), 'change': ('arrival', 'departure')}
+    for place, activity in enumerate(files.network.activities):
+        ends = tuple(event.kind for event in files.ends(place))
+        if activity.kind in due and ends != due[activity.kind]:
+            yield files.at_activity('kinds', activity, f'it leads from {ends[0]} to {ends[1]}')
+
+
+def long_changes(files: Files) -> Iterator[Oddity]:
+    for place, activity in enumerate(files.network.activities):
+        tail, head = files.ends(place)
+        if activity.kind == 'change' and head.time - tail.time > DAY:
+            yield files.at_activity('long', activity, f'passengers would wait {head.time - tail.time} s, more than a day')
+
+
+def one_way_headways(files: Files) -> Iterator[Oddity]:
+    for place, activity in enumerate(files.network.activities):
+        if activity.kind == 'headway' and files.network.pair_by_activity[place] is None:
+            yield files.at_activity('one-way', activity, 'no headway leads the other way, so the order of these trains is fixed')
+
+
+def empty_stops(files: Files) -> Iterator[Oddity]:
+    """Stops that Stops.csv names and no event is at."""
+    used = {event.stop for event in files.network.events}
+    for line, stop, name in numbered(files.folder, 'Stops.csv'):
+        if stop not in used:
+            yield Oddity('stop', os.path.join(files.folder, 'Stops.csv'), line, f'stop {stop} ({name}) has no event')
+
+
+# ---- Feeds
+
+
+def guess(line: str) -> str:
+    """Why a line may be malformed, or nothing."""
+    reasons = [
+        ('ï»¿' in line, 'a byte order mark stands before it'), ('\t' in line, 'a tab separates nothing'),
+        ('\r' in line, 'a CR stands without an LF'), (any(letter.isupper() for letter in line), 'words have small letters'),
+        ('-' in line, 'numbers have no sign'), (len(line) > 1024, 'it has more than 1,024 bytes'),
+    ]
+    return next((f': {reason}' for holds, reason in reasons if holds), '')
+
+
+def ids_of(network: Network, said: Said) -> Optional[str]:
+    """What a line names that the network has not, in words."""
+    kind, *numbers = said
+    if kind in ('delay activity', 'keep', 'drop'):
+        place = network.activity_place.get(numbers[0])
+        if place is None:
+            return f'there is no activity {numbers[0]}'
+        if kind != 'delay activity' and network.activities[place].kind != 'change':
+            return f'activity {numbers[0]} is no change'
+    elif kind in ('delay event', 'pass', 'recall', 'time', 'first'):
+        events = numbers if kind == 'first' else numbers[:1]
+        for event in events:
+            if event not in network.event_place:
+                return f'there is no event {event}'
+        if kind == 'first' and network.pair_of(*(network.event_place[event] for event in events)) is None:
+            return f'events {events[0]} and {events[1]} are no pair'
+    return None
+
+
+def range_of(said: Said) -> Optional[str]:
+    """What number of a line is above its limit, in words."""
+    largest = {'delay event': LARGEST_DELAY, 'delay activity': LARGEST_DELAY, 'pass': LARGEST_PASSED, 'now': LARGEST_PASSED}
+    if said[0] in largest and said[-1] > largest[said[0]]:
+        return f'{said[-1]} is above {largest[said[0]]}'
+    if said[0] == 'plan' and not 1 <= said[1] <= 16_384:
+        return f'a plan has 1 to 16384 nodes, not {said[1]}'
+    return None
+
+
+def feed_oddities(network: Network, name: str) -> Iterator[Oddity]:
+    """The lines of a feed that are malformed or will be refused."""
+    text = text_of(name)
+    lines = text.split('\n')
+    for number, said in due_items(text):
+        if said is None:
+            yield Oddity('malformed', name, number, f'malformed{guess(lines[number - 1].removesuffix(chr(13)))}')
+            continue
+        refused = range_of(said) or ids_of(network, said)
+        if refused is not None:
+            yield Oddity('refused', name, number, refused)
+
+
+# ---- Words
+
+
+def oddities(files: Files, feeds: Iterable[str]) -> Iterator[Oddity]:
+    for find in (swapped_columns, schedule_oddities, jumps, kind_oddities, one_way_headways, long_changes, empty_stops):
+        yield from find(files)
+    for feed in feeds:
+        yield from feed_oddities(files.network, feed)
+
+
+def tell(found: Iterable[Oddity]) -> int:
+    """Prints what was found, of each kind and file at most so many lines."""
+    told: Counter[tuple[str, str]] = Counter()
+    for odd in found:
+        told[odd.kind, odd.name] += 1
+        if told[odd.kind, odd.name] <= MOST:
+            print(in_one_line(f'{odd.name}, line {odd.line}: {odd.what}'))
+    for (kind, name), count in told.items():
+        if count > MOST:
+            print(f'{name}: {count - MOST} more of the kind `{kind}`')
+    return sum(told.values())

@@ -1,0 +1,266 @@
+"""The trains of a day with their events, and the rules by which a network is made of them."""
+from __future__ import annotations
+
+from collections import Counter
+from dataclasses import dataclass, field, replace
+from fractions import Fraction
+from functools import cached_property
+from itertools import chain
+from typing import Iterator, Optional
+
+from dispatch_tools.formats.gtfs import Call, Day, End, Told, Trip
+from dispatch_tools.formats.gtfs_rows import clock
+from dispatch_tools.formats.names import name_of_trip, named_trip
+from dispatch_tools.model.cuts import in_words, stations_that_part
+from dispatch_tools.model.network import Event
+
+ONE_PASSENGER = 1000
+
+WHOLE_DAY = 24 * 3600
+
+
+class Refused(Exception):
+    """There is no network that the program would load."""
+
+
+@dataclass(frozen=True)
+class Limits:
+    """The most events and activities of a network; by default those of the program."""
+    events: int = 100_000
+    activities: int = 500_000
+
+
+PROGRAM = Limits()
+
+
+@dataclass(frozen=True)
+class Headways:
+    """The seconds between departures: by two stations and the kind of vehicle, by two stations, by the kind, or else the usual ones.
+
+    What is not said of stations or of the kind is empty in a key; 0 seconds make none.
+    """
+    usual: int
+    said: dict[tuple[str, str, str], int] = field(default_factory=dict)
+
+    def between(self, start: str, end: str, kind: str) -> tuple[int, bool]:
+        """The seconds, and whether they are said."""
+        for key in (start, end, kind), (start, end, ''), ('', '', kind):
+            if key in self.said:
+                return self.said[key], True
+        return self.usual, False
+
+
+@dataclass(frozen=True)
+class Rules:
+    """How long activities take; times in seconds, shares of one. No headways are made where theirs are None.
+
+    `guaranteed` are the passengers of a guaranteed connection, in thousandths, or None if they are as those of other changes.
+    `single` are the seconds between an arrival from a single track and a departure into it, by the two stations at its ends.
+    """
+    reserve: Fraction
+    dwell: int
+    turn: int
+    longest_change: int
+    headways: Optional[Headways]
+    changing: Fraction
+    guaranteed: Optional[int] = None
+    single: dict[frozenset[str], int] = field(default_factory=dict)
+
+
+@dataclass(frozen=True)
+class Window:
+    """A stretch of the day; a train is in it that runs at any time within."""
+    start: int
+    end: int
+
+    def has(self, train: Train) -> bool:
+        return train.begins <= self.end and train.ends >= self.start
+
+
+@dataclass
+class Notes:
+    """How often what was found while a network was made: what was left out, and what else a planner should know."""
+    left_out: Told = field(default_factory=Told)
+    besides: Told = field(default_factory=Told)
+    paired: int = 0
+
+    def in_print(self) -> Iterator[str]:
+        for title, told in ('left out', self.left_out), ('besides', self.besides):
+            yield from (f'{title}: {line}' for line in told.in_print())
+
+
+# ---- Trains and their events
+
+
+@dataclass
+class Train:
+    """A trip that runs once, so many seconds after the times of its calls; it repeats where a frequency made it, at exact times or not."""
+    name: str
+    trip: Trip
+    shift: int
+    repeats: bool
+    is_exact: bool = True
+    moments: list[Moment] = field(default_factory=list)
+    linked: set[str] = field(default_factory=set)
+
+    @property
+    def begins(self) -> int:
+        return self.trip.calls[0].departure + self.shift
+
+    @property
+    def ends(self) -> int:
+        return self.trip.calls[-1].arrival + self.shift
+
+    @property
+    def events(self) -> int:
+        return 2 * len(self.trip.calls) - 2
+
+    @cached_property
+    def stations(self) -> set[str]:
+        """Where it calls."""
+        return {moment.beyond for moment in self.moments}
+
+    @property
+    def label(self) -> str:
+        return f'{self.trip.route.name} {self.trip.short_name or clock(self.begins)[:-3]}'
+
+    def shares_vehicle(self, other: Train) -> bool:
+        block = self.trip.block
+        if other.name in self.linked:
+            return True
+        return block != '' and block == other.trip.block and not (self.repeats or other.repeats)
+
+
+@dataclass(slots=True)
+class Moment:
+    """An event, the train and the call that it is of, and the station that the train comes from or goes to."""
+    event: Event
+    train: Train
+    call: Call
+    beyond: str
+
+    @property
+    def end(self) -> End:
+        trip = self.train.trip
+        return End(self.call.stop, trip.id, trip.route.id)
+
+
+def trains_of(
+    day: Day, before: Optional[Day], window: Window, stations: dict[str, str], notes: Notes, limits: Limits,
+) -> list[Train]:
+    """The trips of a day, and of the one before, that run within a window, in the order in which they begin; Refused if they have
+    too many events."""
+    trains: list[Train] = []
+    events: Counter[str] = Counter()
+    ways: Counter[tuple[str, ...]] = Counter()
+    for train in chain(all_trains(day, notes), past_midnight(before, notes) if before else ()):
+        if window.has(train):
+            events[train.trip.route.id] += train.events
+            ways[tuple(stations[call.stop] for call in train.trip.calls)] += 1
+            if events.total() <= limits.events:
+                trains.append(train)
+            notes.besides['trains of frequencies without exact times, which leave about so often'] += not train.is_exact
+        else:
+            notes.left_out['trains outside of --from and --to'] += 1
+    if events.total() > limits.events:
+        most = ', '.join(f'{route} {count}' for route, count in events.most_common(5))
+        raise Refused(
+            f'the network would have {events.total()} events, and may have {limits.events}: choose routes by --routes= '
+            f'(most events: {most}), or a part of the day by --from= and --to=; or cut it into regions by dispatch-tools split with --date='
+            f'{in_words(stations_that_part(ways))}'
+        )
+    trains.sort(key=lambda train: (train.begins, train.name))
+    return trains
+
+
+def all_trains(day: Day, notes: Notes) -> Iterator[Train]:
+    for trip in day.trips.values():
+        frequencies = day.frequencies.get(trip.id)
+        if frequencies is None:
+            yield Train(name_of_trip(trip.id), trip, 0, False)
+            continue
+        starts = Counter(start for one in frequencies for start in one.departures)
+        exact = {start for one in frequencies if one.is_exact for start in one.departures}
+        notes.left_out['trips of frequencies.txt that never leave'] += not starts
+        for start, count in starts.items():
+            notes.left_out['trains that two frequencies make at the same time'] += count - 1
+            if f'{trip.id}@{clock(start)}' in day.trips:
+                notes.left_out['trains of frequencies that are trips of the feed, too'] += 1
+            else:
+                name = name_of_trip(trip.id, start=clock(start))
+                yield Train(name, trip, start - trip.calls[0].departure, True, start in exact)
+
+
+def past_midnight(before: Day, notes: Notes) -> Iterator[Train]:
+    """The trains of the day before, from the first stop on that they leave past midnight, by the clock of the day."""
+    for train in all_trains(before, Notes()):
+        shift = train.shift - WHOLE_DAY
+        calls = [call for call in train.trip.calls if call.departure + shift >= 0]
+        if len(calls) > 1:
+            notes.besides['trains of the service day before that run past midnight'] += 1
+            notes.left_out['calls before midnight of trains of the service day before'] += len(train.trip.calls) - len(calls)
+            trip = train.trip
+            block = trip.block and f'{trip.block}@{trip.day_before}'
+            name = name_of_trip(trip.id, trip.day_before, named_trip(train.name).start)
+            yield Train(name, replace(trip, calls=calls, block=block), shift, train.repeats, train.is_exact)
+
+
+@dataclass
+class Passengers:
+    """How many passengers leave a trip at a stop, in thousandths, and how many of them change to another trip there; one at each arrival
+    and each change if nothing is said of it."""
+    numbers: Optional[dict[tuple[str, str], int]] = None
+    changes: dict[tuple[str, str, str], int] = field(default_factory=dict)
+    used: set[tuple[str, ...]] = field(default_factory=set)
+
+    def leaving(self, train: Train, call: Call, left: set[str], notes: Notes) -> int:
+        """How many leave at a call, where passengers have left the train at some stops before."""
+        if not call.leaves:
+            notes.besides['arrivals where nobody may leave the train, which count as none'] += 1
+            return 0
+        if self.numbers is None:
+            return ONE_PASSENGER
+        for key in (train.name, call.stop), (train.trip.id, call.stop):
+            if key in self.numbers and call.stop in left:
+                notes.besides['arrivals at a stop where the trip has its number of passengers already, which count as none'] += 1
+                return 0
+            if key in self.numbers:
+                self.used.add(key)
+                left.add(call.stop)
+                return self.numbers[key]
+        notes.besides['arrivals without a number of passengers, which count as none'] += 1
+        return 0
+
+    def changing(self, arrival: Moment, departure: Moment, rules: Rules, is_guaranteed: bool) -> int:
+        """How many change from an arrival to a departure."""
+        for train in arrival.train.name, arrival.train.trip.id:
+            for other in departure.train.name, departure.train.trip.id:
+                key = train, arrival.call.stop, other
+                if key in self.changes:
+                    self.used.add(key)
+                    return self.changes[key]
+        if is_guaranteed and rules.guaranteed is not None:
+            return rules.guaranteed
+        return ONE_PASSENGER if self.numbers is None else int(arrival.event.weight * rules.changing)
+
+    @property
+    def unused(self) -> int:
+        return len(self.numbers or ()) + len(self.changes) - len(self.used)
+
+
+def give_moments(trains: list[Train], stations: dict[str, str], passengers: Passengers, notes: Notes) -> dict[str, int]:
+    """Gives each train its events, with ids from 1; the number of each station."""
+    called = {stations[call.stop] for train in trains for call in train.trip.calls}
+    numbers = {station: number for number, station in enumerate((one for one in stations if one in called), 1)}
+    event = 0
+    for train in trains:
+        calls = train.trip.calls
+        left: set[str] = set()
+        for tail, head in zip(calls, calls[1:]):
+            ends = stations[tail.stop], stations[head.stop]
+            departure = Event(event + 1, 'departure', tail.departure + train.shift, 0, numbers[ends[0]])
+            weight = passengers.leaving(train, head, left, notes)
+            arrival = Event(event + 2, 'arrival', head.arrival + train.shift, weight, numbers[ends[1]])
+            train.moments += [Moment(departure, train, tail, ends[1]), Moment(arrival, train, head, ends[0])]
+            event += 2
+    return numbers

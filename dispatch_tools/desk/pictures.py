@@ -1,0 +1,62 @@
+"""The time-distance diagrams of a day that goes on, drawn once for all pages that show the same."""
+from __future__ import annotations
+
+import threading
+from typing import Callable, NamedTuple, Optional
+
+from dispatch_tools.pictures.diagram import drawn, Frame, frame_of, LEFT, Marked, marked_on, title_of, TOP, Trains
+from dispatch_tools.pictures.scene import Scene
+
+# At most so many drawings are kept.
+KEPT = 32
+
+
+class Asked(NamedTuple):
+    """The number of a line, and the times between which it is shown."""
+    line: int
+    begin: Optional[int]
+    end: Optional[int]
+
+
+class Picture(NamedTuple):
+    """A drawing as the element of a page, and its frame: the first and the last time, where the first is, and how many units a second
+    and the stops take."""
+    svg: str
+    frame: str
+
+
+class Pictures:
+    """The drawings of lines. Where the stops and the trains of a line are drawn is worked out once for a stretch of time."""
+
+    def __init__(self, lines: list[list[int]]) -> None:
+        self.lines = lines
+        self.lock = threading.Lock()
+        self.frames: dict[Asked, tuple[Frame, Trains, Marked]] = {}
+        self.kept: dict[Asked, tuple[int, Picture]] = {}
+
+    def draw(self, asked: Asked, version: int, scene: Callable[[], Scene]) -> Picture:
+        """The drawing of a line at a version of the day. If it has to be drawn anew, `scene` gives the day."""
+        with self.lock:
+            if asked not in self.kept or self.kept[asked][0] != version:
+                if len(self.kept) >= KEPT:
+                    self.kept.clear()
+                    self.frames.clear()
+                self.kept[asked] = (version, self.drawn_anew(asked, scene()))
+            return self.kept[asked][1]
+
+    def drawn_anew(self, asked: Asked, scene: Scene) -> Picture:
+        line = self.lines[asked.line]
+        if asked not in self.frames:
+            frame, trains = frame_of(scene, line, asked.begin, asked.end)
+            self.frames[asked] = frame, trains, marked_on(frame, scene)
+        frame, trains, marked = self.frames[asked]
+        svg = '\n'.join(drawn(scene, frame, self.near(frame, trains, scene), marked, title_of(scene, line)))
+        return Picture(svg, f'{frame.begin} {frame.end} {LEFT} {frame.scale} {TOP} {frame.height}')
+
+    def near(self, frame: Frame, trains: Trains, scene: Scene) -> Trains:
+        """The trains that run within the frame's times, as scheduled or as they stand."""
+        def spans(stretch: list[int]) -> bool:
+            first, last = stretch[0], stretch[-1]
+            return (min(scene.scheduled(first), scene.times[first]) <= frame.end
+                    and max(scene.scheduled(last), scene.times[last]) >= frame.begin)
+        return [(number, stretches) for number, stretches in trains if any(map(spans, stretches))]

@@ -1,0 +1,340 @@
+"""What the page's server keeps: the day, read as the journal grows, the program's answers beside it, and the picture of the screen."""
+from __future__ import annotations
+
+import json
+import threading
+import time
+from dataclasses import dataclass, field
+from typing import Any, NamedTuple, Optional, Sequence, Union
+
+from dispatch_tools.days.playing import Program
+from dispatch_tools.desk.alerts import alerts_of, Marks, Server
+from dispatch_tools.desk.asking import adoption, Asking, Followed, SecondReading
+from dispatch_tools.desk.day import Day
+from dispatch_tools.desk.effects import effect
+from dispatch_tools.desk.feed import Feed, line_of
+from dispatch_tools.desk.locks import is_held
+from dispatch_tools.desk.pictures import Asked, Picture, Pictures
+from dispatch_tools.desk.reckoning import Cycle
+from dispatch_tools.desk.screen import screen_of
+from dispatch_tools.desk.undoing import turned_back
+from dispatch_tools.formats.files import BadFile
+from dispatch_tools.formats.journal import Answered, Blocks, journal_of, read_head, Rounds
+from dispatch_tools.formats.runtext import Bad
+from dispatch_tools.model.decide import in_turn, spoken
+from dispatch_tools.model.railway import Decision, decision_refusal, Plan
+from dispatch_tools.pictures.scene import lines_of
+
+# The seconds between two looks at the journal, between two looks at who is silent, and from one answer of the program to the next question.
+LOOK, TICK, PAUSE = 0.01, 1.0, 0.3
+
+# At most so many lines of stops are offered.
+MOST_LINES = 40
+
+# At most so many lines of the feed are compared with what was answered.
+COMPARED = 20_000
+
+
+# At most so many decisions are named that could not be taken back.
+MOST_SAID = 8
+
+# The kinds of lines that decide.
+DECIDED = ('keep', 'drop', 'first', 'adopt')
+
+
+class Refused(Exception):
+    """What the page asks is refused, for a reason."""
+
+
+class Undone(NamedTuple):
+    """The number of the first line that takes something back, and in words what could not be taken back."""
+    line: int
+    left: list[str]
+
+
+@dataclass
+class Settings:
+    """How a desk was started."""
+    store: str
+    marks: Marks
+    program: Optional[str]
+    net: str
+    folder: str
+    options: list[str]
+    tells: bool
+
+
+@dataclass
+class Room:
+    """A day, its journal and its feed. All that threads share is changed under one lock."""
+    day: Day
+    feed: Feed
+    settings: Settings
+    stopped: threading.Event = field(default_factory=threading.Event)
+
+    def __post_init__(self) -> None:
+        self.changed = threading.Condition(threading.RLock())
+        self.pictures = Pictures(lines_of(self.day.network, self.day.trains, MOST_LINES))
+        self.screen, self.number = b'{}', 0
+        self.faults: list[str] = []
+        self.begin_anew()
+
+    def begin_anew(self) -> None:
+        self.journal = Blocks(journal_of(self.settings.store))
+        self.rounds: Optional[Rounds] = None
+        self.asking: Union[Asking, SecondReading, None] = None
+        self.followed: Optional[Followed] = None
+        self.effect: Optional[tuple[Plan, dict[str, Any]]] = None
+        self.pending: dict[int, tuple[str, float]] = {}
+        self.is_other_feed = False
+        self.broken = False
+
+    def start(self) -> None:
+        """Starts to read the journal and to ask the program."""
+        for work in (self.read_on, self.ask_on):
+            threading.Thread(target=work, daemon=True).start()
+
+    # ---- The journal
+
+    def read_on(self) -> None:
+        ticked = 0.0
+        while not self.stopped.is_set():
+            has_more = False
+            try:
+                has_more = self.read_more()
+            except (Bad, Cycle) as fault:
+                self.broken = True
+                what = f'line {fault.args[0]} of a block: {fault.args[1]}' if isinstance(fault, Bad) else 'its rows have a cycle'
+                self.fail(f'The journal of the store is none of this network: {what}. Nothing behind it is shown.')
+            except OSError as fault:
+                self.fail(f'The journal of the store cannot be read: {fault.strerror}')
+            if has_more or time.monotonic() - ticked >= TICK:
+                ticked = time.monotonic()
+                self.show()
+            if not has_more:
+                self.stopped.wait(LOOK)
+
+    def read_more(self) -> bool:
+        """Takes up what is new in the journal, and gives whether there was anything."""
+        blocks = self.journal.read()
+        if blocks is None:
+            with self.changed:
+                self.day.reset()
+                self.begin_anew()
+                self.faults = []
+            return True
+        if not blocks or self.broken:
+            return False
+        if self.rounds is None:
+            self.begin_with(blocks.pop(0))
+        assert self.rounds is not None
+        answered = [one for block in blocks for one in self.rounds.read(block)]
+        with self.changed:
+            self.day.take(answered)
+            self.compare(answered)
+        return True
+
+    def begin_with(self, content: bytes) -> None:
+        head = read_head(content)
+        settings, day = self.settings, self.day
+        with self.changed:
+            self.rounds = Rounds(head)
+            day.begin(head)
+            if settings.program is None:
+                self.asking = SecondReading(day.network, day.start, head.penalty)
+            else:
+                program = Program(settings.program, settings.net, head.penalty, settings.folder, options=settings.options)
+                self.asking = Asking(program, day.network, head.feeds)
+            if day.feed > head.feeds:
+                self.other_feed(f'The server has {head.feeds} feeds; there is no feed {day.feed}.')
+
+    def compare(self, answered: list[Answered]) -> None:
+        """Compares what was answered with the lines of the feed: with those written here, or else with those of the file."""
+        own = [one.item for one in answered if one.feed == self.day.feed]
+        if not own or self.is_other_feed:
+            return
+        said = self.feed.said(COMPARED) if own[0].line not in self.pending else None
+        for item in own:
+            line, _ = self.pending.pop(item.line, ('', 0.0))
+            if said is not None and item.line <= len(said) and said[item.line - 1] != item.said:
+                self.other_feed(f'Feed {self.day.feed} of the server is another file than the one to which this desk writes. See --feed.')
+                return
+            if said is None and line and ' '.join(map(str, item.said or ())) != line:
+                self.other_feed(f'Line {item.line} of feed {self.day.feed} was written by somebody else. See --feed.')
+                return
+
+    def other_feed(self, why: str) -> None:
+        self.is_other_feed = True
+        self.faults.append(why)
+
+    def fail(self, why: str) -> None:
+        with self.changed:
+            if why not in self.faults:
+                self.faults.append(why)
+
+    # ---- The program beside
+
+    def ask_on(self) -> None:
+        while not self.stopped.is_set():
+            began = time.monotonic()
+            try:
+                self.confirm()
+                self.compare_plan()
+            except BadFile as fault:
+                self.fail(f'The program beside the desk does not answer: {fault.without_paths()}')
+                self.stopped.wait(5)
+            self.stopped.wait(max(PAUSE, 3 * (time.monotonic() - began)))
+
+    def confirm(self) -> None:
+        """Compares the times with those of the program, and takes the program's if they differ."""
+        with self.changed:
+            asking, day = self.asking, self.day
+            count = len(day.entries)
+            if asking is None or (self.followed is not None and self.followed.entries == count):
+                return
+            entries, times, reckoning = day.entries[:], day.reckoning.times[:], day.reckoning
+        followed = asking.follow(entries)
+        with self.changed:
+            if day.reckoning is not reckoning:
+                return
+            self.followed = followed
+            if followed.times != times:
+                self.fail(f'After entry {count} the program has other times than this desk had worked out. The program is right.')
+                if len(day.entries) == count:
+                    reckoning.times = followed.times[:]
+                    day.look_at(set(range(len(times))))
+                    day.version += 1
+        self.show()
+
+    def compare_plan(self) -> None:
+        """Works out what the last plan of the desk's feed would change."""
+        with self.changed:
+            plan, asking, day = self.day.plan, self.asking, self.day
+            if plan is None or asking is None or (self.effect is not None and self.effect[0] is plan):
+                return
+            entries, line = day.entries[:plan.entry], day.plan_line
+        found = {**self.effect_of(plan, entries), 'line': line}
+        with self.changed:
+            self.effect = (plan, found)
+        self.show()
+
+    def effect_of(self, plan: Plan, entries: list[str]) -> dict[str, Any]:
+        assert self.asking is not None
+        before = self.asking.follow(entries)
+        after = self.asking.follow([*entries, adoption(plan.choices, self.day.feed)]) if plan.choices else before
+        return effect(self.day.naming, self.day.trains, plan, before, after)
+
+    # ---- What the page asks
+
+    def show(self) -> None:
+        """Makes the picture of the screen anew, and wakes the streams if it has changed."""
+        with self.changed:
+            waits_since = min((since for _, since in self.pending.values()), default=None)
+            server = Server(is_held(f'{self.settings.store}/lock'), waits_since)
+            alerts = alerts_of(self.day, self.settings.marks, server, self.faults)
+            screen = json.dumps(screen_of(self, alerts), separators=(',', ':'), ensure_ascii=True).encode()
+            if screen != self.screen:
+                self.screen = screen
+                self.number += 1
+                self.changed.notify_all()
+
+    def draw(self, asked: Asked) -> Picture:
+        return self.pictures.draw(asked, self.day.version, self.scene)
+
+    def scene(self) -> Any:
+        with self.changed:
+            return self.day.scene()
+
+    def tell(self, kind: object, numbers: object) -> int:
+        """Appends a line to the feed, and gives its number. Refused if the page may not write it."""
+        line = line_of(kind, numbers)
+        if line is None:
+            raise Refused('the page may not write this line')
+        return self.put([line])
+
+    def undo(self, number: object) -> Undone:
+        """Appends the lines that take a line back. Of an adopted plan that is what can still be taken back."""
+        with self.changed:
+            told = next((told for told in self.day.told if told.item.line == number), None)
+            if told is None or told.entry is None or told.back is None:
+                raise Refused('this line cannot be taken back')
+            if not told.back:
+                raise Refused('this line changed nothing')
+            back = told.back
+            left: list[str] = []
+            if told.item.said is not None and told.item.said[0] in DECIDED:
+                back, left = self.still_free(told.back)
+            if told.item.said == ('adopt',):
+                back = self.turned(back)
+            if not back:
+                raise Refused(f'nothing of it can be taken back: {"; ".join(left)}' if left else 'nothing of it is left to take back')
+            return Undone(self.put(spoken(back)), left)
+
+    def still_free(self, decisions: Sequence[Decision]) -> tuple[list[Decision], list[str]]:
+        """The decisions that can still be made, and in words each other one that differs from the rows, with what refuses it."""
+        network, rows, naming = self.day.network, self.day.reckoning.rows, self.day.naming
+        free, others = [], []
+        for decision in decisions:
+            refusal = decision_refusal(network, rows, decision)
+            if refusal is None:
+                free.append(decision)
+            elif turned_back(decision, rows, network) is not None:
+                others.append(f'{naming.decision(decision)} ({naming.refusal(refusal)})')
+        return free, others if len(others) <= MOST_SAID else [*others[:MOST_SAID], f'and {len(others) - MOST_SAID} more']
+
+    def turned(self, decisions: Sequence[Decision]) -> list[Decision]:
+        """The decisions that differ from the rows, in an order in which none closes a cycle."""
+        try:
+            return in_turn(self.day.network, self.day.reckoning.rows, decisions)
+        except ValueError as error:
+            raise Refused('with what was entered since, they would close a cycle') from error
+
+    def looked_at(self, line: object) -> Plan:
+        """The last plan of the desk's feed, which whoever names its line has looked at. Refused if another one was asked for since."""
+        plan = self.day.plan
+        if plan is None:
+            raise Refused('no plan was asked for')
+        if type(line) is not int or line != self.day.plan_line or self.feed.asks_for_a_plan(self.day.answered):
+            raise Refused('another plan was asked for since. Look at that one first')
+        return plan
+
+    def adopt(self, line: object) -> int:
+        """Adopts the plan that a line asked for; the number of the line that does. Refused if it is not the last one."""
+        with self.changed:
+            self.looked_at(line)
+            return self.put(['adopt'])
+
+    def enter_choices(self, line: object) -> int:
+        """Enters one by one the choices of the plan that a line asked for, those that are still free and differ from the rows, in an
+        order in which none closes a cycle; the number of the first line. Refused if it is not the last plan."""
+        with self.changed:
+            lines = spoken(self.turned(self.still_free(self.looked_at(line).choices)[0]))
+            if not lines:
+                raise Refused('nothing of this plan is left to enter')
+            return self.put(lines)
+
+    def put(self, lines: list[str]) -> int:
+        with self.changed:
+            if self.is_other_feed:
+                raise Refused(self.faults[-1])
+            first = self.feed.tell(lines)
+            for number, line in enumerate(lines, first):
+                self.pending[number] = (line, time.monotonic())
+        self.show()
+        return first
+
+    def window(self, begin: int, end: int, budget: int, held: list[int]) -> dict[str, Any]:
+        """What a plan of a stretch of time would change; nothing of it is entered."""
+        with self.changed:
+            asking, entries = self.asking, self.day.entries[:]
+        if asking is None:
+            raise Refused('no server has begun a journal here')
+        plan = asking.window(entries, begin, end, budget, held)
+        return self.effect_of(plan, entries)
+
+    def rules(self) -> str:
+        with self.changed:
+            asking, entries = self.asking, self.day.entries[:]
+        if asking is None:
+            raise Refused('no server has begun a journal here')
+        return asking.rules(entries)

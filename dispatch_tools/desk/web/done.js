@@ -1,0 +1,211 @@
+// What is done: lines that are written, a plan that is compared and adopted, and what is only tried.
+import { button, element, get, made, oneAtATime, post, replace, rights, say, secondsOf, table, timeOf, withNumber } from './parts.js';
+
+let day = null, screenNow = null, train = null, plannedOf = null;
+const answered = new Map(), held = new Map();
+
+export function begin(given, screen) {
+  day = given;
+  screenNow = screen;
+  element('tell').addEventListener('submit', tellOfTrain);
+  element('ask').addEventListener('submit', event => {
+    event.preventDefault();
+    tell('plan', [Number(element('nodes').value)]);
+  });
+  element('window').addEventListener('submit', tryWindow);
+  element('rules').addEventListener('submit', tryRules);
+  element('event').addEventListener('change', showEvent);
+  showRights();
+}
+
+export function showRights() {
+  element('ask').hidden = !rights.mayTell;
+  element('whatif').hidden = !(rights.mayTell && day.program);
+  element('tell').hidden = !(rights.mayTell && train);
+  if (screenNow()) showTold(screenNow());
+  plannedOf = null;
+  if (screenNow()) showPlan(screenNow());
+}
+
+async function asked(does) {
+  try {
+    return await does();
+  } catch (refused) {
+    say(`Not taken: ${refused.message}.`);
+    return null;
+  }
+}
+
+const tell = (kind, numbers) => asked(() => post('/tell', { kind, numbers }));
+
+// ---- A train
+
+export function trainShown(shown, mayTell) {
+  const isSame = train && train.number === shown.number, event = element('event').value;
+  train = shown;
+  element('tell').hidden = !mayTell;
+  element('event').replaceChildren(...train.events.map(([id, at, kind, scheduled, now, , passed]) =>
+    new Option(`${kind === 'departure' ? 'leaves' : 'reaches'} ${at} ${scheduled}${now === scheduled ? '' : `, now ${now}`}${passed ? ' (passed)' : ''}`, id)));
+  const ahead = train.events.find(row => !row[6]) || train.events[0];
+  element('event').value = isSame && event ? event : ahead[0];
+  const leg = element('leg').value;
+  element('leg').replaceChildren(...train.legs.map(([id, words, longer]) => new Option(longer ? `${words} (${longer} s longer)` : words, id)));
+  if (isSame && leg) element('leg').value = leg;
+  if (!isSame) showEvent();
+  showChoices(mayTell);
+}
+
+function showEvent() {
+  const event = train.events.find(row => String(row[0]) === element('event').value);
+  if (event) element('at').value = timeOf(event[9]);
+}
+
+function tellOfTrain(event) {
+  event.preventDefault();
+  const at = Number(element('event').value), seconds = id => Math.round(Number(element(id).value) * 60);
+  const does = {
+    delay: () => tell('delay event', [at, seconds('minutes')]), ontime: () => tell('delay event', [at, 0]), recall: () => tell('recall', [at]),
+    slow: () => tell('delay activity', [Number(element('leg').value), seconds('longer')]),
+    pass: () => {
+      const time = secondsOf(element('at').value);
+      return time === null ? say('A time is written as 8:05 or 8:05:30.') : tell('pass', [at, time]);
+    },
+  };
+  does[event.submitter?.name || 'delay']();
+}
+
+function choice(words, number, buttons) {
+  const row = made('div', '', 'choice');
+  row.append(withNumber(words, number), ...buttons);
+  return row;
+}
+
+function keyed(one, key) {
+  one.dataset.key = key;
+  return one;
+}
+
+function showChoices(mayTell) {
+  const rows = [];
+  const may = (...buttons) => mayTell ? buttons : [];
+  const hold = (activity, words) => day.program ? [keyed(button('Hold', () => holdOne(activity, words), `Hold in what-if: ${words}`), `hold ${activity}`)] : [];
+  if (train.changes.length) rows.push(made('h3', 'Changes'));
+  for (const [id, words, kept, over, wait] of train.changes) {
+    const state = over ? (kept ? 'over' : 'over, was dropped') : kept ? (wait ? `kept, waits ${wait}` : 'kept') : 'dropped';
+    const turn = button(kept ? 'Drop' : 'Keep', () => tell(kept ? 'drop' : 'keep', [id]), `${kept ? 'Drop' : 'Keep'} the change ${words}`);
+    rows.push(choice(`${words}: ${state}`, `change ${id}`, over ? [] : may(keyed(turn, `change ${id}`), ...hold(id, words))));
+  }
+  if (train.pairs.length) rows.push(made('h3', 'Who goes first'));
+  for (const [first, other, words, turned, headway] of train.pairs) {
+    const turn = keyed(button('Turn', () => tell('first', [other, first]), `Turn: ${turned}`), `pair ${Math.min(first, other)} ${Math.max(first, other)}`);
+    rows.push(choice(words, `${first} ${other}`, may(turn, ...hold(headway, words))));
+  }
+  replace(element('choices'), ...rows);
+}
+
+// ---- Lines that were written here
+
+async function undo(line) {
+  const answer = await asked(() => post('/undo', { line }));
+  const { left } = answer ? await answer.json() : { left: [] };
+  if (left.length) say(`Taken back, but not this, which stays as it is: ${left.join('; ')}.`);
+}
+
+export function showTold(screen) {
+  const rows = screen.told.map(([line, words, raw, answer, good, back]) => {
+    const cells = [String(line), withNumber(words, raw), answer || 'waits for the server'];
+    if (rights.mayTell) cells.push(back ? keyed(button('Undo', () => undo(line), `Undo: ${words}`), `undo ${line}`) : '');
+    return [cells, good === null ? 'waits' : good ? 'good' : 'no'];
+  });
+  const heads = ['Line', 'Says', 'Answered', ...(rights.mayTell ? [''] : [])];
+  const none = day.tells ? 'Nothing was reported here yet.' : 'This desk only shows: it was started without a token.';
+  replace(element('told').querySelector('.scroll'), rows.length ? table('', heads, rows) : made('p', none));
+  for (const [line, words, , answer] of screen.told) {
+    if (answered.get(line) === '' && answer) say(`${words}: ${answer}`);
+    answered.set(line, answer);
+  }
+}
+
+// ---- Plans
+
+function effectTables(effect) {
+  const head = made('p', `${effect.mark === 'optimal' ? 'Optimal' : 'Not proved optimal'}: ${effect.cost} instead of ${effect.now}; `
+    + `no choices cost less than ${effect.bound} (gap ${effect.gap}). Changes: ${effect.kept} kept, ${effect.dropped} dropped; `
+    + `orders turned: ${effect.turned}; trains at their last stop: ${effect.later} later, ${effect.earlier} earlier.`);
+  const choices = effect.choices.map(([kind, words, line]) => [[kind, withNumber(words, line)], '']);
+  const trains = effect.trains.map(([, name, at, before, after, moved]) => [[name, at, before, after, moved], '']);
+  const more = (all, shown) => all > shown ? ` (the first ${shown} of ${all})` : '';
+  const parts = [head];
+  if (choices.length) parts.push(inScroll('Choices', table(`Choices${more(effect.count, choices.length)}`, ['What', 'Which'], choices)));
+  if (trains.length) {
+    const heads = ['Train', 'Last stop', 'Late now', 'Then', 'Difference'];
+    parts.push(inScroll('Trains', table(`Trains${more(effect.later + effect.earlier, trains.length)}`, heads, trains)));
+  }
+  return parts;
+}
+
+function inScroll(label, inner) {
+  const one = made('div', '', 'scroll');
+  one.tabIndex = 0;
+  one.setAttribute('role', 'region');
+  one.setAttribute('aria-label', label);
+  one.append(inner);
+  return one;
+}
+
+const refreshPlan = oneAtATime(async () => {
+  const plan = screenNow().plan;
+  const found = plan && plan.ready ? await (await get('/plan')).json() : null;
+  const effect = found && found.line === plan.line ? found : null;
+  const state = made('p', plan.adopted ? `Adopted as entry ${plan.adopted}.` : plan.old
+    ? `The plan of entry ${plan.entry} is old: something was entered since. Ask again.` : `Plan of entry ${plan.entry}. Nothing was entered since.`);
+  const buttons = [];
+  if (rights.mayTell && !plan.adopted) {
+    const adopt = keyed(button('Adopt this plan', () => asked(() => post('/adopt', { plan: plan.line }))), 'adopt');
+    adopt.disabled = plan.old;
+    const enter = keyed(button('Enter its choices one by one', () => asked(() => post('/enter', { plan: plan.line }))), 'enter');
+    buttons.push(adopt, ' ', ...(plan.old ? [enter, ' '] : []), keyed(button('Ask again', () => tell('plan', [Number(element('nodes').value)])), 'again'));
+  }
+  replace(element('planned'), state, ...buttons, ...(effect ? effectTables(effect) : [made('p', 'What it would change is being worked out.')]));
+});
+
+export function showPlan(screen) {
+  const is = JSON.stringify([screen.plan, rights.mayTell]);
+  if (is === plannedOf) return;
+  plannedOf = is;
+  if (screen.plan) refreshPlan();
+  else replace(element('planned'), made('p', 'No plan was asked for here.'));
+}
+
+// ---- What if
+
+function holdOne(activity, words) {
+  held.set(activity, words);
+  showHeld();
+}
+
+function showHeld() {
+  replace(element('held'), ...[...held].map(([activity, words]) => {
+    const row = made('li');
+    row.append(withNumber(words, activity), ' ', button('Let go', () => { held.delete(activity); showHeld(); }, `Let go: ${words}`));
+    return row;
+  }));
+}
+
+async function tryWindow(event) {
+  event.preventDefault();
+  const from = secondsOf(element('begin').value), to = secondsOf(element('end').value);
+  if (from === null || to === null) return say('A time is written as 8:05.');
+  replace(element('windowed'), made('p', 'Planning.'));
+  const answer = await asked(() => post('/window', { from, to, budget: Number(element('budget').value), held: [...held.keys()] }));
+  replace(element('windowed'), ...(answer ? effectTables(await answer.json()) : []));
+}
+
+async function tryRules(event) {
+  event.preventDefault();
+  replace(element('ruled'), made('p', 'Comparing.'));
+  const answer = await asked(() => post('/rules', {}));
+  if (!answer) return replace(element('ruled'));
+  const drawn = new DOMParser().parseFromString(await answer.text(), 'image/svg+xml').documentElement;
+  replace(element('ruled'), document.importNode(drawn, true));
+}

@@ -1,0 +1,1 @@
+"""Files, texts of runs, journals, GTFS and protobuf, read and written."""

@@ -1,0 +1,267 @@
+"""The disposition timetable as GTFS-Realtime."""
+from __future__ import annotations
+
+import argparse
+import os
+import sys
+import threading
+import time
+from typing import Iterator, NamedTuple, Optional
+
+from dispatch_tools.days.find import all_changes, Found
+from dispatch_tools.days.to_gtfs import never_falling
+from dispatch_tools.formats.files import BadFile, in_one_line, write_all
+from dispatch_tools.formats.giv import read_network
+from dispatch_tools.formats.gtfs_rows import seconds_of
+from dispatch_tools.formats.journal import journal_of, text_of
+from dispatch_tools.formats.names import EventName
+from dispatch_tools.formats.protobuf import encode, Message
+from dispatch_tools.formats.realtime import descriptor, Named, NO_DATA, read_named, SCHEDULED
+from dispatch_tools.formats.runtext import Bad, read_run, Run
+from dispatch_tools.live.http_server import BoundedHandler, BoundedServer
+
+VERSION, FULL_DATASET = '2.0', 0
+UNKNOWN_CAUSE, OTHER_EFFECT = 1, 7
+
+# How many seconds a source is left alone that is handed out.
+USUAL = 10
+
+# When a file was written last, and its length.
+State = tuple[int, int]
+
+
+def read_text(name: str, events: int) -> Run:
+    """The run of a text; BadFile if it is no whole one."""
+    try:
+        with open(name, 'rb') as file:
+            return run_in(name, file.read(), events)
+    except OSError as error:
+        raise BadFile(name, None, error.strerror or 'cannot be read') from error
+
+
+def run_in(name: str, data: bytes, events: int) -> Run:
+    """The run that bytes of this name have."""
+    try:
+        return read_run(data, events)
+    except Bad as error:
+        line, kind = error.args
+        raise BadFile(name, line, f'this is no text of a run over the network ({kind})') from error
+
+
+def events_told(net: str, run: Run) -> set[int]:
+    """The events of which a delay or a pass was reported; of an activity its head. Only for that the network is read."""
+    told = {entry.message[1] for entry in run.journal if entry.message[0] in ('delay event', 'pass')}
+    delayed = {entry.message[1] for entry in run.journal if entry.message[0] == 'delay activity'}
+    if delayed:
+        told.update(activity.head for activity in read_network(net).activities if activity.id in delayed)
+    return told
+
+
+def dropped(run: Run) -> set[int]:
+    """The changes that are dropped after all entries."""
+    found: set[int] = set()
+    for entry in run.journal:
+        for decision in entry.message[1] if entry.message[0] == 'adopt' else [entry.message]:
+            if decision[0] == 'drop':
+                found.add(decision[1])
+            elif decision[0] == 'keep':
+                found.discard(decision[1])
+    return found
+
+
+def passed(run: Run) -> set[int]:
+    """The events that have passed after all entries."""
+    found: set[int] = set()
+    for entry in run.journal:
+        if entry.message[0] == 'pass':
+            found.add(entry.message[1])
+        elif entry.message[0] == 'recall':
+            found.discard(entry.message[1])
+    return found
+
+
+class Call(NamedTuple):
+    """A call of a train: its place in the trip, its stop, and which of the train's events it has, by their kinds."""
+    sequence: int
+    stop: str
+    events: list[tuple[str, int]]
+
+
+class Train(NamedTuple):
+    """What does not change of a train: its events, their scheduled times, its calls, and its descriptor."""
+    events: list[int]
+    scheduled: list[int]
+    calls: list[Call]
+    trip: Message
+
+
+class Body(NamedTuple):
+    """What a message says of a train, but for its own time: for which times, whether they are known, and in bytes."""
+    times: list[int]
+    is_known: bool
+    data: bytes
+
+
+def calls_of(names: list[EventName]) -> list[Call]:
+    """The calls of a train, in their order."""
+    calls: dict[int, Call] = {}
+    for place, name in enumerate(names):
+        calls.setdefault(name.sequence, Call(name.sequence, name.stop, [])).events.append((name.kind, place))
+    return [calls[sequence] for sequence in sorted(calls)]
+
+
+def trains_of(net: str, named: Named) -> dict[int, Train]:
+    """The trains of a network, by number; BadFile if an event has no time."""
+    trains = {}
+    for number, train in named.trains.items():
+        names = named.events[number]
+        scheduled = [at for name in names if (at := seconds_of(name.time)) is not None]
+        if len(scheduled) < len(names):
+            raise BadFile(os.path.join(net, 'Events.csv'), None, f'an event of {train.trip} has no time')
+        trains[number] = Train([name.event for name in names], scheduled, calls_of(names), descriptor(train, named.day))
+    return trains
+
+
+def call_message(call: Call, train: Train, times: list[int], begin: int, is_known: bool) -> Message:
+    """The StopTimeUpdate of a call; without delays where a frequency made the train, for it may have no times to be late against."""
+    message: Message = {
+        'stop_sequence': call.sequence, 'stop_id': call.stop, 'schedule_relationship': SCHEDULED if is_known else NO_DATA,
+    }
+    for kind, place in call.events if is_known else ():
+        delay = {} if 'start_time' in train.trip else {'delay': times[place] - train.scheduled[place]}
+        message[kind] = {**delay, 'time': begin + times[place]}
+    return message
+
+
+def in_english(text: str) -> Message:
+    return {'translation': [{'text': text, 'language': 'en'}]}
+
+
+def alert(found: Found, named: Named, leaves: int) -> Message:
+    """The alert for passengers of a change that is dropped, until the train has left."""
+    trips = [
+        {'trip': descriptor(train, named.day), 'stop_id': stop}
+        for train, stop in ((found.train, found.change.stop), (found.next_train, found.change.next_stop))
+    ]
+    head = f'{found.train.name}: no connection to {found.next_train.name} at {found.station}'
+    text = f'{found.next_train.name} does not wait at {found.station} for {found.train.name}.'
+    return {
+        'active_period': [{'end': named.begin + leaves}], 'informed_entity': trips, 'cause': UNKNOWN_CAUSE, 'effect': OTHER_EFFECT,
+        'header_text': in_english(head), 'description_text': in_english(text),
+    }
+
+
+class Writer:
+    """Writes messages over a network, whose names are read once. What is new of a train is put into bytes anew."""
+
+    def __init__(self, read: argparse.Namespace) -> None:
+        self.read = read
+        self.named = read_named(read.net, read.zone)
+        self.trains = trains_of(read.net, self.named)
+        self.events = {event for train in self.trains.values() for event in train.events}
+        self.bodies: dict[int, Body] = {}
+        self.fault = ''
+
+    def run(self) -> Run:
+        """The run of the source: a text, or what the program prints of a store."""
+        source = self.read.source
+        if not os.path.isdir(source):
+            run = read_text(source, len(self.events))
+        else:
+            delays = [('event', self.read.event_delays), ('activity', self.read.activity_delays)]
+            options = [f'--{kind}-delays={name}' for kind, name in delays if name]
+            run = run_in(source, text_of(self.read.dispatcher, self.read.net, source, options), len(self.events))
+        if not self.events <= run.times.keys():
+            missing = min(self.events - run.times.keys())
+            raise BadFile(os.path.join(self.read.net, 'Events.csv'), None, f'event {missing} is not of the text')
+        return run
+
+    def body(self, number: int, train: Train, told: set[int], run: Run) -> bytes:
+        """What the message says of a train, if so much was reported of events."""
+        shown = [run.times[event] for event in train.events]
+        is_known = shown != train.scheduled or not told.isdisjoint(train.events)
+        times = never_falling(shown)
+        before = self.bodies.get(number)
+        if before is not None and (before.times, before.is_known) == (times, is_known):
+            return before.data
+        calls = [call_message(call, train, times, self.named.begin, is_known) for call in train.calls]
+        data = encode({'trip': train.trip, 'stop_time_update': calls}, 'TripUpdate')
+        self.bodies[number] = Body(times, is_known, data)
+        return data
+
+    def updates(self, told: set[int], run: Run, now: int) -> Iterator[Message]:
+        """A TripUpdate of each train."""
+        stamp = encode({'timestamp': now}, 'TripUpdate')
+        for number, train in self.trains.items():
+            yield {'id': f'trip-{number}', 'trip_update': self.body(number, train, told, run) + stamp}
+
+    def alerts(self, run: Run) -> Iterator[Message]:
+        """An Alert of each change that is dropped and whose train has not left."""
+        gone, missed = passed(run), dropped(run)
+        for found in all_changes(self.read.net) if missed else ():
+            if found.change.change in missed and found.departure.event not in gone:
+                yield {'id': f'change-{found.change.change}', 'alert': alert(found, self.named, run.times[found.departure.event])}
+
+    def message(self) -> Message:
+        run, now = self.run(), self.read.now
+        if now is None:
+            clocks = [entry.message[1] for entry in run.journal if entry.message[0] == 'now']
+            now = self.named.begin + clocks[-1] if clocks else int(time.time())
+        header = {'gtfs_realtime_version': VERSION, 'incrementality': FULL_DATASET, 'timestamp': now}
+        entities = [*self.updates(events_told(self.read.net, run), run, now), *self.alerts(run)]
+        return {'header': header, 'entity': entities}
+
+    def write(self) -> None:
+        data = encode(self.message())
+        write_all(os.path.dirname(self.read.out) or '.', {os.path.basename(self.read.out): data})
+
+    def write_again(self, seen: Optional[State]) -> Optional[State]:
+        """Writes the message anew where the source is another one than was seen; what is seen now, which is the old state where the
+        message could not be written. A fault is said once."""
+        now = state_of(self.read.source)
+        if now == seen:
+            return seen
+        try:
+            self.write()
+        except (BadFile, KeyError, OSError) as error:
+            fault = in_one_line(str(error), 1000)
+            if fault != self.fault:
+                print(f'gtfs_rt_out: {fault}', file=sys.stderr, flush=True)
+            self.fault = fault
+            return seen
+        self.fault = ''
+        return now
+
+
+# ---- Again and again
+
+
+class Handing(BoundedHandler):
+    """Hands out one file, whatever is asked for."""
+    out = ''
+
+    def do_GET(self) -> None:
+        try:
+            with open(self.out, 'rb') as file:
+                data = file.read()
+        except OSError:
+            self.send_error(404)
+            return
+        self.send(data, 'application/x-protobuf')
+
+
+def serving(out: str, port: int) -> BoundedServer:
+    """A server of a file on this computer, from now on."""
+    server = BoundedServer(('127.0.0.1', port), type('HandingOut', (Handing,), {'out': out}))
+    threading.Thread(target=server.serve_forever, daemon=True).start()
+    print(f'gtfs_rt_out: http://127.0.0.1:{server.server_port}/ hands out {out}', file=sys.stderr, flush=True)
+    return server
+
+
+def state_of(source: str) -> Optional[State]:
+    """By what one state of a text, or of a store's journal, differs from another."""
+    try:
+        found = os.stat(journal_of(source) if os.path.isdir(source) else source)
+    except OSError:
+        return None
+    return found.st_mtime_ns, found.st_size

@@ -1,0 +1,1 @@
+"""What a railway is: networks, rows, times, costs, decisions and their programme."""

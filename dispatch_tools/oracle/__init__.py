@@ -1,0 +1,1 @@
+"""A second reading of the rules, and what is compared with it."""
