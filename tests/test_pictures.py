@@ -1,0 +1,216 @@
+"""Diagrams and pages of runs: trains and lines that are found, the states of changes, and what stands in the pictures."""
+from __future__ import annotations
+
+import base64
+import hashlib
+import os
+import shutil
+import subprocess
+import tempfile
+import unittest
+import xml.etree.ElementTree as xml
+from typing import Any, Iterable, Sequence
+
+from dispatch_tools.dev.hostile_names import HOSTILE
+from dispatch_tools.formats.files import BadFile
+from dispatch_tools.formats.giv import read_network
+from dispatch_tools.formats.markup import in_script
+from dispatch_tools.here import words_of
+from dispatch_tools.model.network import Activity, Event, Network
+from dispatch_tools.pictures.diagram import drawing, frame_of
+from dispatch_tools.pictures.scene import (
+    cost_parts, distances, lines_of, links_of, path_of, read_scene, Scene, trains_of, turned_pairs,
+)
+from dispatch_tools.pictures.view import page, tree_part, upper_part
+from tests.samples import lines_of_run, network, text, TOP
+
+
+def scene(folder: str, name: str) -> Scene:
+    return read_scene(network(folder), text(name))
+
+
+def classes(svg: str) -> list[str]:
+    """The classes of the elements of a drawing, legend left out."""
+    root = xml.fromstring(svg)
+    return [name for element in root for part in element.iter() for name in part.get('class', '').split()]
+
+
+def line_of_trains(paths: Iterable[Sequence[int]]) -> Network:
+    """A network in which each path of stops is a train, its stops 100 seconds apart."""
+    events: list[Event] = []
+    activities: list[Activity] = []
+    begin = 0
+    for path in paths:
+        first = len(events) + 1
+        for place, stop in enumerate(path):
+            events.append(Event(first + place, 'departure' if place == 0 else 'arrival', begin + 100 * place, 0, stop))
+        for place in range(len(path) - 1):
+            activities.append(Activity(len(activities) + 1, 'drive', first + place, first + place + 1, 90, 0))
+        begin += 1000
+    return Network(events, activities)
+
+
+class TrainsAndLines(unittest.TestCase):
+    def test_trains_of_the_connection(self) -> None:
+        found = scene('connection', 'empty_feed')
+        self.assertEqual(found.trains, [[0, 1, 2, 3], [4, 5]])
+        self.assertEqual([path_of(found.network, train) for train in found.trains], [(1, 2, 3), (2, 4)])
+
+    def test_busiest_line_first(self) -> None:
+        net = line_of_trains([(1, 2, 3), (3, 2, 1), (2, 9, 8, 7, 6), (1, 2, 3)])
+        self.assertEqual([sorted(line) for line in lines_of(net, trains_of(net), 12)], [[1, 2, 3], [2, 6, 7, 8, 9]])
+
+    def test_few_stops_are_one_line(self) -> None:
+        net = line_of_trains([(1, 2, 3), (2, 9)])
+        self.assertEqual(lines_of(net, trains_of(net), 12), [[1, 2, 3, 9]])
+
+    def test_stops_lie_as_far_apart_as_trains_drive(self) -> None:
+        net = line_of_trains([(1, 2, 3)])
+        self.assertEqual(distances(net, trains_of(net), [1, 2, 3]), [0.0, 0.5, 1.0])
+
+    def test_network_without_events(self) -> None:
+        net = Network([], [])
+        self.assertEqual((trains_of(net), lines_of(net, [], 12)), ([], []))
+
+
+class StatesOfChanges(unittest.TestCase):
+    def test_kept(self) -> None:
+        self.assertEqual([link.state for link in links_of(scene('connection', 'late_first_train'))], ['kept'])
+
+    def test_dropped_and_turned(self) -> None:
+        found = scene('connection', 'plan_that_is_adopted')
+        self.assertEqual([link.state for link in links_of(found)], ['dropped'])
+        self.assertEqual(turned_pairs(found), [(2, 4)])
+
+    def test_missed(self) -> None:
+        found = scene('connection', 'passed_time_that_misses_a_change')
+        self.assertEqual([link.state for link in links_of(found)], ['missed'])
+        self.assertEqual(cost_parts(found), (30000, 0, 40000))
+
+    def test_parts_add_up_to_the_cost(self) -> None:
+        for name in ('late_first_train', 'plan_that_is_adopted', 'passed_time_that_misses_a_change'):
+            found = scene('connection', name)
+            self.assertEqual(sum(cost_parts(found)), found.run.cost)
+
+
+class Drawings(unittest.TestCase):
+    def draw(self, name: str, line: Iterable[int] = (1, 2, 3), **limits: int) -> str:
+        return ''.join(drawing(scene('connection', name), list(line), **limits))
+
+    def test_marks_of_an_adopted_plan(self) -> None:
+        found = classes(self.draw('plan_that_is_adopted'))
+        self.assertEqual([found.count(kind) for kind in ('train', 'link', 'turned')], [1, 1, 2])
+
+    def test_marks_of_a_passed_event(self) -> None:
+        self.assertEqual(classes(self.draw('passed_time_that_misses_a_change')).count('passed'), 2)
+
+    def test_lateness_moves_a_path_to_the_right(self) -> None:
+        found = scene('connection', 'late_first_train')
+        frame, _ = frame_of(found, [1, 2, 3], None, None)
+        self.assertLess(frame.x(found.scheduled(0)), frame.x(found.times[0]))
+
+    def test_nothing_outside_the_times_asked_for(self) -> None:
+        found = classes(self.draw('late_first_train', begin=0, end=60))
+        self.assertNotIn('train', found)
+
+    def test_names_are_text_and_not_markup(self) -> None:
+        found = scene('connection', 'late_first_train')._replace(names={1: '<b>&'})
+        self.assertIn('&lt;b&gt;&amp;', ''.join(drawing(found, [1, 2, 3])))
+
+    def test_every_name_leaves_a_drawing_xml(self) -> None:
+        found = scene('connection', 'late_first_train')
+        for name in HOSTILE:
+            svg = ''.join(drawing(found._replace(names={1: name}, labels={1: name}), [1, 2, 3]))
+            self.assertEqual(classes(svg).count('train'), 1, name)
+
+
+class Pages(unittest.TestCase):
+    def test_page_loads_nothing(self) -> None:
+        found = page(scene('connection', 'plan_that_is_adopted'))
+        self.assertNotIn('src=', found)
+        self.assertNotIn('http', found.replace('http://www.w3.org/2000/svg', '').replace('http-equiv', ''))
+
+    def test_page_lets_in_its_own_script_alone(self) -> None:
+        found = page(scene('connection', 'plan_that_is_adopted')._replace(names={1: '</script><script>1</script>'}))
+        with open(os.path.join(TOP, 'dispatch_tools', 'pictures', 'view.js'), 'rb') as file:
+            digest = base64.b64encode(hashlib.sha256(file.read()).digest()).decode()
+        self.assertIn(f"default-src 'none'; base-uri 'none'; form-action 'none'; script-src 'sha256-{digest}'; style-src 'sha256-", found)
+        self.assertEqual((found.count('<script'), found.count('</script')), (2, 2))
+
+    def test_data_have_no_markup(self) -> None:
+        self.assertEqual(in_script('<!--</script>&\u2028\u2029'), '"\\u003c!--\\u003c/script\\u003e\\u0026\\u2028\\u2029"')
+
+    def test_tree_of_two_levels(self) -> None:
+        nodes = [('inner', ('change', 5)), ('inner', ('pair', 3, 5)), ('bound', 1), ('cycle',), ('open', 2)]
+        tree = xml.fromstring(tree_part(nodes))
+        self.assertEqual([mark.text for mark in tree.iter('b')], ['keep 5', 'first 3 5', 'first 5 3', 'drop 5'])
+        self.assertEqual([leaf.text for leaf in tree.iter('span')], ['bound 1', 'cycle', 'open 2'])
+
+    def test_upper_part_of_a_tree(self) -> None:
+        nodes = [('inner', ('change', 5)), ('inner', ('pair', 3, 5)), ('bound', 1), ('cycle',), ('open', 2)]
+        self.assertEqual(upper_part(nodes, 5), nodes)
+        self.assertEqual(upper_part(nodes, 4), [nodes[0], ('cut', ('pair', 3, 5), 2), ('open', 2)])
+        self.assertEqual(upper_part(nodes, 2), [('cut', ('change', 5), 4)])
+        self.assertIn('branches on pair 3 5, 2 nodes below', tree_part(upper_part(nodes, 4)))
+
+    def test_cost_and_replies_stand_there(self) -> None:
+        found = page(scene('connection', 'plan_that_is_adopted'))
+        self.assertIn('940,000', found)
+        self.assertIn('<td>delay event 1 60</td><td>1 ok</td>', found)
+
+    def test_times_however_late_have_few_lines(self) -> None:
+        net = read_network(network('connection'))
+        with tempfile.TemporaryDirectory() as folder:
+            name = os.path.join(folder, 'text')
+
+            def late(latest: int, *messages: tuple[Any, ...]) -> Scene:
+                with open(name, 'w', encoding='ascii') as file:
+                    file.writelines(f'{line}\n' for line in lines_of_run(net, messages, [latest] * len(net.events)))
+                return read_scene(network('connection'), name)
+            with self.assertRaisesRegex(BadFile, f': one of its times is {10 ** 38}, and no time of a run is above {10 ** 12}'):
+                late(10 ** 38)
+            for one in late(10 ** 12), late(2 * 10 ** 9, ('now', 2 * 10 ** 9)):
+                self.assertLess(page(one).count('<line'), 2_500)
+
+
+class Commands(unittest.TestCase):
+    def run_tool(self, name: str, *words: str, **said: Any) -> Any:
+        environment = {**os.environ, **said}
+        return subprocess.run([*words_of(name), *words], capture_output=True, encoding='utf-8', env=environment)
+
+    def test_what_is_written_is_utf_8_whatever_the_locale_says(self) -> None:
+        with tempfile.TemporaryDirectory() as net:
+            for name in os.listdir(network('connection')):
+                shutil.copy(os.path.join(network('connection'), name), net)
+            with open(os.path.join(net, 'Stops.csv'), 'w', encoding='utf-8-sig') as file:
+                file.write('1;Ørby – 東京\n2;Ü\n')
+            for tool in ('view', 'diagram'):
+                outs = [self.run_tool(tool, net, text('late_first_train'), PYTHONIOENCODING=name) for name in ('ascii', 'cp1252', 'utf-8')]
+                self.assertEqual([out.returncode for out in outs], [0, 0, 0], outs[0].stderr)
+                self.assertEqual(outs[0].stdout, outs[2].stdout)
+                self.assertEqual(outs[1].stdout, outs[2].stdout)
+                self.assertIn('Ørby – 東京', outs[0].stdout)
+
+    def test_bad_files_are_told_in_one_line(self) -> None:
+        with tempfile.TemporaryDirectory() as folder:
+            with open(os.path.join(folder, 'Events-expanded.giv'), 'w', encoding='utf-8') as file:
+                file.write('# events\n1; 1; "departure"; 100; 10; 1\n2; 2; "arrives"; 200; 10; 2\n')
+            for tool in ('diagram', 'view'):
+                done = self.run_tool(tool, folder, text('late_first_train'))
+                self.assertEqual((done.returncode, done.stdout), (2, ''))
+                self.assertEqual(done.stderr.count('\n'), 1)
+                self.assertIn('Events-expanded.giv, line 3', done.stderr)
+
+    def test_unknown_stop_of_a_line(self) -> None:
+        done = self.run_tool('diagram', network('connection'), text('late_first_train'), '--line', '1,77')
+        self.assertEqual((done.returncode, done.stdout), (2, ''))
+        self.assertIn('77', done.stderr)
+
+    def test_drawing_is_whole(self) -> None:
+        done = self.run_tool('diagram', network('connection'), text('late_first_train'))
+        self.assertEqual(done.returncode, 0)
+        xml.fromstring(done.stdout)
+
+
+if __name__ == '__main__':
+    unittest.main()

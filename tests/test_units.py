@@ -1,0 +1,123 @@
+"""The units for systemd are in its form, and a day's store is begun once, by a command of its own."""
+from __future__ import annotations
+
+import os
+import re
+import shutil
+import subprocess
+import tempfile
+import time
+import unittest
+from pathlib import Path
+from typing import Callable
+
+from tests.samples import TOP
+
+LIVE = Path(TOP, 'examples', 'live')
+
+# What is installed on a machine that runs the units, and not where this test runs.
+PROGRAM = '/usr/local/bin/dispatcher(-standby)?'
+
+
+class Units(unittest.TestCase):
+    @unittest.skipUnless(shutil.which('systemd-analyze'), 'systemd-analyze is not installed')
+    def test_systemd_finds_nothing_wrong(self) -> None:
+        with tempfile.TemporaryDirectory() as folder:
+            for unit in [*LIVE.glob('*.service'), *LIVE.glob('*.timer')]:
+                Path(folder, unit.name).write_text(re.sub(PROGRAM, '/bin/true', unit.read_text()))
+            for unit in Path(folder).iterdir():
+                name = unit.name.replace('@', '@2026-12-24')
+                done = subprocess.run(['systemd-analyze', 'verify', '--man=no', '--recursive-errors=no', f'./{name}'], cwd=folder,
+                                      capture_output=True, text=True, check=False)
+                self.assertEqual(done.stderr, '', name)
+
+    def test_server_is_not_started_again_where_people_have_to_look(self) -> None:
+        unit = (LIVE / 'dispatcher@.service').read_text()
+        self.assertIn('\nRestartPreventExitStatus=2 3 4 5\n', unit)
+        self.assertIn('\nAssertPathExists=/var/lib/dispatcher/%i/store/journal\n', unit)
+        self.assertNotIn('mkdir', unit)
+
+
+class Days(unittest.TestCase):
+    def setUp(self) -> None:
+        self.days = Path(tempfile.mkdtemp())
+        self.addCleanup(shutil.rmtree, self.days)
+        self.day = self.days / '2026-12-24'
+        (self.day / 'net').mkdir(parents=True)
+        for name in 'Events-expanded.giv', 'Activities-expanded.giv':
+            (self.day / 'net' / name).write_text('')
+
+    def begin(self) -> subprocess.CompletedProcess[str]:
+        return subprocess.run([LIVE / 'dispatcher-day', '2026-12-24'], env={**os.environ, 'DISPATCHER_DAYS': str(self.days)},
+                              capture_output=True, text=True, check=False)
+
+    def test_a_day_gets_a_store_and_its_feeds(self) -> None:
+        (self.day / 'south').write_text('now 5\n')
+        self.assertEqual(self.begin().returncode, 0)
+        self.assertEqual(sorted(os.listdir(self.day)), ['net', 'north', 'south', 'store'])
+        self.assertEqual([(self.day / 'store' / 'journal').read_text(), (self.day / 'north').read_text()], ['', ''])
+        self.assertEqual(sorted(os.listdir(self.day / 'store')), ['files', 'journal'])
+        self.assertEqual((self.day / 'south').read_text(), 'now 5\n')
+
+    def test_a_network_that_was_changed_is_found(self) -> None:
+        self.begin()
+        check = ['sha256sum', '--check', '--quiet', 'store/files']
+        self.assertEqual(subprocess.run(check, cwd=self.day, check=False).returncode, 0)
+        (self.day / 'net' / 'Events-expanded.giv').write_text('another day\n')
+        done = subprocess.run(check, cwd=self.day, capture_output=True, check=False)
+        self.assertEqual(done.returncode, 1)
+
+    def test_a_store_that_is_there_is_left_as_it_is(self) -> None:
+        (self.day / 'store').mkdir()
+        (self.day / 'store' / 'journal').write_text('+0\n~')
+        done = self.begin()
+        self.assertEqual((done.returncode, done.stderr), (1, 'dispatcher-day: 2026-12-24 has a store already\n'))
+        self.assertEqual((self.day / 'store' / 'journal').read_text(), '+0\n~')
+
+    def test_no_day_is_begun_without_its_network(self) -> None:
+        (self.day / 'net' / 'Events-expanded.giv').unlink()
+        self.assertNotEqual(self.begin().returncode, 0)
+        self.assertFalse((self.day / 'store').exists())
+
+
+@unittest.skipUnless(shutil.which('rsync'), 'rsync is not installed')
+class Standby(Days):
+    """What a standby copies; the tests of a day's begin hold there, too."""
+
+    def test_a_copy_is_made_and_kept_up(self) -> None:
+        self.assertEqual(self.begin().returncode, 0)
+        copies = self.days / 'copies'
+        copies.mkdir()
+        follower = subprocess.Popen([LIVE / 'dispatcher-standby', '2026-12-24', str(self.day), '0.05'],
+                                    env={**os.environ, 'DISPATCHER_DAYS': str(copies)}, stderr=subprocess.DEVNULL)
+        try:
+            for text in 'now 5\n', 'now 5\nnow 6\n':
+                (self.day / 'store' / 'journal').write_text(text)
+                (self.day / 'north').write_text(text)
+                self.assertTrue(self.comes_to_be(lambda: {
+                    (copies / '2026-12-24' / name).read_text() for name in ('north', 'store/journal')} == {text}))
+            self.assertEqual(sorted(os.listdir(copies / '2026-12-24')), ['net', 'north', 'south', 'store'])
+            # No journal is put in place before the feeds whose lines it answers.
+            (copies / '2026-12-24' / 'north').unlink()
+            (copies / '2026-12-24' / 'north' / 'in the way').mkdir(parents=True)
+            (self.day / 'store' / 'journal').write_text('now 7 and more\n')
+            time.sleep(0.5)
+            self.assertEqual((copies / '2026-12-24' / 'store' / 'journal').read_text(), 'now 5\nnow 6\n')
+        finally:
+            follower.kill()
+            follower.wait()
+
+    def comes_to_be(self, is_so: Callable[[], bool]) -> bool:
+        """Whether something comes to be so within ten seconds."""
+        for _ in range(200):
+            try:
+                if is_so():
+                    return True
+            except FileNotFoundError:
+                pass
+            time.sleep(0.05)
+        return False
+
+
+if __name__ == '__main__':
+    unittest.main()
