@@ -1,38 +1,4 @@
-#!/usr/bin/env python3
-"""Times updates on a generated day: python3 bench/updates.py DM_SPEED [COUNT]
+"""This command has moved: `python3 -m dispatch_tools updates` at the top of the repository, or `dispatch-tools updates`."""
+import sys
 
-DM_SPEED is the built program of dm_speed. Each row makes COUNT changes of a kind (1,000,000). It has the nanoseconds of processor
-time for each, less those of a day without changes. `pass` passes and recalls the last event of a day. `apart` does so with one
-event of a pair between whose events 20,000 others stand.
-"""
-from __future__ import annotations
-
-
-from here import command_line, whole_path
-from measured import measured
-
-REPEATS = 3
-
-KINDS = ['still', 'event', 'train', 'order', 'choice', 'pass', 'apart', 'decision']
-
-
-def timed(words: list[str]) -> float:
-    """The least processor seconds of a run."""
-    runs = [measured(words) for _ in range(REPEATS)]
-    if any(run.status != 0 for run in runs):
-        raise SystemExit(f'{words} ended with {runs[0].status}')
-    return min(run.seconds for run in runs)
-
-
-def main() -> None:
-    words = command_line(__doc__)
-    words.add_argument('program', metavar='DM_SPEED', type=whole_path, help='the built program of dm_speed')
-    words.add_argument('count', metavar='COUNT', nargs='?', type=int, default=1_000_000, help='changes of a kind (%(default)s)')
-    given = words.parse_args()
-    for kind in KINDS:
-        taken = timed([given.program, str(given.count), kind]) - timed([given.program, '0', kind])
-        print(f'{kind:10} {1e9 * taken / given.count:8.0f} ns')
-
-
-if __name__ == '__main__':
-    main()
+sys.exit("bench/updates.py has moved: python3 -m dispatch_tools updates, or dispatch-tools updates")

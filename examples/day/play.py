@@ -22,18 +22,19 @@ import time
 
 HERE = os.path.dirname(os.path.abspath(__file__))
 TOP = os.path.join(HERE, '..', '..')
-sys.path.insert(0, os.path.join(TOP, 'tools'))
+sys.path.insert(0, os.path.join(os.path.dirname(os.path.abspath(__file__)), '..', '..'))
 
-from decide import spoken  # noqa: E402
-from files import BadFile  # noqa: E402
-from giv import read_network  # noqa: E402
-from journal import Journal  # noqa: E402
-from network import Network  # noqa: E402
-from playing import Played  # noqa: E402
-from railway import Message, Rows, apply, sound_times  # noqa: E402
-from runtext import heard  # noqa: E402
-from serving import Server  # noqa: E402
-from words import add_program, command_line, whole_between  # noqa: E402
+from dispatch_tools.model.decide import spoken  # noqa: E402
+from dispatch_tools.formats.files import BadFile  # noqa: E402
+from dispatch_tools.formats.giv import read_network  # noqa: E402
+from dispatch_tools.formats.journal import Journal  # noqa: E402
+from dispatch_tools.model.network import Network  # noqa: E402
+from dispatch_tools.days.playing import Played  # noqa: E402
+from dispatch_tools.model.railway import Message, Rows, apply, sound_times  # noqa: E402
+from dispatch_tools.formats.runtext import heard  # noqa: E402
+from dispatch_tools.live.serving import Server  # noqa: E402
+from dispatch_tools.here import words_of  # noqa: E402
+from dispatch_tools.words import add_program, command_line, whole_between  # noqa: E402
 
 # The day begins at 6:00. A room reports at most one thing in APART seconds, and a delay is known AHEAD seconds before the train leaves.
 BEGIN, APART, AHEAD = 21_600, 120, 60
@@ -102,7 +103,7 @@ def play(program: str, folder: str, pace: int, port: int) -> None:
     before = signal.signal(signal.SIGINT, signal.SIG_IGN)
     server.start()
     page = subprocess.Popen([
-        sys.executable, os.path.join(TOP, 'tools', 'desk.py'), net, server.store, feeds[2], '--feed=3', '--feeds=north,south,desk',
+        *words_of('desk'), net, server.store, feeds[2], '--feed=3', '--feeds=north,south,desk',
         f'--port={port}', f'--token={token}', f'--program={program}',
     ])
     signal.signal(signal.SIGINT, before)

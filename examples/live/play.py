@@ -24,19 +24,19 @@ from typing import Iterator
 
 HERE = os.path.dirname(os.path.abspath(__file__))
 DAY = os.path.join(HERE, '..', 'day')
-sys.path.append(os.path.join(HERE, '..', '..', 'tools'))
+sys.path.insert(0, os.path.join(os.path.dirname(os.path.abspath(__file__)), '..', '..'))
 
-from delays import Told  # noqa: E402
-from files import BadFile  # noqa: E402
-from giv import read_network  # noqa: E402
-from journal import Journal  # noqa: E402
-from network import Network  # noqa: E402
-from playing import Played  # noqa: E402
-from railway import Message, Rows, sound_times  # noqa: E402
-from runtext import due_items, heard, read_run  # noqa: E402
-from scene import clock_time  # noqa: E402
-from serving import Server, read  # noqa: E402
-from words import add_program, command_line, whole_between  # noqa: E402
+from dispatch_tools.days.delays import Told  # noqa: E402
+from dispatch_tools.formats.files import BadFile  # noqa: E402
+from dispatch_tools.formats.giv import read_network  # noqa: E402
+from dispatch_tools.formats.journal import Journal  # noqa: E402
+from dispatch_tools.model.network import Network  # noqa: E402
+from dispatch_tools.days.playing import Played  # noqa: E402
+from dispatch_tools.model.railway import Message, Rows, sound_times  # noqa: E402
+from dispatch_tools.formats.runtext import due_items, heard, read_run  # noqa: E402
+from dispatch_tools.pictures.scene import clock_time  # noqa: E402
+from dispatch_tools.live.serving import Server, read  # noqa: E402
+from dispatch_tools.words import add_program, command_line, whole_between  # noqa: E402
 
 BEGIN, END, KILLED, STEP, BETWEEN_PLANS = 6 * 3600, 7 * 3600 + 2400, 7 * 3600, 60, 1200
 NORTH, SOUTH, PLANS = range(3)

@@ -28,15 +28,15 @@ import time
 from typing import Any, Iterable, NamedTuple
 
 HERE = os.path.dirname(os.path.abspath(__file__))
-TOOLS = os.path.join(HERE, '..', '..', 'tools')
-sys.path.insert(0, TOOLS)
+sys.path.insert(0, os.path.join(os.path.dirname(os.path.abspath(__file__)), '..', '..'))
 
-from giv import read_network  # noqa: E402
-from railway import Rows, sound_times  # noqa: E402
-from relay import read_boundary  # noqa: E402
-from runtext import read_run  # noqa: E402
-from scene import rows_of  # noqa: E402
-from words import command_line, whole_path  # noqa: E402
+from dispatch_tools.formats.giv import read_network  # noqa: E402
+from dispatch_tools.model.railway import Rows, sound_times  # noqa: E402
+from dispatch_tools.live.relay import read_boundary  # noqa: E402
+from dispatch_tools.formats.runtext import read_run  # noqa: E402
+from dispatch_tools.pictures.scene import rows_of  # noqa: E402
+from dispatch_tools.here import words_of  # noqa: E402
+from dispatch_tools.words import command_line, whole_path  # noqa: E402
 
 NET = os.path.join(HERE, '..', 'day', 'net')
 MIDDLES = [11 * line + 6 for line in range(8)]
@@ -59,20 +59,31 @@ class Broker:
 
     def __init__(self, folder: str, port: int) -> None:
         self.folder, self.port = folder, port
-        with open(os.path.join(HERE, 'mosquitto.conf'), encoding='ascii') as file:
-            config = file.read().replace('listener 18830 ', f'listener {port} ')
-        with open(os.path.join(HERE, 'access'), encoding='ascii') as file:
-            access = file.read()
         # Started by root it would become the user `mosquitto`, who may not read the folder.
-        self.write('mosquitto.conf', config + ('user root\n' if os.geteuid() == 0 else ''))
+        self.write('mosquitto.conf', self.config() + ('user root\n' if os.geteuid() == 0 else ''))
+        access = self.access()
         self.write('access', access)
         passwords = {user: secrets.token_urlsafe() for user in re.findall('^user (.+)$', access, re.MULTILINE)}
         self.write('passwords', ''.join(f'{user}:{password}\n' for user, password in passwords.items()))
         subprocess.run(['mosquitto_passwd', '-U', os.path.join(folder, 'passwords')], check=True)
         for user, password in passwords.items():
-            words = f'-h 127.0.0.1\n-p {port}\n-u {user}\n-P {password}\n'
+            words = f'{self.where()}\n-p {port}\n-u {user}\n-P {password}\n'
             for program in ('mosquitto_pub', 'mosquitto_sub'):
                 self.write(os.path.join(f'of-{user}', program), words)
+
+    def config(self) -> str:
+        """What the broker is told, as it ships, at its port."""
+        with open(os.path.join(HERE, 'mosquitto.conf'), encoding='ascii') as file:
+            return file.read().replace('listener 18830 ', f'listener {self.port} ')
+
+    def access(self) -> str:
+        """Who may write and read what, as it ships."""
+        with open(os.path.join(HERE, 'access'), encoding='ascii') as file:
+            return file.read()
+
+    def where(self) -> str:
+        """The words by which a client finds the broker."""
+        return '-h 127.0.0.1'
 
     def write(self, name: str, text: str) -> None:
         """Writes a file that its owner alone may read."""
@@ -187,19 +198,20 @@ class Region:
         for at in self.stops:
             board = os.path.join(self.folder, 'net', f'board-{at}.txt')
             open(board, 'ab').close()
-            self.play.pipe(['tail', '-n', '+1', '-f', board], [sys.executable, os.path.join(TOOLS, 'board.py')],
+            self.play.pipe(['tail', '-n', '+1', '-f', board], words_of('board'),
                            self.client('mosquitto_pub', f'board-{at}', '-l', '-r', '-t', f'board/{self.number}/{at}'))
         self.hear()
 
     def hear(self) -> None:
         """Starts what appends to the lines: the control room, and the relay of the neighbours' times."""
-        with open(self.lines, 'ab', buffering=0) as lines:
-            room = self.play.start(self.client('mosquitto_sub', 'feed', '-c', '-t', f'feed/{self.number}'), stdout=lines)
-        words = [sys.executable, os.path.join(TOOLS, 'relay.py'), *self.boundaries, '--region', str(self.number)]
+        room = self.client('mosquitto_sub', 'feed', '-c', '-F', '%x', '-t', f'feed/{self.number}')
+        words = [*words_of('relay'), *self.boundaries, '--region', str(self.number)]
         words += ['--topics', '--feed', self.lines]
         boards = [word for other in self.neighbours for word in ('-t', f'board/{other}/+')]
         with open(self.said, 'ab') as said:
-            self.hearing = [room, *self.play.pipe(self.client('mosquitto_sub', 'relay', '-c', '-F', '%t %p', *boards), words, said=said)]
+            appends = [*words_of('append'), self.lines, '--payloads']
+            self.hearing = self.play.pipe(room, appends, said=said)
+            self.hearing += self.play.pipe(self.client('mosquitto_sub', 'relay', '-c', '-F', '%t %x', *boards), words, said=said)
 
     def hear_no_more(self) -> None:
         stop(self.hearing)
@@ -296,7 +308,7 @@ def followed_otherwise(play: Play, program: str, region: Region) -> int:
 def played(play: Play, program: str, count: int) -> list[Region]:
     """The regions, once the day was reported and their feeds have ended."""
     middles = ','.join(map(str, MIDDLES))
-    subprocess.run([sys.executable, os.path.join(TOOLS, 'split.py'), NET, middles, play.folder, '--regions', str(count)], check=True)
+    subprocess.run([*words_of('split'), NET, middles, play.folder, '--regions', str(count)], check=True)
     boundaries = [os.path.join(play.folder, f'region-{number}', 'Boundary.csv') for number in range(1, count + 1)]
     regions = [Region(play, number, boundaries) for number in range(1, count + 1)]
     play.running.append(play.broker.start())

@@ -1,11 +1,15 @@
 #!/usr/bin/env python3
 """Plays a day that is planned anew every few minutes: python3 play.py DISPATCHER [--trains=2000] [--number=7] [--every=10] [--ahead=40] [FOLDER]
+               [--policy=MODULE:FUNCTION ..]
 
-DISPATCHER is the built program. The network and the 500 delays are those of bench/day.py. A delay is reported at the scheduled
+DISPATCHER is the built program. The network and the 500 delays are those of dispatch-tools day. A delay is reported at the scheduled
 time of its event. Every --every minutes the program plans a window of the next --ahead minutes. The choices of that plan are
 entered, and all others stay as they are. Then the cost of the day is printed beside that of no plan, of one plan of what was
 reported in the first two hours, and of one plan of all that was reported. The bound is that of the last one: no choices of that
 day cost less. `check` judges each text.
+
+Each --policy=MODULE:FUNCTION plays the day by a function of yours, too (dispatch_tools/days/policies.py), which is asked every --every minutes.
+MODULE is looked for in the folder where you are, too.
 
 With a FOLDER the files stay there: the network, the feed of the day (`text.feed`) and its text.
 """
@@ -16,18 +20,19 @@ import sys
 import tempfile
 
 TOP = os.path.join(os.path.dirname(os.path.abspath(__file__)), '..', '..')
-sys.path[:0] = [os.path.join(TOP, 'tools'), os.path.join(TOP, 'bench')]
+sys.path.insert(0, os.path.join(os.path.dirname(os.path.abspath(__file__)), '..', '..'))
 
-from day import write_day  # noqa: E402
-from delays import Told  # noqa: E402
-from playing import Played, Program, Replanning, replanned  # noqa: E402
-from files import BadFile  # noqa: E402
-from giv import read_network  # noqa: E402
-from network import Network  # noqa: E402
-from railway import Rows  # noqa: E402
-from runtext import heard, read_run  # noqa: E402
-from scene import clock_time  # noqa: E402
-from words import command_line, whole_between  # noqa: E402
+from dispatch_tools.days.generated import write_day  # noqa: E402
+from dispatch_tools.days.delays import Told  # noqa: E402
+from dispatch_tools.days.playing import Played, Program, Replanning, replanned  # noqa: E402
+from dispatch_tools.days.policies import play_by  # noqa: E402
+from dispatch_tools.formats.files import BadFile  # noqa: E402
+from dispatch_tools.formats.giv import read_network  # noqa: E402
+from dispatch_tools.model.network import Network  # noqa: E402
+from dispatch_tools.model.railway import Rows  # noqa: E402
+from dispatch_tools.formats.runtext import heard, read_run  # noqa: E402
+from dispatch_tools.pictures.scene import clock_time  # noqa: E402
+from dispatch_tools.words import command_line, whole_between  # noqa: E402
 
 BUDGET = 16_384
 MORNING = 7_200
@@ -50,7 +55,7 @@ def line_of(name: str, cost: int, bound: int) -> str:
     return f'{name}: cost {cost / 1e6:.2f}, {100 * (cost - bound) / bound:.1f} % above the bound of the day'
 
 
-def played(program: Program, network: Network, told: list[Told], how: Replanning) -> None:
+def played(program: Program, network: Network, told: list[Told], how: Replanning, policies: list[str]) -> None:
     times = [event.time for event in network.events]
     start, end = min(times), max(times)
     nothing = Played(network, Rows(network), ahead=told[:])
@@ -76,6 +81,10 @@ def played(program: Program, network: Network, told: list[Told], how: Replanning
     print(line_of('no plan', never, bound))
     print(line_of('one plan, of the first two hours', once, bound))
     print(line_of(f'a window of {how.ahead // 60} minutes each {how.every // 60} minutes', cost, bound))
+    for policy in policies:
+        own = Played(network, Rows(network), ahead=told[:])
+        play_by(policy, own, start, end, how.every)
+        print(line_of(policy, program.judged(own.lines, 'own'), bound))
     print(line_of('one plan, of all delays of the day', whole, bound))
     print(f'bound {bound / 1e6:.2f}')
 
@@ -88,6 +97,8 @@ def main() -> int:
     words.add_argument('--number', type=whole_between(0, 999_999_999), default=7, metavar='S', help='what the day is drawn from (7)')
     words.add_argument('--every', type=whole_between(1, 1440), default=10, metavar='MINUTES', help='how often a window is planned (10)')
     words.add_argument('--ahead', type=whole_between(1, 1440), default=40, metavar='MINUTES', help='how long a window is (40)')
+    own = 'plays the day by a policy of yours, too; may be given several times'
+    words.add_argument('--policy', action='append', default=[], metavar='MODULE:FUNCTION', help=own)
     given = words.parse_args()
     with tempfile.TemporaryDirectory() as other:
         folder = given.folder or other
@@ -98,7 +109,7 @@ def main() -> int:
         program = Program(os.path.abspath(given.dispatcher), net, 3600, folder)
         try:
             how = Replanning(60 * given.every, 60 * given.ahead)
-            played(program, network, told_of(network, os.path.join(folder, 'delays')), how)
+            played(program, network, told_of(network, os.path.join(folder, 'delays')), how, given.policy)
         except BadFile as fault:
             print(f'play.py: {fault}', file=sys.stderr)
             return 2
