@@ -94,8 +94,8 @@ def whole_boards(file: BufferedIOBase, skipped: Skipped, again: Optional[int] = 
 class Sender:
     """Sends lines by a command."""
 
-    def __init__(self, command: list[str]) -> None:
-        self.command, self.fault = command, ''
+    def __init__(self, command: list[str], script: str = 'board') -> None:
+        self.command, self.script, self.fault = command, script, ''
 
     def send(self, line: str) -> None:
         """Sends a line, and says what is wrong if that is not what was wrong before."""
@@ -108,7 +108,7 @@ class Sender:
         except subprocess.TimeoutExpired:
             fault = f'it has not ended in {TIMEOUT} seconds'
         if fault and fault != self.fault:
-            print(f'board: {in_one_line(self.command[0])}: {in_one_line(fault)}', file=sys.stderr, flush=True)
+            print(f'{self.script}: {in_one_line(self.command[0])}: {in_one_line(fault)}', file=sys.stderr, flush=True)
         self.fault = fault
 
 
