@@ -8,13 +8,13 @@ import socket
 import subprocess
 import sys
 import tempfile
-import time
 import unittest
-from typing import Any, Optional, Sequence
+from typing import Any, Sequence
 
 from dispatch_tools.commands.split import boundary_text
 from dispatch_tools.days.split import Cut
 from dispatch_tools.here import words_of
+from tests.patience import comes_to_be, PATIENCE
 from tests.samples import TOP
 
 sys.path.insert(0, os.path.join(TOP, 'examples', 'regions'))
@@ -100,10 +100,7 @@ class OverBroker(unittest.TestCase):
     def until(self, name: str, lines: Any) -> None:
         """Waits until these lines stand in a file."""
         due = ''.join(f'{line}\n' for line in lines)
-        end = time.monotonic() + 60
-        while self.read(name) != due:
-            self.assertLess(time.monotonic(), end, f'{self.read(name)!r} and not {due!r}')
-            time.sleep(0.02)
+        self.assertTrue(comes_to_be(lambda: self.read(name) == due), f'{self.read(name)!r} and not {due!r}')
 
 
 class Away(OverBroker):
@@ -129,12 +126,11 @@ class Away(OverBroker):
 
     def until_last(self, due: dict[int, int]) -> None:
         """Waits until these delays of events are the last of the feed."""
-        end = time.monotonic() + 60
-        last: Optional[dict[int, int]] = None
-        while last != due:
-            self.assertLess(time.monotonic(), end, last)
-            last = {int(line.split()[2]): int(line.split()[3]) for line in self.read('lines').splitlines()}
-            time.sleep(0.02)
+        self.assertTrue(comes_to_be(lambda: self.last_delays() == due), self.last_delays())
+
+    def last_delays(self) -> dict[int, int]:
+        """The last delay of each event in the feed."""
+        return {int(words[2]): int(words[3]) for words in map(str.split, self.read('lines').splitlines())}
 
     def test_feed_that_is_away_loses_nothing_even_where_the_broker_starts_again(self) -> None:
         feed = self.hear('region-1', 'feed/1', 'lines', 'feed-1')
@@ -176,7 +172,7 @@ class Certificates(OverBroker):
         for user, line, is_known in ('nobody', '1; 900', False), ('region-2', '1; 901', True), ('region-1', '1; 950', True):
             # Not by `mosquitto_pub -l`, which waits for ever where TLS fails.
             words = self.broker.client(user, 'mosquitto_pub', '-q', '1', '-t', 'board/1/6', '-m', line)
-            self.assertEqual(subprocess.run(words, capture_output=True, timeout=60).returncode == 0, is_known, user)
+            self.assertEqual(subprocess.run(words, capture_output=True, timeout=PATIENCE).returncode == 0, is_known, user)
         self.until('heard', ['1; 950'])
         self.assertEqual([name for name in os.listdir(self.folder) if name.endswith('.key') and os.stat(self.name(name)).st_mode & 0o77], [])
 

@@ -21,6 +21,7 @@ from dispatch_tools.live.feed_file import append, ending
 from dispatch_tools.live.relay import FeedFile
 from dispatch_tools.live.serving import Server
 from tests.folders import InFolder
+from tests.patience import PATIENCE
 from tests.samples import TOP
 
 WHOLE = [
@@ -179,9 +180,10 @@ feed_file.append(sys.argv[2], ['delay event 12 600', 'drop 5'])
 MANY = '''
 import sys
 sys.path.insert(0, sys.argv[1])
-from dispatch_tools.live.feed_file import append
+from dispatch_tools.live import feed_file
+feed_file.PATIENCE = float(sys.argv[4])
 for count in range(100):
-    append(sys.argv[2], [f'pass {sys.argv[3]} {count}', f'delay event {sys.argv[3]} {count}'])
+    feed_file.append(sys.argv[2], [f'pass {sys.argv[3]} {count}', f'delay event {sys.argv[3]} {count}'])
 '''
 
 
@@ -196,7 +198,7 @@ class Others(InFeed):
             self.assertEqual(said_in(self.feed), [('cost',), *whole, *([None] if size != 19 else []), ('keep', 6)])
 
     def test_writers_take_turns(self) -> None:
-        writers = [subprocess.Popen([sys.executable, '-c', MANY, TOP, self.feed, str(number)]) for number in range(3)]
+        writers = [subprocess.Popen([sys.executable, '-c', MANY, TOP, self.feed, str(number), str(PATIENCE)]) for number in range(3)]
         self.assertEqual([writer.wait() for writer in writers], [0, 0, 0])
         said = said_in(self.feed)
         for first, second in zip(said[::2], said[1::2]):

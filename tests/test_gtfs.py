@@ -19,6 +19,7 @@ from dispatch_tools.model.railway import cost_of, Rows, sound_times
 from dispatch_tools.pictures.diagram import drawing
 from dispatch_tools.pictures.scene import read_scene
 from tests.folders import InFolder, read
+from tests.patience import PATIENCE
 from tests.samples import CASES, lines_of_run, network, text, TOP
 
 NET_FILES = ['Activities-expanded.giv', 'Events-expanded.giv', 'Events.csv', 'Stops.csv', 'Trains.csv']
@@ -254,12 +255,12 @@ class Activities(InNetwork):
 
 
 class LargeFeeds(InNetwork):
-    def test_two_thousand_trips_take_less_than_ten_seconds_and_meet_their_own_bounds(self) -> None:
+    def test_two_thousand_trips_are_read_soon_and_meet_their_own_bounds(self) -> None:
         feed = write_feed(os.path.join(self.folder, 'feed'), large_feed(2000))
         archive = zipped(feed, os.path.join(self.folder, 'feed.zip'))
         began = time.process_time()
         status, said = self.call(from_gtfs, archive, DATE, self.net)
-        self.assertLess(time.process_time() - began, 10)
+        self.assertLess(time.process_time() - began, PATIENCE)
         self.assertEqual(status, 0, said)
         net = read_network(self.net)
         kinds = Counter(activity.kind for activity in net.activities)

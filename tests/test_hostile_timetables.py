@@ -14,6 +14,7 @@ from dispatch_tools.dev.feeds import DATE, File, SMALL, write_feed
 from dispatch_tools.formats.names import name_of_trip, named_trip, read_labels, read_stops, read_trains, read_trips, shown
 from dispatch_tools.formats.protobuf import decode, encode
 from tests.folders import read
+from tests.patience import PATIENCE
 from tests.samples import lines_of_run
 from tests.test_gtfs import InNetwork, trips_and_times
 from tests.test_realtime import MIDNIGHT
@@ -24,12 +25,12 @@ AGENCY = ['agency_name,agency_url,agency_timezone', 'X,https://example.org,Europ
 
 class LongWork(InNetwork):
     def refused(self, feed: str, what: str) -> None:
-        """The feed is refused in seconds, by name, and nothing is written."""
+        """The feed is refused soon, by name, and nothing is written."""
         begun = time.monotonic()
         status, said = self.call(from_gtfs, feed, DATE, self.net)
         self.assertEqual(status, 2)
         self.assertIn(what, said)
-        self.assertLess(time.monotonic() - begun, 20)
+        self.assertLess(time.monotonic() - begun, PATIENCE)
         self.assertFalse(os.path.exists(self.net))
 
     def feed(self, files: Mapping[str, File]) -> str:

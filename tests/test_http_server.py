@@ -8,9 +8,7 @@ import unittest
 from typing import Optional
 
 from dispatch_tools.live.http_server import BoundedHandler, BoundedServer, Slots
-
-# So long a test waits for what the server is to do at once, in seconds.
-PATIENCE = 10.0
+from tests.patience import PATIENCE
 
 
 class Echo(BoundedHandler):

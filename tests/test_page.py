@@ -5,7 +5,6 @@ import json
 import os
 import shutil
 import tempfile
-import time
 import unittest
 from typing import Any, ClassVar
 
@@ -16,6 +15,7 @@ from dispatch_tools.formats.names import in_print
 from dispatch_tools.model.network import Activity, Event, Network
 from dispatch_tools.pictures.scene import read_scene
 from dispatch_tools.pictures.view import page
+from tests.patience import comes_to_be
 from tests.samples import CASES, lines_of_run, network, text
 
 DAY = os.path.join(CASES, 'networks', 'forty_trains', 'net')
@@ -70,10 +70,7 @@ class InBrowser(unittest.TestCase):
 
     def until(self, expression: str) -> None:
         """Waits for an expression to hold."""
-        end = time.monotonic() + 60
-        while not self.browser.value(expression):
-            self.assertLess(time.monotonic(), end, expression)
-            time.sleep(0.02)
+        self.assertTrue(comes_to_be(lambda: bool(self.browser.value(expression))), expression)
 
 
 class Names(InBrowser):

@@ -20,6 +20,7 @@ from dispatch_tools.model.programme import lp_text, mps_text, Posed, Programme, 
 from dispatch_tools.model.railway import admit, cost_of, Decision, free_choices, sound_times, times_of, ways_of, with_decisions
 from tests.drawn import drawn_network, drawn_rows
 from tests.folders import InFolder
+from tests.patience import PATIENCE
 from tests.samples import network, text, TOP
 
 CBC = '''Optimal - objective value 188.00000000
@@ -276,7 +277,7 @@ class Solvers(InFolder):
         name, solution = os.path.join(self.folder, 'p.' + form), os.path.join(self.folder, 'solution')
         with open(name, 'w', encoding='ascii') as file:
             file.write((lp_text if form == 'lp' else mps_text)(programme))
-        done = subprocess.run(command(name, form, solution), capture_output=True, text=True, timeout=60)
+        done = subprocess.run(command(name, form, solution), capture_output=True, text=True, timeout=PATIENCE)
         self.assertEqual(done.returncode, 0, done.stdout)
         return solution
 

@@ -9,6 +9,8 @@ import subprocess
 import sys
 import tempfile
 import unittest
+import unittest.mock
+from concurrent.futures import ThreadPoolExecutor
 from pathlib import Path
 
 from dispatch_tools.dev import quick
@@ -76,6 +78,10 @@ class Quick(unittest.TestCase):
         with contextlib.redirect_stdout(io.StringIO()):
             return quick.all_of(self.top, list(parts), self.program)
 
+    def tally_of_examples(self, program: quick.Program) -> quick.Tally:
+        with ThreadPoolExecutor(1) as pool:
+            return quick.in_all(quick.examples_of(self.top, program, pool))
+
     def assert_comes_to(self, passed: int, failed: list[str], *parts: str) -> None:
         tally = self.tally(*parts)
         self.assertEqual((tally.passed, [line.splitlines()[0] for line in tally.failed]), (passed, failed), tally)
@@ -89,7 +95,7 @@ class Quick(unittest.TestCase):
 
     def test_wrong_status_of_a_stored_run(self) -> None:
         replace(self.top / 'crates/dm_runs/data/cases', 'connection 0', 'connection 3')
-        self.assert_comes_to(1, [f'run {RUN}: status 0, and 3 is due'], 'runs')
+        self.assert_comes_to(1, [f'run {RUN}: status 0, and 3 is due: '], 'runs')
 
     def test_wrong_digit_in_a_stored_verdict(self) -> None:
         replace(self.top / 'crates/dm_check_cases/data/cases', 'bad 18', 'bad 19')
@@ -102,7 +108,7 @@ class Quick(unittest.TestCase):
 
     def test_script_that_fails_once(self) -> None:
         self.write('tests/script.py', 'import os\nif not os.path.exists("was_here"):\n    open("was_here", "w").close()\n    raise OSError\n')
-        self.assertEqual(self.tally('tests'), quick.Tally(passed=1, noted=['test_script.py: failed beside others, passed by itself']))
+        self.assertEqual(self.tally('tests'), quick.Tally(passed=1, noted=['test_script.py failed beside others, and runs by itself in the end']))
 
     def test_file_of_tests_that_ends_early(self) -> None:
         self.write('tests/test_script.py', 'import os\nos._exit(0)\n')
@@ -115,6 +121,19 @@ class Quick(unittest.TestCase):
         noted = ['left out: example live: it plays a day for minutes, which `night` does']
         self.assertEqual(self.tally('examples'), quick.Tally(passed=1, noted=noted))
 
+    def test_long_commands_are_left_out_and_named_over_a_slow_program(self) -> None:
+        page = Path(TOP) / 'examples/day/README.md'
+        self.assertEqual(quick.long_commands_of(page), quick.LONG_COMMANDS)
+        self.write('examples/small/README.md', '```sh\necho one\ndispatch-tools figures nothing\n```\n\n```\none\n```\n')
+        noted = 'left out: example small: `dispatch-tools figures`, which takes minutes by a program without proofs; `night` does it'
+        self.assertEqual(self.tally_of_examples(quick.Program(self.program, is_slow=True)), quick.Tally(passed=1, noted=[noted]))
+        self.assertEqual(len(self.tally_of_examples(quick.Program(self.program)).failed), 1)
+
+    def test_a_command_that_does_not_end_is_named(self) -> None:
+        self.program.write_text('#!/bin/sh\nexec sleep 600\n', encoding='utf-8')
+        with unittest.mock.patch.object(quick, 'SECONDS', 0.2):
+            self.assert_comes_to(0, [f'run {RUN}: status -1, and 0 is due: did not end within 0.2 seconds', 'run of the crate dispatcher: not as stored'], 'runs')
+
     def test_changed_text_of_a_page(self) -> None:
         replace(self.top / 'examples/small/README.md', '```\none', '```\ntwo')
         self.assert_comes_to(0, ['example small: examples/small/README.md:6: no command printed or wrote these lines: two ..'], 'examples')
@@ -124,13 +143,14 @@ class Quick(unittest.TestCase):
         self.assert_comes_to(1, [f"verdict {VERDICT}: '' with status 1, and 'bad 18 time' is due"], 'verdicts')
 
     def test_closing_line_and_status(self) -> None:
-        for wrong, last in ((False, '2 passed, 0 failed'), (True, '1 passed, 1 failed')):
+        for wrong, last in ((False, r'2 passed, 0 failed, \d+ s'), (True, r'1 passed, 1 failed, \d+ s')):
             if wrong:
                 replace(self.top / 'due/check', '18', '17')
             said = io.StringIO()
             with contextlib.redirect_stdout(said):
                 status = quick.main(['--program', str(self.program), '--only', 'verdicts'], self.top)
-            self.assertEqual((said.getvalue().splitlines()[-1], status), (last, int(wrong)))
+            self.assertRegex(said.getvalue().splitlines()[-1], f'^{last}$')
+            self.assertEqual(status, int(wrong))
 
     def test_boards_in_files(self) -> None:
         run = quick.Run('some', 'connection', 0, ('run', 'net', '--boards=2'))

@@ -22,6 +22,7 @@ from dispatch_tools.commands import gtfs_rt_out as gtfs_rt_out_command
 from dispatch_tools.live import gtfs_rt_out
 from dispatch_tools.model.railway import admit, cost_of, Message as Entered, Rows, rows_after, sound_times
 from tests.folders import read
+from tests.patience import PATIENCE
 from tests.samples import lines_of_run, TOP
 from tests.test_gtfs import InNetwork, trips_and_times
 
@@ -301,8 +302,8 @@ class Again(Written):
         self.written(('delay event', 1, 60), ('now', 28000))
         out = os.path.join(self.folder, 'out.pb')
         with contextlib.redirect_stderr(io.StringIO()), gtfs_rt_out.serving(out, 0) as server:
-            held = [socket.create_connection(('127.0.0.1', server.server_port), timeout=10) for _ in range(150)]
-            with urllib.request.urlopen(f'http://127.0.0.1:{server.server_port}/', timeout=10) as answer:
+            held = [socket.create_connection(('127.0.0.1', server.server_port), timeout=PATIENCE) for _ in range(150)]
+            with urllib.request.urlopen(f'http://127.0.0.1:{server.server_port}/', timeout=PATIENCE) as answer:
                 self.assertEqual(len(answer.read()), os.path.getsize(out))
             closed = 0
             for line in held:

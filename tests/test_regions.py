@@ -7,7 +7,6 @@ import os
 import random
 import subprocess
 import tempfile
-import time
 import unittest
 from typing import Any, Iterator
 from unittest import mock
@@ -25,6 +24,7 @@ from dispatch_tools.live.relay import read_boundary, Relay
 from dispatch_tools.model.network import Network
 from dispatch_tools.model.railway import apply, Message, Rows, sound_times
 from tests.folders import InFolder, read
+from tests.patience import comes_to_be
 from tests.samples import CASES, network
 from tests.test_gtfs import trips_and_times
 
@@ -349,8 +349,7 @@ class Lines(unittest.TestCase):
         with subprocess.Popen(words, stdin=subprocess.PIPE, stderr=subprocess.PIPE, bufsize=0) as board:
             assert board.stdin is not None and board.stderr is not None
             board.stdin.write(b'1; 950\n2; 7\n')
-            while not os.path.exists(sent) or read(sent).count('\n') < 3:
-                time.sleep(0.02)
+            self.assertTrue(comes_to_be(lambda: os.path.exists(sent) and read(sent).count('\n') >= 3))
             board.stdin.close()
             self.assertEqual(board.stderr.read(), b'board: sh: it ends with status 5: no broker\n')
         self.assertEqual(set(read(sent).splitlines()), {'1; 950, 2; 7'})

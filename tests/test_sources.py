@@ -18,6 +18,7 @@ from dispatch_tools.formats.protobuf import BadMessage, decode, encode, Message,
 from dispatch_tools.live import gtfs_rt_in
 from dispatch_tools.live.feed_file import append
 from tests.folders import read
+from tests.patience import PATIENCE
 from tests.test_realtime import call, MIDNIGHT, Realtime
 
 
@@ -173,7 +174,7 @@ class Fetched(InAnswers):
             begun = time.monotonic()
             with mock.patch('dispatch_tools.live.gtfs_rt_in.TIMEOUT', 0.3):
                 status, said = self.fetched(pieces)
-            self.assertLess(time.monotonic() - begun, 20)
+            self.assertLess(time.monotonic() - begun, PATIENCE)
             self.assertEqual(status, 2)
             self.assertIn(': it has not come whole in 0.3 seconds\n', said)
         self.assertFalse(os.path.exists(self.feed))

@@ -9,8 +9,8 @@ import tempfile
 import time
 import unittest
 from pathlib import Path
-from typing import Callable
 
+from tests.patience import comes_to_be
 from tests.samples import TOP
 
 LIVE = Path(TOP, 'examples', 'live')
@@ -94,8 +94,7 @@ class Standby(Days):
             for text in 'now 5\n', 'now 5\nnow 6\n':
                 (self.day / 'store' / 'journal').write_text(text)
                 (self.day / 'north').write_text(text)
-                self.assertTrue(self.comes_to_be(lambda: {
-                    (copies / '2026-12-24' / name).read_text() for name in ('north', 'store/journal')} == {text}))
+                self.assertTrue(comes_to_be(lambda: self.has_in(copies / '2026-12-24', text)))
             self.assertEqual(sorted(os.listdir(copies / '2026-12-24')), ['net', 'north', 'south', 'store'])
             # No journal is put in place before the feeds whose lines it answers.
             (copies / '2026-12-24' / 'north').unlink()
@@ -107,16 +106,10 @@ class Standby(Days):
             follower.kill()
             follower.wait()
 
-    def comes_to_be(self, is_so: Callable[[], bool]) -> bool:
-        """Whether something comes to be so within ten seconds."""
-        for _ in range(200):
-            try:
-                if is_so():
-                    return True
-            except FileNotFoundError:
-                pass
-            time.sleep(0.05)
-        return False
+    def has_in(self, copy: Path, text: str) -> bool:
+        """Whether a feed and the journal of a copy hold this text."""
+        files = [copy / name for name in ('north', 'store/journal')]
+        return all(file.exists() and file.read_text() == text for file in files)
 
 
 if __name__ == '__main__':

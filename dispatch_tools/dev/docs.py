@@ -7,7 +7,8 @@ in one working directory, with the script at the top as `dispatcher`, and the pr
 lines of every other block must stand, in their order, in what the page's commands printed or wrote so far, or in a file that the
 page names. Or the paragraph above the block names one file that does not exist: then the block is written into it. If a text
 depends on how two feeds come out, the page is tried again, up to five times. Blocks that prove or build, that serve until
-somebody ends them, or that name a place to fill in, are left out. The status is 1 if something differs.
+somebody ends them, or that name a place to fill in, are left out, and so are lines that begin with a command named by --without.
+The status is 1 if something differs.
 """
 
 import os
@@ -29,7 +30,7 @@ TRIES = 5
 
 # No command of a page reads these, and they are many.
 PROVED = (".rt", ".antt", ".edit")
-SECONDS = 300
+SECONDS = 1800
 
 
 @dataclass
@@ -46,16 +47,18 @@ class Block:
 
 @dataclass
 class Session:
-    """A copy of the repository in which the commands of a page run, and what they have printed."""
+    """A copy of the repository in which the commands of a page run, but for those that are left out, and what they have printed."""
 
     root: Path
     folder: Path
+    without: tuple[str, ...] = ()
     printed: list[str] = field(default_factory=list)
 
     def run(self, block: Block) -> str | None:
         """Runs a block's commands; the fault, if they ended with a status that is no answer."""
         told = self.root / ".folder"
-        script = "\n".join([*block.lines, "status=$?", f"pwd > {told}", "exit $status"])
+        lines = [line for line in block.lines if not line.startswith(self.without)]
+        script = "\n".join([*lines, "status=$?", f"pwd > {told}", "exit $status"])
         environment = dict(os.environ, PATH=f"{self.root}:{os.environ['PATH']}")
         try:
             ran = subprocess.run(
@@ -116,9 +119,8 @@ def blocks_of(page: str) -> list[Block]:
     return blocks
 
 
-def copied(dispatcher: Path, start: str, into: Path, top: Path) -> Session:
-    """A copy of what git knows of the repository but for what is only proved, with the program where the gate leaves it."""
-    root = into / "copy"
+def copied(dispatcher: Path, top: Path, root: Path) -> None:
+    """Copies what git knows of the repository but for what is only proved, with the program where the gate leaves it."""
     names = subprocess.run(["git", "ls-files", "-z"], cwd=top, check=True, capture_output=True, text=True).stdout
     for name in filter(None, names.split("\0")):
         if (top / name).is_file() and not name.endswith(PROVED):
@@ -127,16 +129,16 @@ def copied(dispatcher: Path, start: str, into: Path, top: Path) -> Session:
     out = root / "crates/dispatcher/out"
     out.mkdir(parents=True, exist_ok=True)
     shutil.copy2(dispatcher, out / "dispatcher")
-    return Session(root, root / start)
 
 
-def faults_of(dispatcher: Path, name: str, top: Path) -> list[str]:
+def faults_of(dispatcher: Path, name: str, top: Path, without: tuple[str, ...]) -> list[str]:
     """What differs on a page, in one pass over its blocks."""
     page = (top / name).read_text(encoding="utf-8")
     faults = []
     with tempfile.TemporaryDirectory() as into:
         start = STARTS.get(name, str(Path(name).parent) if name.startswith("examples/") else ".")
-        session = copied(dispatcher, start, Path(into), top)
+        session = Session(Path(into) / "copy", Path(into) / "copy" / start, without)
+        copied(dispatcher, top, session.root)
         since = os.stat(session.root / "crates/dispatcher/out").st_mtime
         for block in blocks_of(page):
             if block.is_command():
@@ -147,13 +149,13 @@ def faults_of(dispatcher: Path, name: str, top: Path) -> list[str]:
     return faults
 
 
-def judged(dispatcher: Path, name: str, top: Path) -> list[str]:
+def judged(dispatcher: Path, name: str, top: Path, without: tuple[str, ...] = ()) -> list[str]:
     """What differs on a page at each of several tries, since feeds may come out differently."""
-    left = faults_of(dispatcher, name, top)
+    left = faults_of(dispatcher, name, top, without)
     for _ in range(TRIES - 1):
         if not left:
             break
-        again = faults_of(dispatcher, name, top)
+        again = faults_of(dispatcher, name, top, without)
         left = [fault for fault in left if fault in again]
     return left
 
@@ -162,11 +164,12 @@ def main(argv: Sequence[str] | None = None) -> int:
     parser = command_line(__doc__)
     parser.add_argument("dispatcher", type=Path, help="the built program")
     parser.add_argument("pages", nargs="*", help="pages, from the top of the repository (all)")
+    parser.add_argument("--without", action="append", default=[], metavar="COMMAND", help="leave out lines that begin with this command")
     parser.add_argument("--top", type=Path, default=REPOSITORY, help="the top of the repository (this one)")
     asked = parser.parse_args(argv)
     examples = sorted(str(path.relative_to(asked.top)) for path in asked.top.glob("examples/*/README.md"))
     pages = asked.pages or [page for page in [*PAGES, *examples] if (asked.top / page).is_file()]
-    faults = [fault for page in pages for fault in judged(asked.dispatcher.resolve(), page, asked.top)]
+    faults = [fault for page in pages for fault in judged(asked.dispatcher.resolve(), page, asked.top, tuple(asked.without))]
     for fault in faults:
         print(fault)
     print(f"{len(pages)} pages, {len(faults)} differences")

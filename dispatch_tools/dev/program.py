@@ -21,11 +21,11 @@ from dispatch_tools import here
 TOP = Path(here.TOP)
 NAME = 'dispatcher'
 
-# The words of a run that takes no time, by which the sources are tried.
-SHORT_RUN = ['gen', '1', '1']
+# The words of a run of half a second, by which the sources are tried: the program stands there for no longer.
+SHORT_RUN = ['gen', '1', '100']
 
 # How often it is looked whether the program stands there, and after how many seconds more is said.
-LOOK = 0.02
+LOOK = 0.01
 WORD = 15.0
 
 
