@@ -260,7 +260,7 @@ LIVE = [
     Case('another number of feeds', [*SERVE, 'f'], 3,
          ['the store was begun with another --penalty, other --plans or another number of feeds'], serve([])),
     Case('answered line that was changed', SERVE, 3,
-         ['feed 1 was cut, replaced or changed; `tools/refill.py` puts its lines back from reply-1.txt of the store'],
+         ['feed 1 was cut, replaced or changed; `dispatch-tools refill` puts its lines back from reply-1.txt of the store'],
          serve([], feed(b'read\n'))),
     Case('misshapen block', TEXT, 3,
          ['block 1 of the journal is not as a server writes it: bring the store back from a copy'],

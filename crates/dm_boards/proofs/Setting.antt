@@ -49,7 +49,6 @@ module _ (ids : List ℕ) (times : List (Option ℕ)) (i event t : ℕ) (at : po
         | inr ne ↦ rw (ne_eqb e event ne) (elsewhere e ne (position (λ id. id == e) ids) refl)
       ]
 
--- one change more
 pub set_next : (ids : List ℕ) (times : List (Option ℕ)) (shown : ℕ → Option ℕ) (changes : List (ℕ × ℕ)) (k i event t : ℕ) (d : ℕ × ℕ) →
     k < length changes → (get_or changes k d).0 ≡ event → (get_or changes k d).1 ≡ t → position (λ id. id == event) ids ≡ Some i → length times ≡ length ids →
     ((e : ℕ) → time_shown ids times e ≡ times_after shown (take k changes) e) →

@@ -22,7 +22,6 @@ entry_same s one other logs p q n some within =
     logs_same s one other n 0 logs (λ i log at. subst (λ (k : ℕ). IsTrueLog s one k log.items) (from_none i) (p.each i log at))
     (λ i log at. subst (λ (k : ℕ). IsTrueLog s other k log.items) (from_none i) (q.each i log at)) (omega (arith, once))
 
--- so neither is longer
 no_longer : (s : Setting) (one other : List Entry) (logs : List FeedLog) → AreTrueLogs s one logs → AreTrueLogs s other logs → length one ≤ length other
 no_longer s one other logs p q =
     elim (cases_lt (length other) (length one)) [

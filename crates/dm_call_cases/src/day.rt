@@ -13,7 +13,6 @@ use std::alloc::Global;
 /// The first train is a minute late.
 pub const LATE: Message = Message::DelayEvent(EventId(1), 60);
 
-/// The rows after a message.
 pub fn rows_after(alloc: Global, net: &Network, message: &Message) -> Result<Rows, Failure>
     ensures { IfOk result (IsSized net.now) }
 {
@@ -27,7 +26,6 @@ pub fn rows_after(alloc: Global, net: &Network, message: &Message) -> Result<Row
     }
 }
 
-/// The times of rows.
 pub fn times_of(alloc: Global, net: &Network, rows: &Rows) -> Result<Times, Failure>
     requires { IsSized net.now rows.now }
     ensures { IfOk result (λ times. length times ≡ length net.now.events) }

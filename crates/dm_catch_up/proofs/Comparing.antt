@@ -57,7 +57,6 @@ module _ (part rest : List ℕ) (passed lines count : ℕ) (items : List LogItem
       (items_joined passed (lines_of same.front) (without_return h.line ∷ []) (map due_of (take count items)) more same.due
       (subst (λ (n : ℕ). AreDueItems n (without_return h.line ∷ []) more) same.counted due))
 
-  -- the line is due
   here_due : heard ≢ Blank → AreDueItems lines (without_return h.line ∷ []) (item (lines + 1) heard ∷ [])
   here_due is_due = inr (not_quiet (without_return h.line) heard h.hears is_due, h.hears, refl, tt)
 

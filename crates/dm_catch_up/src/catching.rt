@@ -66,7 +66,6 @@ pub fn catch_up<T: Growing + Drop>(
     Ok(())
 }
 
-/// Whether a line ends in the bytes.
 fn ends_line(bytes: &[u8]) -> bool
     ensures { result ≡ false → IsUnended bytes.now }
 {

@@ -289,7 +289,6 @@ module _ (s : Setting) (network : IsNetwork s.net) (dues : List (List DueItem)) 
         | inr other ↦ stays q items (holds.each q items other.1)
       ]
 
-  -- nothing is entered
   told_holds : IsTrueAnswer s h (place + 1) before x → Follows (last_number 0 before) (kind_of x) → ((n : ℕ) → one_name n (kind_of x) ≡ 0) → Holds s dues h more
   told_holds t follows unnamed =
       record {
@@ -313,7 +312,6 @@ module _ (s : Setting) (network : IsNetwork s.net) (dues : List (List DueItem)) 
         | inr none ↦ omega arith
       ]
 
-  -- a message is entered
   entered_holds : (n : ℕ) → kind_of x ≡ entered n → (later : List Entry) → EntersNext s h later (place + 1) before x n → Holds s dues later more
   entered_holds n kind later enters =
       let e : Entry = record { feed = place + 1; line = line_of x; message = enters.message } in

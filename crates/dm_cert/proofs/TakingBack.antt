@@ -212,7 +212,6 @@ module _ (s : Setting) (dues : List (List DueItem)) (logs : List (List LogItem))
 -- ---- the last entry is taken back with its item
 
 module _ (s : Setting) (g : List Entry) (e : Entry) (legal : IsLegal s.net s.start (g ++ e ∷ [])) (feed : ℕ) (before : List LogItem) (line n : ℕ) (is : n ≡ length g + 1) where
-  -- entry n is the last
   last_entry : (message : Message) → IsEntry (g ++ e ∷ []) n (record { feed = feed; line = line; message = message }) → record { feed = feed; line = line; message = message } ≡ e
   last_entry message entry =
       let here : n - 1 ≡ length g = omega arith in

@@ -24,7 +24,6 @@ pub struct Heading {
     pub size: u128,
 }
 
-/// A number behind the text.
 fn number_behind<'l>(line: &'l [u8], text: &str) -> Option<(u128, &'l [u8])>
     ensures { option_map (λ p. (p.0, p.1.now)) result ≡ number_behind largest_cost text.now line.now }
 {
@@ -34,7 +33,6 @@ fn number_behind<'l>(line: &'l [u8], text: &str) -> Option<(u128, &'l [u8])>
     number_in_front(rest, u128::MAX)
 }
 
-/// An id behind the text.
 fn id_behind<'l>(line: &'l [u8], text: &str) -> Option<(u32, &'l [u8])>
     ensures { option_map (λ p. (p.0, p.1.now)) result ≡ number_behind largest_id text.now line.now }
 {

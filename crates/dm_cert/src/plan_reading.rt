@@ -74,7 +74,6 @@ fn grown(alloc: Global, lines: &mut Lines, count: u128) -> Result<Growth, CertFa
     Ok(growth)
 }
 
-/// The tree of these nodes.
 fn tree_of(alloc: Global, nodes: Vec<Node>) -> Result<Tree, CertFault>
     ensures { IsTreeOf nodes.items result }
 {

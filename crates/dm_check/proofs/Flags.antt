@@ -12,7 +12,6 @@ use Rattle.dm_check.specs.declared.verdicts.BadKind.TheVariants as kind
 use Rattle.dm_check.specs.FalseRecords.{bad, Reads, AreNamed, TellsBoards}
 use Rattle.dm_check.specs.Judged.{AreFlagged}
 
--- every entry is flagged
 abbrev pub AreAll : List Bool → Type 0
 AreAll named = (n : ℕ) → n < length named → slice_index_or named n false ≡ true
 

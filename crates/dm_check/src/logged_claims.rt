@@ -54,7 +54,6 @@ fn claims_of(alloc: Global, logs: &[FeedLog]) -> Result<Vec<Answered>, AllocErro
     Ok(claims)
 }
 
-/// Claims with those of a log.
 fn with_claims(
     alloc: Global,
     log: &FeedLog,

@@ -67,14 +67,12 @@ fn reason_in(alloc: Global, why: &Refusal) -> Result<Reason, AllocError>
     }
 }
 
-/// Equal ids.
 fn copy_of_ids(alloc: Global, ids: &[ActId]) -> Result<Items<ActId>, AllocError>
     ensures { IfOk result (λ copy. copy ≡ ids.now) }
 {
     Ok(Items::from_vec(Vec::from_slice(alloc, ids)?))
 }
 
-/// An equal plan.
 pub(crate) fn copy_of_plan(alloc: Global, plan: &Plan) -> Result<Plan, AllocError>
     ensures { IfOk result (λ copy. copy ≡ plan.now) }
 {
@@ -95,7 +93,6 @@ pub(crate) fn copy_of_plan(alloc: Global, plan: &Plan) -> Result<Plan, AllocErro
     })
 }
 
-/// An equal tree.
 fn copy_of_tree(alloc: Global, tree: &Tree) -> Result<Tree, AllocError>
     ensures { IfOk result (λ copy. copy ≡ tree.now) }
 {
@@ -124,7 +121,6 @@ pub(crate) fn copy_of_line(said: &Line) -> Line
     }
 }
 
-/// An equal message.
 fn copy_of_message(message: &Message) -> Message
     requires { IsSaid message.now }
     ensures { result ≡ message.now }

@@ -57,7 +57,6 @@ fn is_next_note(notes: &Notes, entries: usize, said: &NoteLine) -> bool
     is_free(&notes.boards, said.board)
 }
 
-/// The next note, at so many entries.
 fn next_note(lines: &mut Lines, notes: &mut Notes, entries: usize) -> Result<(), Stop>
     ensures { (history : List EntryValue) (before : List Note) → length history ≡ entries → AreBefore before notes.old
         → NotesOn history before lines.old lines.new notes.new result }
@@ -80,7 +79,6 @@ fn next_note(lines: &mut Lines, notes: &mut Notes, entries: usize) -> Result<(),
     Ok(())
 }
 
-/// As many notes as are counted, at so many entries.
 pub(crate) fn all_notes(
     alloc: Global,
     lines: &mut Lines,

@@ -25,7 +25,6 @@ pub(crate) fn penalty_told(lines: &mut Lines, penalty: u64) -> Result<u128, Faul
     this_number_told(lines, "penalty ", penalty as u128)
 }
 
-/// How many feeds there are.
 pub(crate) fn feeds_told(lines: &mut Lines) -> Result<usize, Fault>
     ensures { Judges (TellsNumber (codes "feeds ") (λ n. (1 ≤ n) × (n ≤ FEEDS))) (λ n. n) lines.old lines.new result }
 {
@@ -44,7 +43,6 @@ pub(crate) fn feeds_told(lines: &mut Lines) -> Result<usize, Fault>
     }
 }
 
-/// How many entries there are.
 pub(crate) fn entries_told(lines: &mut Lines) -> Result<u32, Fault>
     ensures { Judges (TellsNumber (codes "entries ") (λ n. n ≤ ENTRIES)) (λ n. n) lines.old lines.new result }
 {

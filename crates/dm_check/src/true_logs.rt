@@ -63,7 +63,6 @@ pub fn are_true_logs(
     are_true_of(&setting, entries, logs)
 }
 
-/// Whether logs are true of these entries.
 fn are_true_of(
     setting: &RunSetting<'_>,
     entries: &[Entry],
@@ -227,7 +226,6 @@ impl<'j> Logs<'j> {
         }
     }
 
-    /// Whether these are the items of a true log of this feed.
     fn is_true_log(&mut self, feed: u32, items: &[LogItem]) -> Result<bool, AllocError>
         requires { All IsSpelledItem items.now }
         ensures tells { (place : ℕ) → place + 1 ≡ feed

@@ -14,7 +14,6 @@ abbrev IsTrue : Setting → List Entry → Answered → Type 0
 IsTrue s history a = IsTrueClaim s history a.said (reply_of a.answer)
 
 module _ (s : Setting) (history : List Entry) (claims : List Answered) where
-  -- one verdict more
   pub one_judged : (verdicts : List (Option Bool)) (place : ℕ) (c : Answered) (b : Bool) → place < length verdicts → slice_get claims place ≡ Some c → Tells (IsTrue s history c) b → AreRightly s history claims verdicts →
       AreRightly s history claims (slice_set verdicts place (Some b))
   one_judged verdicts place c b inside at tells rightly k d got =

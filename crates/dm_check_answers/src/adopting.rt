@@ -34,7 +34,6 @@ fn has_no_room(entries: &[Entry], number: u32, why: &Reason, plan: &Plan) -> boo
     }
 }
 
-/// Whether the answer to an adoption is true.
 pub(crate) fn is_true_of_adopt(journal: &Journal<'_>, asked: &Asked<'_>, answer: &Answer) -> bool
     ensures { (before : List LogItem) → IsPast before asked.now.past.now
         → Tells (IsTrueReply (setting_of journal.now.setting) (history_of journal.now) asked.now.feed before asked.now.line AskAdopt

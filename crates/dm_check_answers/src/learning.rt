@@ -38,7 +38,6 @@ impl<'a> Replay<'a> {
     }
 }
 
-/// No verdicts on so many claims.
 fn no_verdicts(alloc: Global, claims: usize) -> Result<Vec<Option<bool>>, AllocError>
     ensures { IfOk result (λ verdicts. verdicts.items ≡ replicate claims None) }
 {

@@ -100,7 +100,6 @@ fn is_reason(one: &Reason, other: &Reason) -> bool
     }
 }
 
-/// Whether a claim is this answer to this line.
 pub(crate) fn is_claim(claim: &Answered, said: &Line, answer: &Answer) -> bool
     ensures { result ≡ true → claim.now ≡ record { said = said.now; answer = answer.now } }
 {
@@ -141,7 +140,6 @@ fn entry_at(entries: &[Entry], number: u32) -> Option<&Entry>
     entries.get(number as usize - 1)
 }
 
-/// Whether the entry of this number is the message of this feed and line.
 pub(crate) fn is_entered(
     entries: &[Entry],
     number: u32,

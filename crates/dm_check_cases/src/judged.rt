@@ -154,7 +154,6 @@ fn told_of_byte(
     Some(all)
 }
 
-/// The text with a byte replaced.
 fn replaced(alloc: Global, text: &[u8], place: usize, byte: u8) -> Option<Vec<u8>> {
     let mut other = Vec::from_slice(alloc, text).ok()?;
     if place < other.len() {

@@ -13,8 +13,8 @@
 //!
 //! For each case it prints `NAME ok`, or what is told of the text instead.
 //!
-//! What is due comes from the rules of run texts, worked out by hand. The files under `bytes` come from `bench/judge.py`, which
-//! reads these rules in another language.
+//! What is due comes from the rules of run texts, worked out by hand. The files under `bytes` come from `dispatch-tools judge`,
+//! which reads these rules in another language.
 #![tactic(auto)]
 
 mod case;

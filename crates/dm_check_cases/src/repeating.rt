@@ -32,7 +32,6 @@ fn repeated(line: &str) -> (u64, &str) {
     }
 }
 
-/// Adds a line so many times.
 fn add_lines(text: &mut Vec<u8>, times: u64, line: &str) -> Result<(), AllocError> {
     for _time in 0..times {
         text.extend_from_slice(line.as_bytes())?;

@@ -14,7 +14,6 @@ pub fn spelling_of(alloc: Global, verdict: Verdict) -> Result<String, AllocError
     }
 }
 
-/// The word of a kind.
 fn word_of(kind: BadKind) -> &'static str {
     match kind {
         BadKind::Form => "form",

@@ -51,7 +51,6 @@ fn do_changes_ascend(ids: &[ActId]) -> bool
     true
 }
 
-/// Whether all ids are those of arrivals.
 fn are_arrivals(net: &Network, ids: &[EventId]) -> bool
     ensures { Tells (All (NamesArrival net.now) ids.now) result }
 {
@@ -63,7 +62,6 @@ fn are_arrivals(net: &Network, ids: &[EventId]) -> bool
     true
 }
 
-/// Whether all ids are those of changes.
 fn are_changes(net: &Network, ids: &[ActId]) -> bool
     ensures { Tells (All (NamesChange net.now) ids.now) result }
 {

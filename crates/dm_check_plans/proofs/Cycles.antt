@@ -69,7 +69,6 @@ far_chain g (suc k) i h =
       long = ap suc rest.long;
     }
 
--- one arc more
 one_further : (g : Arcs) (k j a : ℕ) → Binds g a × (g.tail a ≡ j) → goes_far g k (g.head a) ≡ true → goes_far g (suc k) j ≡ true
 unfolding goes_far leaves_by
 one_further g k j a s far =

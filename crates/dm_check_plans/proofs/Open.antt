@@ -20,7 +20,6 @@ use Rattle.dm_paths.specs.Decisions.{is_unmet_pair}
 use Rattle.dm_paths.proofs.Violating.{violated_change_by, violated_pair_by}
 use Rattle.dm_paths.proofs.Open.{place_is_listed}
 
--- what is no change is no undecided one
 pub no_free_change : (net : Net) (rows : RowsValue) (path : List Decision) (a : ℕ) → is_change (activity_at net a).kind ≡ false → is_undecided_change net rows path a ≡ false
 no_free_change net rows path a other = ap (λ (b : Bool). (b && not (has_passed rows (activity_at net a).head)) && not (is_decided path (change_choice net a))) other
 

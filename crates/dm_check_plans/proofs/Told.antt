@@ -25,7 +25,6 @@ use Rattle.dm_check_plans.specs.Inside.Violations.{IsSomeViolated}
 use Rattle.dm_check_plans.specs.Inside.Visiting.{IsTrueNode, IsNextOpen, is_cycle}
 use Rattle.dm_paths.proofs.Open.{violated_is_open}
 
--- one timetable is least
 one_least : (net : Net) (rows : RowsValue) (held : ℕ → Bool) (x y : List ℕ) → IsLeastHolding net rows held x → IsLeastHolding net rows held y → x ≡ y
 one_least net rows held x y p q =
     let a = p.meets.size in
@@ -47,7 +46,6 @@ module _ (net : Net) (rows : RowsValue) (penalty budget : ℕ) (path : List Deci
   least_has_none network x least =
       (held_is_met_exactly_without_cycle net (with_decisions net rows path) (is_relaxed_active net rows path) network (relaxed_enter_no_passed net rows path)).0 (x, least.meets)
 
-  -- a node over a cycle
   pub cycle_told : IsNetwork net → HasRelaxedCycle net rows path → (plan_cost : ℕ) (n : Node) (b : Bool) → b ≡ is_cycle n → Tells (IsTrueNode (whole_task net rows penalty budget) plan_cost path n) b
   cycle_told network some plan_cost (Inner c) true e = cc
   cycle_told network some plan_cost (Inner c) false e = λ t. t.no_cycle some.cycle some.is_cycle

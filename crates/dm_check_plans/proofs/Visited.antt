@@ -57,7 +57,6 @@ module _ (task : Task) (plan_cost : ℕ) where
         subst (λ x. fills false (length (pending path)) (x ∷ rest) ≡ true) is (filled_here n rest (length (pending path)) was.filled) in
         ordered c (both (is_ordered c) (fills false (length (pending path) + 1) rest) filled).0
 
-  -- behind a choice
   pub choice_visited : (nodes rest : List Node) (path new : List Decision) (c : Choice) → IsTrueNode task plan_cost path (Inner c) →
       new ≡ path ++ first_decision c ∷ [] → IsLeftToVisit task plan_cost nodes (Inner c ∷ rest) path → IsLeftToVisit task plan_cost nodes rest new
   choice_visited nodes rest path new c holds is was =
@@ -101,7 +100,6 @@ module _ (task : Task) (plan_cost : ℕ) where
     then_all : AreTrueNodes task plan_cost ([] ∷ []) nodes → All True (visits (pending path) rest)
     then_all h = All-tail True (here path n) (visits (pending path) rest) (subst (All True) (leaf_visits n path (pending path) rest l) (was.left h))
 
-    -- where a place is due
     pub leaf_visited : (new : List Decision) → pending path ≡ new ∷ pending new → IsLeftToVisit task plan_cost nodes rest new
     leaf_visited new due =
         let count : length (pending path) ≡ length (pending new) + 1 = rw due (sym (add-one (length (pending new)))) in

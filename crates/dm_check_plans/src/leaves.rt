@@ -31,7 +31,6 @@ pub fn is_any(nodes: &[Node], wanted: Wanted) -> bool
     false
 }
 
-/// Whether the node is what is wanted.
 fn meets(node: Node, wanted: Wanted) -> bool
     ensures { result ≡ meets wanted node }
 {

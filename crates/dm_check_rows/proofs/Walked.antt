@@ -42,7 +42,6 @@ module _ (net : Net) (network : IsNetwork net) (rows : RowsValue) where
             named = sym named;
           }
 
-  -- and goes on by each id
   pub back_goes : (start : ℕ) (ids : List ActId) (n at next : ℕ) (id : ActId) (more : List ActId) → drop n ids ≡ id ∷ more → drop (n + 1) ids ≡ more → LeadsBack net rows start ids n at → LeadsBy net rows at id next →
       LeadsBack net rows start ids (n + 1) next
   back_goes start ids n at next id more here rest back by = on back.left back.leads (back.named ∙ here)

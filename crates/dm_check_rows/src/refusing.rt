@@ -49,7 +49,6 @@ pub fn is_refused(
 }
 
 impl ClaimedRefusal<'_> {
-    /// Whether it is true.
     fn is_true(&self, alloc: Global) -> Result<bool, AllocError>
         requires said { IsSaid self.now.message.now }
         ensures { IfOk result (Tells (IsRefused self.now)) }
@@ -106,7 +105,6 @@ impl ClaimedRefusal<'_> {
     }
 }
 
-/// Whether the rows have no cycle.
 fn has_no_cycle(alloc: Global, net: &Network, rows: &Rows) -> Result<bool, AllocError>
     requires { IsSized net.now rows.now }
     ensures { IfOk result (Tells (HasNoCycle net.now rows.now)) }
@@ -123,7 +121,6 @@ fn has_no_cycle(alloc: Global, net: &Network, rows: &Rows) -> Result<bool, Alloc
     }
 }
 
-/// The rows after a change.
 fn rows_after(rows: &Rows, change: &Change) -> Result<Rows, AllocError>
     requires { Reaches rows.now change.now }
     ensures rows { IfOk result (λ after. after ≡ after_change rows.now change.now) }

@@ -10,7 +10,6 @@ use Rattle.dm_network.proofs.Filling.{range_more}
 use Rattle.dm_network.specs.Net.{Net, activity_at, is_change}
 use Rattle.dm_check_times.specs.Changes.{AreChangesTo}
 
--- one more at the end
 sum_one_more : (f : ℕ → ℕ) (n : ℕ) → sum_by f (range_with_len 0 (n + 1)) ≡ sum_by f (range_with_len 0 n) + f n
 sum_one_more f n =
     let same : f (0 + n) ≡ f n = ap f (let e : 0 + n ≡ n = omega arith in e) in

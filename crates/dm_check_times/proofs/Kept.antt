@@ -29,7 +29,6 @@ one_of_all f i a (suc n) le lt =
 
 -- ---- what costs
 
--- a sum in two parts
 sum_parts : (f g h : ℕ → ℕ) (xs : List ℕ) → ((k : ℕ) → f k ≡ g k + h k) → sum_by f xs ≡ sum_by g xs + sum_by h xs
 sum_parts f g h [] each = refl
 sum_parts f g h (x ∷ xs) each =
@@ -121,7 +120,6 @@ enough_weight net kept a was is_kept below is =
     let had = is_kept.weighed.sum in
     omega (arith, part, had, is)
 
--- no weights yet
 no_weight : (n k : ℕ) → slice_index (replicate n 0) k ≤ 0
 no_weight n k =
     elim (cases_lt k n) [

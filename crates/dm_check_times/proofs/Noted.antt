@@ -12,7 +12,6 @@ notes_none times flags = record { as_many = refl; noted = λ kept alike. alike }
 pub notes_then : (old mid new : List ℕ) (before between after : List Bool) → NotesMoves old mid before between → NotesMoves mid new between after → NotesMoves old new before after
 notes_then old mid new before between after first second = record { as_many = second.as_many ∙ first.as_many; noted = λ kept alike. second.noted kept (first.noted kept alike) }
 
--- one time
 pub notes_one : (old new : List ℕ) (before after : List Bool) (event time : ℕ) → event < length before → new ≡ slice_set old event time → after ≡ slice_set before event true → NotesMoves old new before after
 notes_one old new before after event time inside times flags = record {
   as_many = ap (λ (f : List Bool). length f) flags ∙ length-set before event true;
@@ -27,7 +26,6 @@ notes_one old new before after event time inside times flags = record {
   ];
 }
 
--- what is not listed is alike
 pub alike_or_listed : (set : PlaceSetValue) (kept times : List ℕ) (e : ℕ) → IsPlaceSet set → AreAlikeBut set.flags kept times → Contains set.places e ⊎ (slice_index kept e ≡ slice_index times e)
 alike_or_listed set kept times e is alike = by_flag (is_marked set.flags e) refl
   where

@@ -61,7 +61,6 @@ module _ (net : Net) (held : List Bool) (spans times : List ℕ) (from : ℕ) (r
   Head now k = IsTrue (is_held held (slice_index row k)) → slice_index times (activity_at net (slice_index row k)).head ≤ from + slice_index spans (slice_index row k) →
       is_marked now (activity_at net (slice_index row k)).head ≡ true
 
-  -- the next one
   pub spread_more : SpreadsAlong net held spans times from (slice_index row n) mid new due_mid due_new → HasSpreadTo net held spans times from row (n + 1) old new due_old due_new
   spread_more along = record {
     spreads = spreads_twice old mid new due_old due_mid due_new had.spreads along.spreads;

@@ -145,7 +145,6 @@ impl KeptTimetable {
         self.times[event]
     }
 
-    /// The floor of an event.
     pub(crate) fn floor(&self, event: usize) -> Secs
         requires { event < length self.now.floors }
         ensures { result ≡ slice_index self.now.floors event }

@@ -99,7 +99,6 @@ command_within words (CheckOf asked) asks = check_within words asked asks
 command_within words (GenOf asked) asks = day_within words asked asks
 command_within words (QueryOf asked) asks = query_within words asked asks
 
--- at the start there is no cycle
 pub start_has_none : (net : Net) (rows : RowsValue) → IsNetwork net → IsAtStart net rows → HasNoCycle net rows
 start_has_none net rows network at =
     subst (HasNoCycle net) (sym at.are) (start_has_no_cycle net at.event_delays at.activity_delays network)

@@ -74,7 +74,6 @@ keeps_same : (known : Option (List ℕ)) → Keeps known known
 keeps_same None = tt
 keeps_same (Some xs) = refl
 
--- want of memory
 pub wants_memory : {K : Type 0} (taken : K → Option (List ℕ)) (now : K) (words : List (List ℕ)) (asked : Command) → Asks words asked → WantsMemory (taken now) (taken now) words
 wants_memory taken now words asked asks = record { asked = asked; is_asked = asks; kept = keeps_same (taken now) }
 

@@ -59,7 +59,6 @@ same_text words files others one other a b = some_is one other (sym a.names ∙ 
 pub about_over : (words : List (List ℕ)) (files : FilesAsked) (text : List ℕ) → AsksAbout words files text → AsksOver words files
 about_over words files text about = record { asked = about.asked; is_asked = about.is_asked; reads = about.reads }
 
--- a run is of no text
 pub no_text : (words : List (List ℕ)) (files : FilesAsked) (text : List ℕ) (run : RunAsked) → AsksAbout words files text → Asks words (RunOf run) → ⊥
 no_text words files text run about asks = none_is_some text (ap text_of_command (one_command words (RunOf run) about.asked asks about.is_asked) ∙ about.names)
 

@@ -9,7 +9,6 @@ module _ {K : Type 0} (taken : K → Option (List ℕ)) (faults : K → ℕ) whe
   puts_behind a b c x y (Ok done) all p = takes_then all p
   puts_behind a b c x y (Err fault) all p = takes_fault all p
 
-  -- four texts
   pub puts_four : {E : Type 0} (a b c d e : K) (w x y z : List ℕ) (result : Result (Unit {0}) E) → TakesAll taken faults a b w → TakesAll taken faults b c x → TakesAll taken faults c d y → Puts taken faults d e result z →
       Puts taken faults a e result (w ++ (x ++ (y ++ z)))
   puts_four a b c d e w x y z result one two three last =

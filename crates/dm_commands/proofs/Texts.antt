@@ -29,7 +29,6 @@ module _ {K : Type 0} (taken : K → Option (List ℕ)) (faults : K → ℕ) (to
   never_day : (day : GenAsked) → Asks words (GenOf day) → ⊥
   never_day day also = no_files words files day over also
 
-  -- its files are not refused
   never_refused : (others : FilesAsked) → AsksOver words others → (flaw : InputFlaw) → OpeningAnswer told others (Err flaw) → ⊥
   never_refused others also flaw refusal =
       opening_is_one told files known (Ok opening) (Err flaw) opens (subst (λ (f : FilesAsked). OpeningAnswer told f (Err flaw)) (same_files words others files also over) refusal)

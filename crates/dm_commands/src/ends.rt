@@ -66,7 +66,6 @@ pub fn end_verdict<K: Sink>(verdict: Verdict, out: &mut K) -> Status
     }
 }
 
-/// The status of a verdict.
 fn status_of_verdict(verdict: Verdict) -> Status
     ensures { result ≡ verdict_status verdict }
 {

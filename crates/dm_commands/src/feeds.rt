@@ -46,7 +46,6 @@ pub fn open_feeds<H: Shelf>(
     Ok(feeds)
 }
 
-// Opens the feed of a name.
 fn open_feed<H: Shelf>(shelf: &mut H, name: &str) -> Option<H::Src>
     ensures kept { IsKept H.files H.is_sound shelf.old shelf.new }
     ensures opened { IsOpened H.Src.left H.Src.is_sound (H.files shelf.old) (H.is_sound shelf.old) name.now result }

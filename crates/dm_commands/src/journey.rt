@@ -54,7 +54,6 @@ fn end_found<K: Sink>(net: &Network, found: &[Journey], out: &mut K) -> Status
     }
 }
 
-/// Puts journeys.
 fn put_journeys<K: Sink>(
     sink: &mut K,
     net: &Network,

@@ -58,7 +58,6 @@ fn comparison_of<F: Fn(&Network, u64, &Snapshot, u64, u32) -> Result<Plan, Alloc
     compare(alloc, net, penalty, &snapshot, rule, plan)
 }
 
-/// The rule of a word.
 fn rule_named(word: RuleWord) -> WaitRule
     ensures { result ≡ rule_named word }
 {

@@ -102,7 +102,6 @@ impl<'n, R: Wait> Caller<'_, '_, 'n, R> {
         self.server.post(self.rt, pass, entry)
     }
 
-    /// The time of an event.
     fn time(&self, pass: &mut Pass<Kept<'n>>, event: EventId) -> Result<(Secs, u32), At<Refusal>>
         requires turn { pass.old.turn ≡ self.now.server.now.id }
         requires idle { pass.old.holds ≡ false }

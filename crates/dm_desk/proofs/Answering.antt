@@ -150,7 +150,6 @@ module _ {S : Type 0} where
       let other : Stop Fault ≡ Stop End = ap Stop (sym fault) ∙ same in
       absurd cc
 
-  -- no line was left
   pub stopped : (left : S → Option (List ℕ)) (faults : S → ℕ) (is_sound : S → Type 0) (before now : ReaderValue S) (desk : DeskValue) (feed : ℕ) (items : List LogItem) (stop : FeedStop) → HasSeenLegal desk → AreTrueOf desk feed items → IsOpen before
       → (before.stop ≡ None → Answers left faults is_sound before now (Stop stop)) → IfSome before.stop (λ first. (Stop stop ≡ Stop first) × (now ≡ before)) → AnswersBatch left is_sound before now desk desk feed 1 items items (Some stop)
   stopped left faults is_sound before now desk feed items stop legal are_true is_open answers stays =
@@ -203,7 +202,6 @@ module _ {S : Type 0} where
     cause = cause_then is_sound r0 r1 stop stays two.cause;
   }
 
-  -- a stop within the batch
   pub stop_within : (left : S → Option (List ℕ)) (is_sound : S → Type 0) (r0 r1 : ReaderValue S) (d0 d1 : DeskValue) (feed n batch : ℕ) (i0 i1 : List LogItem) (stop : FeedStop) → n ≤ batch → AnswersBatch left is_sound r0 r1 d0 d1 feed n i0 i1 (Some stop)
       → AnswersBatch left is_sound r0 r1 d0 d1 feed batch i0 i1 (Some stop)
   stop_within left is_sound r0 r1 d0 d1 feed n batch i0 i1 stop le b = record {

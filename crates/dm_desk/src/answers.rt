@@ -89,7 +89,6 @@ fn post<D: Desk>(desk: &mut D, feed: u32, line: u32, message: &Message) -> Resul
     }
 }
 
-// The time of an event.
 fn time_of<D: Desk>(desk: &mut D, event: EventId) -> Reply
     ensures { (feed line : ℕ) (items : List LogItem)
         → Replies (D.value desk.old) (D.value desk.new) feed line items (Line.Time event) result }

@@ -34,7 +34,6 @@ pub fn last_plan(items: &[LogItem]) -> Option<&Plan>
     last
 }
 
-// Whether an item is a plan.
 fn is_planned(item: &LogItem) -> bool
     ensures { result ≡ is_plan item.now }
 {
@@ -47,7 +46,6 @@ fn is_planned(item: &LogItem) -> bool
     )
 }
 
-// The plan that an item is.
 fn planned(item: &LogItem) -> Option<&Plan>
     ensures { option_copied result ≡ plan_in item.now }
 {

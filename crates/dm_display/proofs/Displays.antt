@@ -128,7 +128,6 @@ module _ {B : Type 0} (place : B → ℕ) (times_on : B → Option (ℕ → Opti
     stops = refl;
   }
 
-  -- no boards are up
   pub shows_none : (table : TableValue) (display : Display) (many : ℕ) (none : List B) → many ≡ length none → eqb many 0 ≡ true → IsFor table.network many display → Shows place times_on faults is_sound table display display none none
   shows_none table display many none is empty fits =
       none_shown table display none (omega (arith, eqb-true many 0 empty, is)) (subst (λ (n : ℕ). IsFor table.network n display) is fits)

@@ -7,7 +7,6 @@ use Rattle.dm_network.specs.Held.{is_held, IsCycleOf}
 use Rattle.dm_evaluate.specs.Inside.Moves.{set_where}
 use Rattle.dm_network.proofs.Holding.{cycle_with}
 
--- one flag that is set
 pub set_one : (flags : List Bool) (a : ℕ) (value : Bool) → a < length flags → (b : ℕ) →
     is_held (slice_set flags a value) b ≡ set_where (λ c. c == a) value (is_held flags) b
 set_one flags a value below b =

@@ -13,7 +13,6 @@ use Rattle.dm_paths.specs.RowsRead.{IsAmong}
 use Rattle.dm_paths.proofs.Changing.{its_pair, no_pair}
 use Rattle.dm_paths.proofs.RowsRead.{among_next}
 
--- one flag that is set
 set_on : (flags : List Bool) (a b : ℕ) (flag : Bool) → b ≡ a → a < length flags → is_held (slice_set flags a flag) b ≡ flag
 set_on flags a b flag is below = ap (is_held (slice_set flags a flag)) is ∙ get_or-set_same flags a flag false below
 
@@ -53,7 +52,6 @@ module _ (net : Net) (p : ℕ) where
     done = λ b is its. absurd (no_pair p (activity_at net a).pair not_its (ap (λ c. (activity_at net c).pair) (sym is) ∙ its));
   }
 
-  -- one more
   pub next_turned : (row : List ℕ) (n a : ℕ) (value : Bool) (one two three : PricedValue) → a ≡ slice_index row n →
       TurnsAmong net p (IsAmong row n) value one two → TurnsAmong net p (IsOnly a) value two three → TurnsAmong net p (IsAmong row (n + 1)) value one three
   next_turned row n a value one two three is f s = record {
@@ -68,7 +66,6 @@ module _ (net : Net) (p : ℕ) where
     ];
   }
 
-  -- one more is refused
   pub next_refused : (row : List ℕ) (n a : ℕ) (one two three : PricedValue) → n < length row → a ≡ slice_index row n →
       TurnsAmong net p (IsAmong row n) true one two → IsRefused net p (IsOnly a) two three → IsRefused net p (IsAmong row (length row)) one three
   next_refused row n a one two three below is f s =
@@ -109,7 +106,6 @@ module _ (net : Net) (p : ℕ) where
         done = λ b is mine. held b ∙ set_on now.live.given.held a b value is below;
       }
 
-  -- an activity that is refused
   pub refused_one : (a : ℕ) (now next : PricedValue) → is_of_pair p (activity_at net a).pair ≡ true →
       next.live ≡ record now.live { order = record now.live.order { cycle = next.live.order.cycle } } → next ≡ record now { live = next.live } →
       IsCycleOf net (is_held (with_held now.live.given a true).held) next.live.order.cycle → IsRefused net p (IsOnly a) now next

@@ -32,7 +32,6 @@ pub fn is_decided(path: &[Decision], choice: Choice) -> bool
     false
 }
 
-/// Whether a decision decides a choice.
 fn decides(decision: Decision, choice: Choice) -> bool
     ensures { result ≡ is_same_choice (choice_of decision) choice }
 {

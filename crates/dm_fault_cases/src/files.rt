@@ -14,7 +14,6 @@ use std::rt::Files;
 use std::sync::Wait;
 use std::thread::Threads;
 
-/// The board of a stop in a file.
 pub fn board_in_file<R: AllocGlobal + Files<File = File> + Drop>(
     rt: R,
     name: &str,

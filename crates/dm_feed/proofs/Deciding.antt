@@ -150,7 +150,6 @@ read_more all rest behind held new d is e r =
       alone = λ ds h. let g = r.alone ds h in goes_on held ds rest behind d e g.tail g.are g.stand;
     })
 
--- nothing is left to read
 pub read_all : (all rest : List (List ℕ)) (held : List Decision) → rest ≡ [] → ReadSoFar all rest held → AreDecisions held all
 read_all all rest held none r =
     subst (λ (ds : List Decision). AreDecisions ds all) (append-nil held) (r.together [] (subst (AreDecisions []) (sym none) tt))

@@ -316,7 +316,6 @@ reads line.Read first texts spelled h = begun Read first texts _ h.0 (alone_none
 
 -- ---- blank lines and comments
 
--- a line begins with a word
 pub record BeginsWithWord (said : Line) : Type 0 where
   pub first : Word
   pub rest : List Part

@@ -55,7 +55,6 @@ lines_joined front rest (inr e) =
     ∙ (lines_behind e.0 rest
     ∙ (ap (λ (ls : List (List ℕ)). ls ++ lines_of rest) (sym (lines_alone e.0)) ∙ ap (λ (l : List ℕ). lines_of l ++ lines_of rest) (sym e.1)))
 
--- one line more
 pub one_line : (line : List ℕ) → IsUnended line → lines_of (ended line) ≡ without_return line ∷ []
 one_line line h = ap lines_of (sym (append-nil (ended line))) ∙ line_more line [] h
 

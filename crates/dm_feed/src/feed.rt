@@ -11,7 +11,7 @@ pub enum FeedStop {
     /// A read failed.
     Fault,
 
-    /// It has more than 262,144 bytes.
+    /// Its reader takes no more of it: 262,144 bytes at most of a feed that is read once, 67,108,864 of one that grows.
     Long,
 }
 

@@ -121,7 +121,6 @@ fn message_of(line: Line) -> Option<Message>
     }
 }
 
-// The message with these words.
 fn message_with(alloc: Global, words: &[u8]) -> Result<Message, MessageFault>
     ensures { ReadsParts (words_of words.now) result }
 {

@@ -8,7 +8,6 @@ use crate::grammar::Line;
 use dm_outside::{Page, Sink, WriteFault};
 use dm_rows::{Decision, Message};
 
-// Prints a decision of an adopted list.
 fn put_decision<K: Sink>(
     sink: &mut K,
     page: &mut Page,
@@ -25,7 +24,6 @@ fn put_decision<K: Sink>(
     }
 }
 
-// Prints the decisions of an adopted list.
 fn put_decisions<K: Sink>(
     sink: &mut K,
     page: &mut Page,
@@ -41,7 +39,6 @@ fn put_decisions<K: Sink>(
     Ok(())
 }
 
-// Prints an adopted list.
 fn put_adopted<K: Sink>(
     sink: &mut K,
     page: &mut Page,

@@ -251,7 +251,6 @@ impl<S: Source> LineReader<S> {
         }
     }
 
-    // Consumes the next line.
     fn next_line(&mut self) -> NextLine
         requires open { self.old.stop ≡ None }
         ensures consumes { ConsumesLine S.left S.faults S.is_sound self.old self.new result }

@@ -12,14 +12,12 @@ use dm_base::limits::LINE;
 use dm_base::{ActId, EventId};
 use dm_rows::Message;
 
-/// Whether there are no words.
 pub(crate) fn are_none(words: &[u8]) -> bool
     ensures { result ≡ (length (words_of words.now) == 0) }
 {
     next_word(words).is_none()
 }
 
-// The words are one id.
 fn one_id(words: &[u8]) -> Option<u32>
     ensures { result ≡ only id_in (words_of words.now) }
 {
@@ -30,7 +28,6 @@ fn one_id(words: &[u8]) -> Option<u32>
     id_of(id)
 }
 
-// The words are one value.
 fn one_value(words: &[u8]) -> Option<u64>
     ensures { result ≡ only value_in (words_of words.now) }
 {
@@ -41,7 +38,6 @@ fn one_value(words: &[u8]) -> Option<u64>
     value_of(value)
 }
 
-// The words are an id and a value.
 fn id_and_value(words: &[u8]) -> Option<(u32, u64)>
     ensures { result ≡ two id_in value_in (words_of words.now) }
 {
@@ -49,7 +45,6 @@ fn id_and_value(words: &[u8]) -> Option<(u32, u64)>
     Some((id_of(id)?, one_value(rest)?))
 }
 
-// The words are two ids.
 fn two_ids(words: &[u8]) -> Option<(u32, u32)>
     ensures { result ≡ two id_in id_in (words_of words.now) }
 {

@@ -21,7 +21,6 @@ pub(crate) fn cut(bytes: &[u8], at: u8) -> Option<(&[u8], &[u8])>
     Some((&bytes[..place], &bytes[place + 1..]))
 }
 
-// What is left behind the spaces in front.
 fn skip_spaces(bytes: &[u8]) -> &[u8]
     ensures same { words_of result.now ≡ words_of bytes.now }
     ensures word { BeginsWord result.now }

@@ -30,7 +30,6 @@ fn read_feed(alloc: Global, bytes: &[u8], piece: usize, fails: &[u64]) -> Result
     Ok(Told { due, stop: None })
 }
 
-// So many bytes, and then a text.
 fn bytes_before(alloc: Global, byte: u8, count: usize, text: &[u8]) -> Result<Vec<u8>, AllocError> {
     let mut bytes = Vec::new(alloc);
     for _ in 0..count {

@@ -25,7 +25,6 @@ fn print_row<K: Sink>(sink: &mut K, page: &mut Page, row: (u32, u64)) -> Result<
     )
 }
 
-// All the rows.
 fn print_rows<K: Sink>(sink: &mut K, page: &mut Page, rows: &[(u32, u64)]) -> Result<(), WriteFault>
     ensures { Prints K.taken K.faults sink.old sink.new page.old page.new result (flat_map row_text rows.now) }
 {

@@ -21,7 +21,6 @@ module _ {V F : Type 0} (step : List V → Place → Result (V × Place) F → T
       goes_on (step before) (λ v. Times total step (before ++ v ∷ [])) p one.behind one.value answer one.told
       (times_then n k total (before ++ one.value ∷ []) mid one.behind q answer (omega (arith, e)) one.then more)
 
-  -- one step more
   pub times_more : (n total : ℕ) (before mid : List V) (p q r : Place) (v : V) → n + 1 ≡ total → Times n step before p (Ok (mid, q)) → step mid q (Ok (v, r)) →
       Times total step before p (Ok (mid ++ v ∷ [], r))
   times_more n total before mid p q r v e one last =

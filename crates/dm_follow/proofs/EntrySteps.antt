@@ -82,7 +82,6 @@ module _ (net : Net) (start : RowsValue) (penalty feeds entries : ℕ) (history 
   entry_misshapen low legal none =
       fails kind.Form tt low legal (rules_stop IsEntryLine (IsNextEntry net start feeds history) kind.Entry (λ (s : Numbered). s.entry) (here []) (behind []) line (stands []) none)
 
-  -- it is not the next
   pub entry_broken : penalty ≤ largest_cost → IsLegal net start history → (said : Numbered) → IsEntryLine said line → (IsNextEntry net start feeds history said → ⊥) →
       HasFailed net start penalty history with_feed (n + 5) kind.Entry
   entry_broken low legal said spelled breaks =

@@ -87,6 +87,5 @@ journal_stays net start penalty =
     then_stay (TellsHeader penalty) (λ (h : Header). Times {F = Halt} h.entries (TellsEntry net start h.feeds) []) (header_stays penalty)
     (λ h. times_stay (TellsEntry net start h.feeds) (λ before. rules_stay IsEntryLine (IsNextEntry net start h.feeds before) kind.Entry (λ said. said.entry)) h.entries [])
 
--- a front fault stays one
 pub fault_stays : (net : Net) (start : RowsValue) (penalty : ℕ) (bytes more : List ℕ) (k : FollowKind) (line : ℕ) → IsFrontFault net start penalty bytes k line → IsFrontFault net start penalty (bytes ++ more) k line
 fault_stays net start penalty bytes more k line fault = (journal_stays net start penalty).break (at_start bytes) k line more fault

@@ -276,7 +276,6 @@ module _ (net : Net) (start : RowsValue) (penalty : ℕ) (history : List Entry) 
       is_past false test whole less = let past = ltb-false (length history) entries test in omega (arith, past, less)
   whole_more (Failed line k) count whole at = absurd cc
 
--- the same line goes on
 goes_with : (old new : FollowerValue) (xs part : List ℕ) → new.table ≡ old.table → new.stage ≡ old.stage → new.part ≡ part → new.taken ≡ old.taken + length xs
     → ((bytes : List ℕ) → IsReadTo old.table.network old.table.start old.table.penalty old.table.history old.stage old.part bytes
     → IsReadTo old.table.network old.table.start old.table.penalty old.table.history old.stage part (bytes ++ xs)) → Goes old new xs

@@ -44,7 +44,6 @@ fn version_behind(line: &[u8]) -> Option<Stage>
     }
 }
 
-/// The penalty is this one.
 fn penalty_behind(penalty: u64, line: &[u8]) -> Option<Stage>
     ensures { StepsHeader penalty Stage.Penalty line.now result }
 {

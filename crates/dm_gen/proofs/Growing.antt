@@ -21,7 +21,6 @@ more_lists f before now new n grown was =
     grown ∙ ap (λ r. r ++ f n) was ∙ flat_map_more f before (range_with_len 0 n) n
     ∙ ap (λ r. before ++ flat_map f r) (sym (range_more n))
 
--- two items at a time
 pub more_pairs : {X : Type 0} → (f : ℕ → List X) (before now mid new : List X) (n : ℕ) (x y : X) → mid ≡ now ++ x ∷ []
     → new ≡ mid ++ y ∷ [] → x ∷ y ∷ [] ≡ f n → now ≡ before ++ flat_map f (range_with_len 0 n)
     → new ≡ before ++ flat_map f (range_with_len 0 (n + 1))
@@ -36,7 +35,6 @@ two_behind now mid new x y a b second first one other =
     second ∙ ap (λ r. r ++ y ∷ []) first ∙ append_assoc now (x ∷ []) (y ∷ []) ∙ ap (λ v. now ++ v ∷ y ∷ []) one
     ∙ ap (λ v. now ++ a ∷ v ∷ []) other
 
--- one item at a time
 pub more_items : {X : Type 0} → (f : ℕ → X) (before now new : List X) (n : ℕ) (x : X) → new ≡ now ++ x ∷ [] → x ≡ f n
     → now ≡ before ++ map f (range_with_len 0 n) → new ≡ before ++ map f (range_with_len 0 (n + 1))
 more_items f before now new n x grown is was =
@@ -44,7 +42,6 @@ more_items f before now new n x grown is was =
     ∙ append_assoc before (map f (range_with_len 0 n)) (f n ∷ [])
     ∙ ap (λ r. before ++ r) (sym (map-range_with_len_more f 0 n n (omega arith)))
 
--- two draws more
 pub one_draw : (number n : ℕ) → next_state (state_after number (2 * n)) ≡ state_after number (2 * n + 1)
 one_draw number n = let e : suc (2 * n) ≡ 2 * n + 1 = omega arith in ap (λ m. state_after number m) e
 
@@ -57,7 +54,6 @@ next_draws number n old new moved was =
     moved ∙ ap (λ s. next_state (next_state s)) was ∙ two_draws number n
     ∙ (let e : 2 * n + 2 ≡ 2 * (n + 1) = omega arith in ap (λ m. state_after number m) e)
 
--- the line of two states
 abbrev line_of : ℕ → ℕ → ℕ → Line
 line_of trains one two = Say (DelayEvent (record { 0 = drawn_below (20 * trains) one + 1 }) (drawn_below 900 two + 1))
 
@@ -68,7 +64,6 @@ line_drawn number trains n old new line said moved was =
     said ∙ ap (λ s. line_of trains (next_state old) s) (moved ∙ ap (λ s. next_state (next_state s)) was ∙ two_draws number n)
     ∙ ap (λ s. line_of trains s (state_after number (2 * n + 2))) (ap next_state was ∙ one_draw number n)
 
--- all lines
 pub feed_whole : (number trains n : ℕ) (lines : List Line) → n ≡ 500 → lines ≡ map (feed_line number trains) (range_with_len 0 n)
     → lines ≡ feed_of number trains
 unfolding feed_of

@@ -34,7 +34,6 @@ fn numbered(alloc: Global, links: &[Link]) -> Result<Vec<ActRow>, AllocError>
     Ok(rows)
 }
 
-/// The activities of so many trains.
 #[tactic(auto, unfolding(crate::specs::Activities::activities_of))]
 pub(crate) fn activities_of(alloc: Global, trains: u32) -> Result<Vec<ActRow>, AllocError>
     requires { trains ≤ 2000 }

@@ -5,7 +5,6 @@ ghost use Rattle.dm_gen.specs.Trains.{departure_id, arrival_id, departure, arriv
 use dm_base::{EventId, EventKind, EventRow, StopId};
 use std::alloc::{AllocError, Global};
 
-/// The id of the departure of a leg.
 pub(crate) fn departure_id(train: u32, leg: u32) -> EventId
     requires of_train { train < 2000 }
     requires of_leg { leg < 10 }
@@ -14,7 +13,6 @@ pub(crate) fn departure_id(train: u32, leg: u32) -> EventId
     EventId(20 * train + 2 * leg + 1)
 }
 
-/// The id of the arrival of a leg.
 pub(crate) fn arrival_id(train: u32, leg: u32) -> EventId
     requires of_train { train < 2000 }
     requires of_leg { leg < 10 }
@@ -64,7 +62,6 @@ fn put_train(events: &mut Vec<EventRow>, train: u32) -> Result<(), AllocError>
     Ok(())
 }
 
-/// The events of so many trains.
 #[tactic(auto, unfolding(crate::specs::Trains::events_of))]
 pub(crate) fn events_of(alloc: Global, trains: u32) -> Result<Vec<EventRow>, AllocError>
     requires { trains ≤ 2000 }

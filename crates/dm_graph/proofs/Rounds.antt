@@ -87,7 +87,6 @@ join_of-is g x e (suc k) =
       | inr other ↦ rw other (join_of-is g x e k)
     ]
 
--- the join over all arcs
 join_of-is_join : (g : Graph) (x : ℕ → ℕ) (e : ℕ) → IsJoin g x e (join_of g x e g.shape.arcs)
 join_of-is_join g x e = record {
   above = join_of-above g x e g.shape.arcs;

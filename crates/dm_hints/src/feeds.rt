@@ -260,7 +260,6 @@ fn tell_stops<R: Eprint>(rt: &R, rows: &[EventRow], stops: &[u32]) -> io::Result
     Ok(())
 }
 
-/// Whether an event has this stop.
 fn has_event(rows: &[EventRow], stop: u32) -> bool {
     rows.iter().any(|row| row.stop.0 == stop)
 }

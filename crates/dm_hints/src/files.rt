@@ -72,7 +72,6 @@ pub fn value_or<'a>(name: &str, words: &'a [String], other: &'a str) -> &'a str 
     other
 }
 
-/// The name of a file of the folder.
 fn name_in_folder<'a>(files: &FileWords<'a>, file: InputFile) -> &'a str {
     match file {
         InputFile::Events => "Events-expanded.giv",

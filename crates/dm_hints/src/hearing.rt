@@ -246,7 +246,6 @@ impl Heard {
         }
     }
 
-    /// Hears an answer.
     fn hear_answer(&mut self, answer: &[u8]) {
         match reason_in(answer) {
             [] => {}

@@ -76,7 +76,6 @@ fn tell_end<R: Eprint + Files<File = File> + AllocGlobal>(
     }
 }
 
-/// How many bytes the files of a server have.
 fn bytes_of_server<R: Files<File = File> + AllocGlobal>(rt: &R, server: &ServeWords<'_>) -> u64 {
     let store = server.store;
     let journal = match format!(in rt.alloc(); "{store}/journal") {
@@ -105,7 +104,7 @@ fn tell_changed<'a, R: Eprint>(rt: &R, number: &'a str) -> io::Result<()> {
             Piece::Text("feed "),
             Piece::Text(number),
             Piece::Text(
-                " was cut, replaced or changed; `tools/refill.py` puts its lines back from reply-",
+                " was cut, replaced or changed; `dispatch-tools refill` puts its lines back from reply-",
             ),
             Piece::Text(number),
             Piece::Text(".txt of the store"),

@@ -46,7 +46,6 @@ pub fn say_memory<R: Eprint>(rt: &R, bytes: u64) -> io::Result<()> {
     )
 }
 
-/// How many bytes the files of the folder have.
 fn folder_bytes<R: Files<File = File> + AllocGlobal>(rt: &R, files: &FileWords<'_>) -> u64 {
     file_bytes(rt, files, InputFile::Events)
         .saturating_add(file_bytes(rt, files, InputFile::Activities))
@@ -74,7 +73,6 @@ fn file_bytes<R: Files<File = File> + AllocGlobal>(
     }
 }
 
-/// How many bytes the feeds have.
 fn feed_bytes<R: Files<File = File>>(rt: &R, feeds: Names<'_>) -> u64 {
     let mut bytes: u64 = 0;
     let mut rest = feeds;

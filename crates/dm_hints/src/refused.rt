@@ -209,7 +209,6 @@ fn largest(column: Column) -> u64 {
     }
 }
 
-/// The types of a file.
 fn types_of(file: InputFile) -> &'static str {
     match file {
         InputFile::Activities => "drive, wait, turnaround, change and headway",

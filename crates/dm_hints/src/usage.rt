@@ -52,7 +52,6 @@ pub fn tell_usage<R: Eprint>(rt: &R, words: &[String]) -> io::Result<()> {
     tell_names(rt, table, rest)
 }
 
-/// Whether an option is given by one of the words.
 fn is_given(option: OptionTable, words: &[String]) -> bool {
     words
         .iter()

@@ -34,7 +34,6 @@ module _ (net : Net) (start : RowsValue) (entries : List Entry) (n : ℕ) (entry
       ∙ ap (λ (e : Entry). after net (rows_at net start entries n) e.message) here
 
   module _ (old : RowsValue) (known : Bool) (done : IsReplayedTo net start entries n old known) where
-    -- one entry more
     pub entered_next : (new : RowsValue) (free : Bool) → Enters net old new n entry.message free →
         IsReplayedTo net start entries (n + 1) new free
     entered_next new free enters =

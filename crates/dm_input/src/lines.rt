@@ -52,7 +52,6 @@ fn print_ids<K: Sink>(sink: &mut K, page: &mut Page, ids: &[ActId]) -> Result<()
     Ok(())
 }
 
-/// Prints the ids of a cycle.
 fn print_cycle<K: Sink>(sink: &mut K, page: &mut Page, ids: &[ActId]) -> Result<(), WriteFault>
     ensures { Prints K.taken K.faults sink.old sink.new page.old page.new result (cycle_text ids.now) }
 {
@@ -184,7 +183,6 @@ fn print_record<K: Sink>(sink: &mut K, page: &mut Page, fault: FileFault) -> Res
     print_kind(sink, page, fault.kind)
 }
 
-/// Prints the line of what is refused.
 fn print_refused_line<K: Sink>(
     sink: &mut K,
     page: &mut Page,

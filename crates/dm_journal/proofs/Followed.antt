@@ -37,7 +37,6 @@ module _ {S : Type 0} (left : S → Option (List ℕ)) (is_sound : S → Type 0)
   following_none s f size piece =
       record { bytes = []; consumed = Consumes-nil (left s); counted = refl; short = omega arith; sound = λ h. h; piece = piece; gives = none_more f }
 
-  -- one piece more
   pub following_more : (a b c : S) (old mid new : FollowerValue) (broken now : Option BrokenLine) (count size taken : ℕ) → Following left is_sound a b old mid broken count size → FollowsPiece (left b) (left c) mid broken new now taken →
       (is_sound b → is_sound c) → count + taken ≤ TEXT + 1 → Following left is_sound a c old new now (count + taken) size
   following_more a b c old mid new broken now count size taken f p sound short = record {

@@ -13,7 +13,6 @@ use Rattle.dm_network.proofs.EventRows.{leads_into, stands_into}
 use Rattle.dm_journey.specs.declared.reaching.Reach.{Reach}
 use Rattle.dm_journey.specs.Inside.Reaching.{reach_at, changes_of, IsBeginning, IsWithin, IsWithMore, ComesAlong, ComesBy, Comes, IsReachedWell, IsReachedAlong, IsOneOfRow, ComesByRow, IsFromRow, HasReached, HasReachedAll}
 
--- one more place of a row
 one_of_more : (net : Net) (flags : List Bool) (reached : List (Option Reach)) (row : List ℕ) (k n : ℕ) (by : Option ℕ) →
     IsOneOfRow net flags reached row k n by → IsOneOfRow net flags reached row (k + 1) n by
 one_of_more net flags reached row k n None one = one

@@ -5,7 +5,6 @@ use Rattle.dm_base.specs.declared.ids.StopId.{StopId}
 use Rattle.dm_graph.proofs.Windows.{kept_at, StandsAt, stands_in}
 use Rattle.dm_network.specs.Net.{Net, event_at, places_at}
 
--- an event at the stop
 pub record IsAtStop (net : Net) (stop : StopId) (e : ℕ) : Type 0 where
   pub is_event : e < length net.events
   pub at_stop : (event_at net e).stop.0 ≡ stop.0

@@ -42,7 +42,6 @@ module _ (net : Net) (begins usable : ℕ → Bool) (ranks : List ℕ) (reached 
   more_by_one (Some t) None cost more m n exactly with_more along = absurd exactly
   more_by_one (Some t) (Some r) cost more m n exactly with_more along = omega arith
 
-  -- one step back
   pub traced_back : (event last a n : ℕ) (walk : List ℕ) → by_of (reach_at reached event) ≡ Some a → IsTracedFrom net usable reached event last walk n →
       IsTracedFrom net usable reached (activity_at net a).tail last (a ∷ walk) n
   traced_back event last a n walk is traced =

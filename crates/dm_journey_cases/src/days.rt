@@ -150,7 +150,6 @@ fn is_end_met(net: &Network, times: &Times, query: Asked, answer: &[Journey], en
         .any(|j| j.changes <= end.changes && j.arrival <= arrival)
 }
 
-/// Whether each journey of an answer is a walk.
 fn are_walks(net: &Network, rows: &Rows, times: &Times, query: Asked, answer: &[Journey]) -> bool
     requires sized { IsSized net.now rows.now }
     requires as_many { length times.now ≡ length net.now.events }
@@ -216,7 +215,6 @@ fn ends_well(
     }
 }
 
-/// Whether an event is an arrival at a stop.
 fn arrives(net: &Network, stop: StopId, event: usize) -> bool
     requires { event < length net.now.events }
 {

@@ -81,7 +81,6 @@ fn answer_on<R: Print + AllocGlobal>(rt: &R, net: &Network, query: Query) -> io:
     }
 }
 
-/// The network of a day.
 fn network_on(alloc: Global, day: Day) -> Result<Network, Failure> {
     let sample = if day == Day::Direct {
         Sample::Direct
@@ -91,7 +90,6 @@ fn network_on(alloc: Global, day: Day) -> Result<Network, Failure> {
     sample.network(alloc)
 }
 
-/// The journeys of a query.
 fn found(alloc: Global, net: &Network, query: Query) -> Result<Vec<Journey>, Failure> {
     let (_name, day, (from, to), after, most) = query;
     let mut rows = rows_on_time(alloc, net)?;
@@ -129,7 +127,6 @@ fn happen(alloc: Global, net: &Network, rows: &mut Rows, day: Day)
     }
 }
 
-/// Prints journeys.
 fn print_all<R: Print>(rt: &R, net: &Network, found: &[Journey]) -> io::Result<()> {
     let count = found.len();
     println!(rt; "journeys {count}")?;

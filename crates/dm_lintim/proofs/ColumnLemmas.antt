@@ -83,7 +83,6 @@ columns_push known ws cs new w good (c, named, is_new, room, is) =
       few = omega (arith, length-append cs (c ∷ []));
     })
 
--- one word more was read
 pub read_more : (known : List Column) (words left : List (List ℕ)) (w : List ℕ) (cs new : List (Option Column))
     → HasRead known words (w ∷ left) cs → AddsColumn known cs w new → HasRead known words left new
 read_more known words left w cs new read adds = record {

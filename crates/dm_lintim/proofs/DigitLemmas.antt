@@ -54,7 +54,6 @@ milli_of_digits text digits =
     let all = take_all (length text) text (omega arith) in
     rw (milli_value_is text (length text) (omega arith) (λ k d low high. digits.digits k d high) (rw none tt), none, all) (omega arith)
 
--- so many digits are few
 pub few_digits : (i n : ℕ) → i ≤ n → 10 ^ i ≤ 10 ^ n
 few_digits i n h = pow-le-pow_right {n = 10} (omega arith) {i = i} {j = n} h
 

@@ -44,7 +44,6 @@ module _ {R : Type 0} (K : List ℕ → Type 0) (IsRow : List (Option Column) �
   good_push [] r all one = (one, tt)
   good_push (q ∷ rs) r all one = (all.0, good_push rs r all.1 one)
 
-  -- one record more
   pub rows_more : (all left : List (List (List ℕ))) (r : List (List ℕ)) (xs new : List R)
       → HasRows K IsRow cs all (r ∷ left) xs → AddsRow K IsRow cs (map cell_of r) xs new → HasRows K IsRow cs all left new
   rows_more all left r xs new has (inl passed) =

@@ -142,7 +142,6 @@ one_more n xs more None e = sym e
 one_more n xs more (Some p) e =
     ap (λ (rs : List (List (List ℕ))). p.0 ∷ rs) (more p.1 p.2 e.1 e.2) ∙ sym e.0
 
--- all records of a text
 records_from_are : (n : ℕ) (s : State) (xs : List ℕ) → IsBetween s → length xs < n → records_from plain_config n s xs ≡ split_records xs
 unfolding records_from
 records_from_are zero s xs b h = absurd (omega arith)

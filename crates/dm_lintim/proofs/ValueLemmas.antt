@@ -56,7 +56,6 @@ module _ {K : Type 0} (Names : K → List ℕ → Type 0) where
         | inr e ↦ let none : Some kind ≡ None = rw e at puts in cc
       ]
 
-  -- one cell more
   pub values_more : (cs : List (Option Column)) (fs : List (List ℕ)) (k : Option Column) (ks : List (Option Column)) (f : List ℕ) (rest : List (List ℕ))
       (old new : List (Option ℕ)) (old_kind new_kind : Option K)
       → LeadsTo Names old old_kind (k ∷ ks) (f ∷ rest) cs fs → PutsCell Names k f old old_kind new new_kind → LeadsTo Names new new_kind ks rest cs fs

@@ -62,7 +62,6 @@ pub enum ColumnFault {
 /// The largest number of an event, an activity or a stop.
 pub(crate) const LARGEST_ID: u64 = 4_294_967_295;
 
-/// How many columns there are.
 pub(crate) const COLUMNS: usize = 11;
 
 impl Column {
@@ -186,7 +185,6 @@ impl Columns {
         self.events.as_slice()
     }
 
-    /// The columns of the activities.
     pub(crate) fn activities(&self) -> &[Option<Column>]
         ensures columns { result.now ≡ self.now.activities }
         ensures required { HasAll result.now activity_required }

@@ -10,7 +10,6 @@ fn is_blank(byte: u8) -> bool
     byte == b' ' || byte == b'\t'
 }
 
-// How many blanks stand at the front.
 fn front_blanks(text: &[u8]) -> usize
     ensures count { result ≡ prefix_len is_blank text.now }
     ensures within { result ≤ length text.now }
@@ -22,7 +21,6 @@ fn front_blanks(text: &[u8]) -> usize
     count
 }
 
-// The place after the last byte that is no blank.
 fn end_without_blanks(text: &[u8]) -> usize
     ensures { result + suffix_len is_blank text.now ≡ length text.now }
 {
@@ -57,7 +55,6 @@ fn unquoted(text: &[u8]) -> &[u8]
     }
 }
 
-/// The cell of a field.
 pub(crate) fn cell_of(field: &[u8]) -> &[u8]
     ensures { result.now ≡ cell_of field.now }
 {

@@ -76,7 +76,6 @@ impl Layout {
     }
 }
 
-// Whether a column is among these.
 fn has(columns: &[Option<Column>], column: Column) -> bool
     ensures { result ≡ has_column columns.now column }
 {

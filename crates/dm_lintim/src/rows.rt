@@ -160,7 +160,6 @@ fn read_cells<R: Row>(
     Ok(values)
 }
 
-// The row of a record.
 fn read_row<R: Row>(columns: &[Option<Column>], fields: &ByteRecord) -> Result<R, FileKind>
     requires columns { HasAll columns.now R.required }
     requires few { length (fields_of fields.now) < 2 ^ 32 }

@@ -8,7 +8,6 @@ ghost use Rattle.dm_lintim.specs.declared.columns.Column.{Column};
 use crate::columns::{Column, ColumnFault};
 use crate::layout::{Layout, MOST};
 
-// The column that a word names among the known ones.
 fn column_named(known: &[Column], word: &[u8]) -> Option<Column>
     ensures found { IfSome result (λ c. Names known.now word.now (Some c)) }
     ensures none { IfNone result ((c : Column) → Names known.now word.now (Some c) → ⊥) }

@@ -33,7 +33,6 @@ chosen false x y z w one other = other refl
 
 module _ (net : Net) (order : OrderValue) (given : ConstraintsValue) (fixed : List Bool) (in_order : HoldsUnfixed net order given fixed) (a : ℕ)
     (lt : a < length net.activities) (below : a < length given.held) where
-  -- an activity is let go
   pub without_one : (b : ℕ) → b < length net.activities → held_without order.held (a ∷ []) b ≡ is_held_on net (record given { held = slice_set given.held a false }) fixed b
   without_one b within =
       elim (cases_eq b a) [

@@ -30,7 +30,6 @@ least_at_rest net live is rest = record {
       (λ e lt. is.marked.settled e lt (rest e (omega arith)));
 }
 
--- where no event is fixed
 pub none_of : (n : ℕ) → NoneFixed (replicate n false)
 none_of n i = elim (cases_lt i n) [
   | inl below ↦ get_or-replicate n i false false below

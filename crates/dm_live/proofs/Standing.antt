@@ -16,7 +16,6 @@ use Rattle.dm_marks.specs.Marked.{is_marked}
 use Rattle.dm_live.specs.Live.{is_fixed, HoldsUnfixed, Stands, FixedStand, AreMarked}
 use Rattle.dm_live.specs.Inside.Placing.{ArePlaced}
 
--- one flag that is set
 pub flag_here : (fixed : List Bool) (i : ℕ) (flag : Bool) → i < length fixed → is_fixed (slice_set fixed i flag) i ≡ flag
 flag_here fixed i flag below = get_or-set_same fixed i flag false below
 

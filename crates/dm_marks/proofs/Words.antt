@@ -267,7 +267,6 @@ first_later marks words groups from place are near first = record {
   ];
 }
 
--- or none
 pub none_later : (marks : List Bool) (words groups : List ℕ) (from : ℕ) → AreBits marks words × AreCovered words groups → NoBitBetween words from (from / 64 * 64 + 64) →
     NoneFrom marks (from / 64 * 64 + 64) → NoneFrom marks from
 none_later marks words groups from are near none k at = elim (cases_lt k (from / 64 * 64 + 64)) [

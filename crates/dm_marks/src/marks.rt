@@ -202,7 +202,6 @@ fn take_in_word(words: &mut [u64], from: usize) -> Option<usize>
     Some(place)
 }
 
-/// Sets a bit.
 fn set_bit(words: &mut [u64], place: usize)
     requires { place / WORD < length words.old }
     ensures { Turns words.old words.new place 1 }

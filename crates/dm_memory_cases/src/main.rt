@@ -5,8 +5,8 @@
 //! computes times. Where a call is refused memory, what it changes has to be as before. The same call is then made again, and has
 //! to answer. For each case the program prints `NAME ok`, or after how many steps it came out otherwise.
 //!
-//! With ample memory nothing is refused. `bench/memory.py` refuses each call for memory in turn, and the printed text has to stay
-//! the same. The program stands on the crates that it calls and on dm_samples for networks, and promises nothing.
+//! With ample memory nothing is refused. `dispatch-tools memory` refuses each call for memory in turn, and the printed text has
+//! to stay the same. The program stands on the crates that it calls and on dm_samples for networks, and promises nothing.
 #![tactic(auto)]
 
 mod case;

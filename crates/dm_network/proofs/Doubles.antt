@@ -66,7 +66,6 @@ pub record RisesTo (xs : List ℕ) (i least : ℕ) : Type 0 where
   pub front : FrontRises xs i
   pub below : (k : ℕ) → k < i → get_or xs k 0 < least
 
--- one number more
 pub rises_more : {X : Type 0} (number : X → ℕ) (items : List X) (i least : ℕ) (x : X) (n : ℕ) → RisesTo (map number items) i least → i < length items →
     x ≡ get_or items i x → n ≡ number x → least ≤ n → RisesTo (map number items) (i + 1) (n + 1)
 rises_more number items i least x n rises lt is value le =

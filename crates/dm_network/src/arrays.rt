@@ -171,7 +171,6 @@ fn binds(events: &[Event], pairs: &[Pair], activity: &Activity) -> bool
     }
 }
 
-/// The event of a pair that is first at the start.
 fn first_at_start(events: &[Event], pair: &Pair) -> usize
     requires small { pair.now.small < length events.now }
     requires large { pair.now.large < length events.now }

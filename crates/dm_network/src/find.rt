@@ -77,7 +77,6 @@ fn place_of<T: Numbered>(items: &[T], number: u32) -> Option<usize>
     place_by_halves(items, number)
 }
 
-/// The place of the item with this number, by halving.
 fn place_by_halves<T: Numbered>(items: &[T], number: u32) -> Option<usize>
     requires { IsStrictlyIncreasing (map T.number items.now) }
     ensures { result ≡ position (λ x. T.number x == number) items.now }

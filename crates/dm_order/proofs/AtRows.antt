@@ -34,7 +34,6 @@ module _ (net : Net) (rows : RowsValue) (held : List Bool)
       ap (λ (fs : List Bool). is_held fs a) held_are
       ∙ get_or-map-range_with_len (is_ordered net rows) 0 (length net.activities) a a false lt (omega arith)
 
-  -- a cycle of what is held is one of the rows
   pub held_cycle_is_of_rows : (cycle : List ℕ) → IsCycleOf net (is_held held) cycle → IsCycle net rows cycle
   held_cycle_is_of_rows cycle is =
       cycle_carries (arcs_of net (is_held held)) (active_arcs net rows)
@@ -73,7 +72,6 @@ module _ (net : Net) (rows : RowsValue) (held : List Bool)
         chain_is_held (activity_at net a).head rest j (enters_no_passed a is.0.is_held) is.2,
       )
 
-  -- a cycle of the rows is one of what is held
   rows_cycle_is_held : (cycle : List ℕ) → IsCycle net rows cycle → IsCycleOf net (is_held held) cycle
   rows_cycle_is_held [] is = is
   rows_cycle_is_held (a ∷ rest) is =

@@ -74,7 +74,6 @@ module _ (held : List Bool) (arcs : List ℕ) (within : All (λ a. a < length he
 
 -- ---- activities that are tried
 
--- activities have flags
 pub arcs_have_flags : (net : Net) (order : OrderValue) (arcs : List ℕ) → IsOrderOf net order → All (λ a. a < length net.activities) arcs →
     All (λ a. a < length order.held) arcs
 arcs_have_flags net order arcs is are = λ k d lt. let w = are k d lt in let n = is.flag_count in omega arith

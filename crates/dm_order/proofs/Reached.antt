@@ -71,7 +71,6 @@ module _ (net : Net) (held : List Bool) (ranks : List ℕ) (at high : ℕ) where
   followed_not causes a is =
       ap (λ (b : Bool). if b then slice_set causes (slice_index ranks (activity_at net a).head) (Some a) else causes) is
 
-  -- one activity
   record FollowsOne (a : ℕ) (before now : List (Option ℕ)) : Type 0 where
     pub as_many : length now ≡ length before
     pub kept : (k : ℕ) → is_reached before k ≡ true → is_reached now k ≡ true

@@ -235,7 +235,6 @@ fn put_barred<K: Sink>(sink: &mut K, page: &mut Page, decision: Decision) -> Res
     }
 }
 
-// Prints the activities of a cycle.
 fn put_cycle<K: Sink>(sink: &mut K, page: &mut Page, ids: &[ActId]) -> Result<(), WriteFault>
     ensures { Prints K.taken K.faults sink.old sink.new page.old page.new result (cycle_text ids.now) }
 {

@@ -71,7 +71,6 @@ impl<'a> Model for MemShelf<'a> {
     ghost invariant = { λ shelf. All (λ file. 0 < file.piece) shelf.files.now };
 }
 
-/// The file of this name.
 fn find_file<'a>(files: &'a [MemFile<'a>], name: &str) -> Option<&'a MemFile<'a>>
     ensures { option_copied result ≡ file_named files.now name.now }
 {

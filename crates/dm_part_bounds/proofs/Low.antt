@@ -127,7 +127,6 @@ tree_is_low task is shape proper whole facts ds c h =
     is.base (has_base task is ds h.decides h.allowed)
 
 module _ (task : Task) (is : IsTask task) where
-  -- a part
   module _ (part : Part) (true_part : IsTruePart task part) where
     from_tree : (n : Node) → Contains (preorder true_part.shape) n → (x : PartNode) × Contains part.tree x × (as_node x ≡ n)
     from_tree n h = from_map as_node part.tree n (subst (λ ns. Contains ns n) true_part.in_preorder h)

@@ -135,7 +135,6 @@ module _ (net other : Net) (d : DifferInWeights net other) where
   pub same_with : (rows : RowsValue) (ds : List Decision) → with_decisions net rows ds ≡ with_decisions other rows ds
   same_with rows ds = ap (λ (f : Decision → Option Flip). fold (λ set e. with_flip set (f e)) rows ds) (agreeing same_flip)
 
-  -- what binds
   same_binds : (rows : RowsValue) (k : ActKind) (p : Option ℕ) (tail a : ℕ) → binds net rows k p tail a ≡ binds other rows k p tail a
   same_binds rows Drive p tail a = refl
   same_binds rows Wait p tail a = refl

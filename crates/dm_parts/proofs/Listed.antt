@@ -63,7 +63,6 @@ module _ {K : Type 0} (number : K → ℕ) (find : K → Option ℕ) (key : ℕ 
   abbrev has : List K → ℕ → Bool
   has xs i = list_any (λ e. eqb (number e) (key i)) xs
 
-  -- what one id adds
   one_adds : (x : K) → IsFound x → sum_by (λ i. cond (eqb (number x) (key i)) (f i) 0) (range_with_len 0 n) ≡ at_place f (find x)
   one_adds x h =
       let g : ℕ → ℕ = λ i. cond (eqb (number x) (key i)) (f i) 0 in

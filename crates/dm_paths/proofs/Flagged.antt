@@ -4,7 +4,6 @@ use Rattle.std.proofs.lemmas.Bool.{cases_lt}
 use Rattle.std.proofs.lemmas.List.{length-append, get_or_append_left, get_or_push}
 use Rattle.dm_paths.specs.Flags.{AreFlags}
 
--- one flag more
 pub one_flag_more : (test : ℕ → Bool) (n : ℕ) (flags more : List Bool) (v : Bool) → AreFlags test n flags → v ≡ test n → more ≡ flags ++ v ∷ [] → AreFlags test (n + 1) more
 one_flag_more test n flags more v was is more_is =
     let size = was.size in

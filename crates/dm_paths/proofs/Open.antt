@@ -123,7 +123,6 @@ open_list net rows path d list is =
       | inr here ↦ subst (λ x. Contains (free_choices_of net rows) (choice_of x)) here is.free
     ])
 
--- what is violated is open
 pub violated_is_open : (net : Net) → IsNetwork net → (rows : RowsValue) (path : List Decision) (x : List ℕ) (c : Choice) → IsViolated net rows path x c → IsOpen net rows path c
 violated_is_open net network rows path x c among =
     elim (Contains-append_cases (map (change_choice net) (filter (is_violated_change net rows path x) (range_with_len 0 (length net.activities))))

@@ -50,7 +50,6 @@ reaches_rows net rows (Keep a) sized r = let e = sized.kept in omega (arith, e, 
 reaches_rows net rows (Drop a) sized r = let e = sized.kept in omega (arith, e, r)
 reaches_rows net rows (First p small) sized r = let e = sized.small_first in omega (arith, e, r)
 
--- the rows have the decision
 abbrev pub HasDecision : Net → RowsValue → Decision → Type 0
 HasDecision net r d = is_set r (flip_named net d) ≡ true
 

@@ -18,7 +18,6 @@ pub fn differs_from(net: &Network, rows: &Rows, decision: Decision) -> bool
     !is_set(net, rows, flip_of(net, rows, decision))
 }
 
-/// Whether the rows have what a flip sets.
 fn is_set(net: &Network, rows: &Rows, flip: Flip) -> bool
     requires sized { IsSized net.now rows.now }
     requires reaches { ReachesNet net.now flip }

@@ -58,7 +58,6 @@ pub struct Day {
 }
 
 impl Day {
-    /// The day of these rows.
     pub fn new(alloc: Global, net: &Network, rows: &Rows, penalty: u64) -> Result<Day, AllocError>
         requires { IsSized net.now rows.now }
     {
@@ -157,7 +156,6 @@ impl Day {
             .any(|line| line.id == id && line.passed.is_some())
     }
 
-    /// The id of the event at a place.
     pub fn event_id(&self, place: usize) -> EventId {
         match self.events.get(place) {
             Some(line) => line.id,

@@ -17,7 +17,6 @@ const NODES: u64 = 8;
 
 const PENALTY: u64 = 10;
 
-/// The message of a number.
 fn message(number: u32) -> Message {
     match number {
         0 => Message::DelayEvent(EventId(1), 60),

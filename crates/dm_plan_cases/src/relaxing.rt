@@ -254,12 +254,10 @@ fn first_by(path: &[Decision], one: EventId, other: EventId) -> Option<EventId> 
     None
 }
 
-/// Whether a path decides a choice.
 pub fn decides(path: &[Decision], choice: Choice) -> bool {
     path.iter().any(|decision| choice_of(*decision) == choice)
 }
 
-/// What a decision decides.
 pub fn choice_of(decision: Decision) -> Choice {
     match decision {
         Decision::Keep(id) | Decision::Drop(id) => Choice::Change(id),

@@ -178,7 +178,6 @@ fn pass_early(alloc: Global, standing: &mut Standing<'_>, before: Secs) -> Resul
     Ok(())
 }
 
-/// Hears so many drawn messages.
 fn hear_part(
     alloc: Global,
     standing: &mut Standing<'_>,

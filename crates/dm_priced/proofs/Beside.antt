@@ -19,7 +19,6 @@ flag_still flags e i below was =
       | inr ne ↦ get_or-set_other flags e i true false ne ∙ was
     ]
 
--- none flagged
 none_flagged : (n k : ℕ) → is_flagged (replicate n false) k ≡ false
 none_flagged zero k = refl
 none_flagged (suc n) zero = refl

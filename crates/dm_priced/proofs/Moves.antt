@@ -29,7 +29,6 @@ within_where_priced net within priced early is =
     let is_lateness = is.lateness in
     within_beside net within priced (omega (arith, a, is_lateness)) is
 
--- a new one
 pub new_is_priced : (net : Net) (live : LiveValue) (passed beside charged : List Bool) (lateness : ℕ) (x : List ℕ) → IsLive net live →
     passed ≡ replicate (length net.events) false → beside ≡ replicate (length net.events) false → charged ≡ replicate (length net.activities) false → lateness ≡ lateness_of net x → x ≡ live.times →
     IsPriced net (record { live = live; passed = passed; beside = beside; charged = charged; sums = record { lateness = lateness; charged = 0; missed = 0 } })

@@ -211,7 +211,6 @@ fn missed_into(net: &Network, passed: &[bool], to: &Move<'_>) -> Missed
     }
 }
 
-/// Whether an event is flagged.
 fn is_flagged(flags: &[bool], event: usize) -> bool
     requires { event < length flags.now }
     ensures { result ≡ is_flagged flags.now event }

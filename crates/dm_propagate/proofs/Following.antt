@@ -31,7 +31,6 @@ pub follows_least : (net : Net) (rows : RowsValue) (live : LiveValue) → EndsAr
 follows_least net rows live known is rest follows =
     least_for_rows net rows live.given (constraints_of_rows net rows live.given is.sized follows) live.times known (least_at_rest net live is rest)
 
--- the rows have no cycle
 pub follows_no_cycle : (net : Net) (rows : RowsValue) (live : LiveValue) → IsLive net live → FollowsRows net rows live.given → HasNoCycle net rows
 follows_no_cycle net rows live is follows =
     no_cycle_of_rows net rows live.given (constraints_of_rows net rows live.given is.sized follows) (live_has_no_cycle net live is)

@@ -18,7 +18,6 @@ numbers_kept live = record { floors = refl; spans = refl; times = refl }
 numbers_then : (one two three : LiveValue) → KeepsNumbers one two → KeepsNumbers two three → KeepsNumbers one three
 numbers_then one two three f s = record { floors = s.floors ∙ f.floors; spans = s.spans ∙ f.spans; times = s.times ∙ f.times }
 
--- one flag that is set
 pub set_on : (flags : List Bool) (a b : ℕ) (flag : Bool) → b ≡ a → a < length flags → is_held (slice_set flags a flag) b ≡ flag
 set_on flags a b flag is below = ap (is_held (slice_set flags a flag)) is ∙ get_or-set_same flags a flag false below
 
@@ -34,7 +33,6 @@ among_next acts n b (k, lt, is) =
     ]
 
 module _ (net : Net) (rows : RowsValue) where
-  -- nothing is let go
   pub let_go_none : (among : ℕ → Type 0) (live : LiveValue) → ((b : ℕ) → among b → is_held live.given.held b ≡ true → is_active net rows b ≡ true) →
       LetsGo net rows among live live
   let_go_none among live each = record {
@@ -74,7 +72,6 @@ module _ (net : Net) (rows : RowsValue) where
       let_go_then (IsAmong acts n) (IsOnly a) (IsAmong acts (n + 1)) one two three
       (λ b r. elim (among_next acts n b r) [ inl p ↦ inl p | inr q ↦ inr (q ∙ sym is) ]) f s
 
-  -- nothing is taken up
   pub taken_up_none : (among : ℕ → Type 0) (live : LiveValue) → ((b : ℕ) → among b → is_active net rows b ≡ true → is_held live.given.held b ≡ true) →
       TakesUp net rows among live live
   taken_up_none among live each = record {
@@ -139,7 +136,6 @@ module _ (net : Net) (rows : RowsValue) where
 
 module _ (net : Net) (rows : RowsValue) (a : ℕ) (is_activity : a < length net.activities) (now next : LiveValue) (below : a < length now.given.held)
     (marks : next.marks ≡ with_head net now.marks a) (times : next.times ≡ now.times) (cycle : next.order.cycle ≡ now.order.cycle) where
-  -- an activity is let go
   pub let_go_one : next.given ≡ with_held now.given a false → is_held now.given.held a ≡ true → is_active net rows a ≡ false →
       LetsGo net rows (IsOnly a) now next
   let_go_one given holds inactive =
@@ -164,7 +160,6 @@ module _ (net : Net) (rows : RowsValue) (a : ℕ) (is_activity : a < length net.
         ];
       }
 
-  -- an activity is held
   pub taken_up_one : next.given ≡ with_held now.given a true → is_held now.given.held a ≡ false → is_active net rows a ≡ true →
       TakesUp net rows (IsOnly a) now next
   taken_up_one given free active =
@@ -189,7 +184,6 @@ module _ (net : Net) (rows : RowsValue) (a : ℕ) (is_activity : a < length net.
         taken = λ b is act. held b ∙ set_on now.given.held a b true is below;
       }
 
--- an activity is refused
 pub refused_one : (net : Net) (rows : RowsValue) (a : ℕ) (now next : LiveValue) → is_active net rows a ≡ true → next.given ≡ now.given →
     next.marks ≡ now.marks → next.times ≡ now.times → IsCycleOf net (is_held (with_held now.given a true).held) next.order.cycle →
     IsRefused net rows now next

@@ -109,7 +109,6 @@ fn flag<L: Ledger>(priced: &mut PricedTimetable, day: &Day<'_>, blank: Blank)
     charge_dropped(priced, day);
 }
 
-/// The cycle of rows that have one.
 fn cycle_of(alloc: Global, net: &Network, rows: &Rows) -> NoTimes
     requires sized { IsSized net.now rows.now }
     requires cyclic { HasCycle net.now rows.now }

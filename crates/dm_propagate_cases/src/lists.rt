@@ -10,7 +10,6 @@ use std::alloc::{AllocError, Global};
 /// How many messages there are to choose from.
 const MESSAGES: u32 = 8;
 
-/// The message of a number.
 fn message(alloc: Global, number: u32) -> Result<Message, AllocError> {
     Ok(match number {
         0 => Message::DelayEvent(EventId(2), 50),

@@ -111,7 +111,6 @@ impl<'n> Trial<'n> {
     }
 }
 
-/// Copies the times of an engine.
 fn copy_times(net: &Network, engine: &Engine, shown: &mut Times)
     requires engine { IsEngineOf net.now engine.now }
     requires as_many { length shown.old ≡ length net.now.events }

@@ -63,7 +63,6 @@ module _ (net : Net) (x : List ℕ) (network : IsNetwork net) where
         let due = h k d lt in
         due.time ∙ (sym (time_of due.place due.at_stop.is_event) ∙ ap time_named (sym due.event))
 
-    -- nothing is gathered yet
     pub gathered_none : (told : Option (ℕ → Option ℕ)) (part : List Listed) (changes : List (ℕ × ℕ)) → changes ≡ [] → Gathers net x stop told part 0 changes
     gathered_none told part changes empty =
         let l : length changes ≡ 0 = ap length empty in

@@ -63,7 +63,6 @@ module _ (net : Net) (places : List ℕ) (listed : List Listed) (h : AreListed n
         within = below_listed (length x) moved.within;
       }
 
-  -- all places
   module _ (k : ℕ) (all : places ≡ range_with_len 0 k) where
     all_long : length places ≡ k
     all_long = ap length all ∙ length-range_with_len 0 k

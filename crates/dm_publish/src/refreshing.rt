@@ -39,7 +39,6 @@ pub(crate) fn refresh(
     show_on(board, changes)
 }
 
-/// Shows a board these changes.
 fn show_on(board: &mut Box<dyn Board>, changes: &[(u32, Secs)]) -> Result<(), Failed>
     ensures same_stop { place board.new ≡ place board.old }
     ensures sets { OnOk result (Sets (times board.old) (times board.new) changes.now) }
@@ -85,7 +84,6 @@ pub(crate) fn stop_of(board: &Box<dyn Board>) -> StopId
     StopId(board.stop())
 }
 
-/// Whether a board shows this time for an event.
 fn shows(board: &Box<dyn Board>, event: u32, time: Secs) -> bool
     ensures { TellsTime (times board.now) event time result }
 {

@@ -123,7 +123,6 @@ logs_behind s history logs are =
     each_of_splits (IsTrueBehind s history) logs
     (λ before log later e. are.each (length before) log (ap (λ ls. slice_get ls (length before)) e ∙ get_at before log later)) [] logs refl
 
--- one entry has a number
 pub same_entry : (history : List Entry) (before : List Entry) (entry : Entry) (later : List Entry) (other : Entry) → history ≡ before ++ entry ∷ later → IsEntry history (length before + 1) other → other ≡ entry
 same_entry history before entry later other e is =
     let place : (length before + 1) - 1 ≡ length before = omega arith in

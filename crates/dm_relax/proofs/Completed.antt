@@ -70,7 +70,6 @@ module _ (net : Net) (network : IsNetwork net) (rows : RowsValue) (sized : IsSiz
       has_first net network s p (completed_small_first net rows path x p) below
       (has_all (completed_pair net rows path x p) (pair_completed net network rows sized path x is_path p below free))
 
-  -- an undecided change is met
   change_is_met : (a : ℕ) → a < length net.activities → is_undecided_change net rows path a ≡ true →
       time_at x (activity_at net a).tail + span_of net rows a ≤ time_at x (activity_at net a).head
   change_is_met a below undecided =

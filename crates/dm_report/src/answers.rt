@@ -34,7 +34,6 @@ pub fn put_ids<K: Sink>(sink: &mut K, page: &mut Page, ids: &[ActId]) -> Result<
     Ok(())
 }
 
-/// Prints a cycle.
 fn put_cycle<K: Sink>(sink: &mut K, page: &mut Page, ids: &[ActId]) -> Result<(), WriteFault>
     ensures { Prints K.taken K.faults sink.old sink.new page.old page.new result (codes "cycle" ++ flat_map spaced_id ids.now) }
 {
@@ -126,7 +125,6 @@ fn put_reply<K: Sink>(sink: &mut K, page: &mut Page, reply: &Reply) -> Result<()
     }
 }
 
-/// Prints an item of a log.
 #[tactic(auto, unfolding(dm_cert::specs::RunTexts::item_text))]
 fn put_item<K: Sink>(sink: &mut K, page: &mut Page, item: &LogItem) -> Result<(), WriteFault>
     requires { IsSpelledItem item.now }
@@ -179,7 +177,6 @@ fn put_stop<K: Sink>(sink: &mut K, page: &mut Page, stop: FeedStop) -> Result<()
     }
 }
 
-/// Prints the log of the feed of this number.
 fn put_log<K: Sink>(
     sink: &mut K,
     page: &mut Page,

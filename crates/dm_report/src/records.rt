@@ -33,7 +33,6 @@ pub fn put_header<K: Sink>(
     put_labelled(sink, page, &numbers, "\n")
 }
 
-/// Prints an entry.
 fn put_entry<K: Sink>(
     sink: &mut K,
     page: &mut Page,

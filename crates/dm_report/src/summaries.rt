@@ -28,7 +28,6 @@ pub struct Summary {
     pub sum: u128,
 }
 
-/// Prints a summary.
 #[tactic(auto, unfolding(crate::specs::Summaries::summary_text))]
 fn put_summary<K: Sink>(sink: &mut K, page: &mut Page, summary: &Summary) -> Result<(), WriteFault>
     ensures { Prints K.taken K.faults sink.old sink.new page.old page.new result (summary_text summary.now) }

@@ -29,7 +29,6 @@ length-with_round [] round = refl
 length-with_round (log ∷ logs) [] = refl
 length-with_round (log ∷ logs) (items ∷ round) = ap suc (length-with_round logs round)
 
--- one more part of a round
 pub part_more : (logs round : List (List LogItem)) (items : List LogItem) → length round < length logs →
     with_round logs (round ++ items ∷ []) ≡ set (with_round logs round) (length round) (get_or (with_round logs round) (length round) [] ++ items)
 part_more [] round items low = absurd (omega (arith, low))

@@ -128,7 +128,6 @@ fn message_in(
     }
 }
 
-/// An equal message.
 fn copy_of(alloc: Global, message: &Message) -> Result<Message, AllocError>
     ensures { IfOk result (λ copy. copy ≡ message.now) }
 {
@@ -212,7 +211,6 @@ fn enter(desk: &mut TableDesk<'_>, entry: Entry) -> Result<bool, AllocError>
     }
 }
 
-/// Whether a refusal is want of memory.
 fn wants_memory(why: &Refusal) -> bool
     ensures { result ≡ false → why.now ≡ Refusal.OutOfMemory → ⊥ }
 {

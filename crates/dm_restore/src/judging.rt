@@ -45,7 +45,6 @@ pub(crate) fn put_run<K: Sink>(
     print_run(&run, out)
 }
 
-/// The text of the run of a table and logs.
 fn run_text(alloc: Global, table: &Table<'_>, logs: &[FeedLog]) -> Result<Vec<u8>, AllocError>
     requires { All IsSpelledLog logs.now }
     ensures text { IfOk result (λ text. text.items ≡ run_text 2 (run_of table.now logs.now)) }

@@ -130,7 +130,6 @@ back_list_meets net rows held y known enters m =
     (λ i t below is. let e = back_list-at net rows y i below in let f = floor_passed (passed_at rows i) (y i) t is in e ∙ f)
     (meets_same_times (graph_holding net rows held) _ (time_at (back_list net rows y)) (λ e below. sym (back_list-at net rows y e below)) (back_meets net rows held y enters m))
 
--- least for the rows is least for the graph
 pub least_to_graph : (net : Net) (rows : RowsValue) (held : ℕ → Bool) (x : List ℕ) → EndsAreKnown net → EntersNoPassed net rows held →
     IsLeastHolding net rows held x → IsLeastOfGraph (graph_holding net rows held) (time_at x)
 least_to_graph net rows held x known enters least =
@@ -155,7 +154,6 @@ least_keeps net rows held x enters least i t below is =
     let floor : floor_of net rows i ≡ t = floor_passed (passed_at rows i) (max (planned_time net rows i) rows.clock) t is in
     omega arith
 
--- least for the graph is least for the rows
 pub least_from_graph : (net : Net) (rows : RowsValue) (held : ℕ → Bool) (x : List ℕ) → EndsAreKnown net → length x ≡ length net.events →
     EntersNoPassed net rows held → IsLeastOfGraph (graph_holding net rows held) (time_at x) → IsLeastHolding net rows held x
 least_from_graph net rows held x known size enters least =

@@ -53,7 +53,6 @@ held_is_met_exactly_without_cycle net rows held network enters = (
       ),
 )
 
--- times as a list
 as_list : (ℕ → ℕ) → ℕ → List ℕ
 as_list x n = map x (range_with_len 0 n)
 

@@ -67,7 +67,6 @@ same_row : (records : List DelayRow) (n : ℕ) (row other : DelayRow) → n < le
 same_row records n row other below is stands =
     let e : slice_get records n ≡ Some (get_or records n row) = slice_get-get_or records n row below in cc
 
--- one more record
 pub one_more_delay : (count : ℕ) (number : ℕ → ℕ) (place : ℕ → Option ℕ) (records : List DelayRow) (n : ℕ) (delays : List ℕ) (row : DelayRow) (i : ℕ) →
     DelaysAreWithin records → HasSetDelays count number place records n delays → n < length records → row ≡ get_or records n row →
     place row.id ≡ Some i → IsPlaceOf count number row.id i →
@@ -102,7 +101,6 @@ one_more_delay count number place records n delays row i limits had below is fou
           ];
     }
 
--- after all records
 pub all_delays : (count : ℕ) (number : ℕ → ℕ) (place : ℕ → Option ℕ) (records : List DelayRow) (n : ℕ) (delays : List ℕ) →
     n ≡ length records → HasSetDelays count number place records n delays → AreDelaysOf count number records delays
 all_delays count number place records n delays all had =

@@ -89,7 +89,6 @@ impl Drop for Snapshot {
 }
 
 impl Rows {
-    /// The rows at the start with these delays.
     pub(crate) fn at_start(
         alloc: Global,
         net: &Network,

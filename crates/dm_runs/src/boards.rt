@@ -69,7 +69,6 @@ pub fn in_memory(alloc: Global, case: &BoardCase) -> Result<MemBoard, AllocError
     MemBoard::new(alloc, case.stop, ids, fails)
 }
 
-/// The numbers of a list.
 fn numbers<T: FromStr + Drop>(alloc: Global, list: &str) -> Result<Vec<T>, AllocError>
 where
     <T as FromStr>::Err: Drop,
@@ -83,7 +82,6 @@ where
     Ok(numbers)
 }
 
-/// The pairs of a list.
 fn pairs(alloc: Global, list: &str) -> Result<Vec<(u32, u64)>, AllocError> {
     let mut pairs = Vec::new(alloc);
     for item in list.split(',') {

@@ -106,7 +106,6 @@ fn run_over<R: Print + AllocGlobal + Files<File = File> + Threads + Wait + Sync>
     outcome_of(rt, case, status as u8, sink.taken())
 }
 
-/// The boards of a case.
 fn boards_of<R: AllocGlobal + Files<File = File>>(
     rt: &R,
     case: &Case<'_>,

@@ -56,7 +56,6 @@ impl<'r, R: Files<File = File>> CaseShelf<'r, R> {
     }
 }
 
-/// The source of a name in a folder.
 fn open_in<R: Files<File = File>>(
     files: &mut FolderShelf<'_, R>,
     alloc: Global,

@@ -29,7 +29,6 @@ advanced task limit cost nodes more due old new best n e same le s are =
       one_more = one_more nodes more n e;
     }
 
--- so many nodes there are
 total_is : (nodes old : List Node) (n : Node) (total : ℕ) → total ≡ length nodes + 1 + length old → total ≡ length nodes + length (n ∷ reverse old)
 total_is nodes old n total e = let count = length-reverse old in omega (arith, count)
 

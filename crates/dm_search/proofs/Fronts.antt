@@ -14,7 +14,6 @@ use Rattle.dm_search.specs.Inside.Walking.{AreFronts}
 use Rattle.dm_search.specs.Moving.{IsOver}
 use Rattle.dm_search.proofs.Walks.{front_of, longer_cycle}
 
--- a front of a front
 pub front_of_front : (xs ys zs : List Decision) → IsFront xs ys → IsFront ys zs → IsFront xs zs
 front_of_front xs ys zs f g =
     record { rest = f.rest ++ g.rest; is = g.is ∙ (ap (λ ws. ws ++ g.rest) f.is ∙ append_assoc xs f.rest g.rest) }

@@ -49,7 +49,6 @@ some_apart (a ∷ allowed) (b ∷ chosen) (inl both) apart = (
 )
 some_apart (a ∷ allowed) (b ∷ chosen) (inr later) apart = some_apart allowed (b ∷ chosen) later apart.1
 
--- what a path decides, a longer one decides
 pub decided_longer : (path more : List Decision) (c : Choice) → is_decided path c ≡ true → is_decided (path ++ more) c ≡ true
 decided_longer path more c h =
     let test : Decision → Bool = λ x. is_same_choice (choice_of x) c in
@@ -152,7 +151,6 @@ module _ (task : Task) (is : IsTask task) where
             omega (arith, size, tree, used, e, f, enough))
       ]
 
--- the task of a whole network is one
 pub whole_is_task : (net : Net) (rows : RowsValue) (penalty budget : ℕ) → IsNetwork net → IsSized net rows → IsTask (whole_task net rows penalty budget)
 whole_is_task net rows penalty budget network sized =
     record {

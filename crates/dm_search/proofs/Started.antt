@@ -22,7 +22,6 @@ use Rattle.dm_search.specs.Finish.{IsKnown, IsStart, AHoleIsAStart}
 use Rattle.dm_search.proofs.Beside.{some_of_none}
 use Rattle.dm_search.specs.Inside.Searching.{AreBest, Stands}
 
--- rows have one cost
 one_cost : (net : Net) (rows : RowsValue) (penalty a b : ℕ) → Costs net rows penalty a → Costs net rows penalty b → a ≡ b
 one_cost net rows penalty a b p q =
     p.cost ∙ (ap (λ x. cost_of net rows x penalty) (one_least net rows (is_active net rows) p.times q.times p.least q.least) ∙ sym q.cost)

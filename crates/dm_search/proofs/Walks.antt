@@ -158,7 +158,6 @@ module _ (net : Net) (network : IsNetwork net) (e : EvaluatorValue) (is : IsEval
       subst (λ p. IsBranch net rows p penalty best c choice) at
       (subst (λ r. IsBranch net r e.path penalty best c choice) same (shown_first choice less first))
 
--- the first violated choice is violated
 pub first_is_violated : (net : Net) (rows : RowsValue) (path : List Decision) (x : List ℕ) (choice : Choice) →
     Some choice ≡ first_violated net rows path x → IsViolated net rows path x choice
 first_is_violated net rows path x choice first = got_is_in (violated_choices_of net rows path x) 0 choice (sym first)

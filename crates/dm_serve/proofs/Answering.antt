@@ -77,7 +77,6 @@ module _ {S : Type 0} (tells : S → Type 0) (seen : S → List ℕ) (shown : S 
 
 -- ---- feed after feed
 
--- as many texts as logs
 pub as_many : {X : Type 0} (one more : List (List X)) → AreFronts one more → length one ≡ length more
 as_many [] [] p = refl
 as_many [] (y ∷ ys) p = absurd p
@@ -159,7 +158,6 @@ module _ {S T : Type 0} (tells : S → Type 0) (seen : S → List ℕ) (shown : 
       let step = puts s contents book start (map log_text (take place feeds)) (drop (place + 1) (shown old)) (get_or (shown old) place []) here split longer fronts kept now in
       (step.0, tt)
 
--- where all were put anew
 pub all_renewed : {T : Type 0} (feeds : List (Watched T)) (many : ℕ) (logs : List (List LogItem)) (old now : List (List ℕ)) → length feeds ≤ many → logs ≡ map all_items feeds → AreFronts old (map reply_text logs)
     → now ≡ map log_text (take many feeds) ++ drop many old → now ≡ map reply_text logs
 all_renewed feeds many logs old now high are fronts is =

@@ -82,7 +82,6 @@ module _ {K S T : Type 0} (taken : K → Option (List ℕ)) (sink_faults : K →
   abbrev Due : Status → List ℕ → Type 0
   Due status text = IsOfFiles told is_sound asked status text ⊎ IsOver told asked (over status) text
 
-  -- files stopped it
   pub ends_files : (stopped : InputStop) (result : Status) → StopsOpening told is_sound asked.run.files stopped → EndsFiles taken sink_faults asked.run.files stopped before now result
       → Ends taken sink_faults store_faults faults Due before now old new result
   ends_files (files.Refused flaw) result stops h =

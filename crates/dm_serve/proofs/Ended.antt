@@ -49,7 +49,6 @@ module _ {K S T : Type 0} (taken : K → Option (List ℕ)) (sink_faults : K →
   pub ends_wanting_so : (tails : List (Tail T)) (status : Status) → now ≡ before → status ≡ NoMemory → Ends taken sink_faults store_faults faults (Due tails) before now start new status
   ends_wanting_so tails status same is = ends_wanting taken sink_faults store_faults faults (Due tails) before now start new status same is
 
-  -- a round stopped it
   pub ends_round : (watch : Watch T) (old : Journal S) → setting_of watch.desk.plans watch.desk.table ≡ s → store_faults start.store ≤ store_faults old.store
       → HasGoneSince tells seen shown may_leave moment left_since s (length names) watch start.store old → (tails : List (Tail T)) (result : Status) (stopped : RoundStop)
       → StopsGoing tells seen shown may_leave moment left_since given store_faults faults watch old new stopped → EndsRound taken sink_faults stopped before now result

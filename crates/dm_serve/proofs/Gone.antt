@@ -176,7 +176,6 @@ module _ {S T : Type 0} (tells : S → Type 0) (seen : S → List ℕ) (shown : 
 
 -- ---- a watch that goes on
 
--- the watch with this table
 abbrev pub with_table : {T : Type 0} → Watch T → TableValue → Watch T
 with_table watch table = record watch { desk = record watch.desk { table = table } }
 

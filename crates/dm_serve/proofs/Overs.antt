@@ -55,12 +55,10 @@ module _ {K S T : Type 0} (taken : K → Option (List ℕ)) (sink_faults : K →
   abbrev Over : Status → Setting → List ℕ → Type 0
   Over status s text = IsDueOver tells seen shown may_leave moment left_since store_faults given faults up asked.run.feeds asked.store feeds tails old new status s text
 
-  -- files stopped it
   pub due_of_files : (stopped : InputStop) → StopsOpening told is_sound asked.run.files stopped → EndsFiles taken sink_faults asked.run.files stopped before now result
       → Ends taken sink_faults store_faults faults (IsDue tells seen shown may_leave moment left_since store_faults given faults up told is_sound asked feeds tails old new) before now old new result
   due_of_files stopped stops h = ends_files taken sink_faults store_faults faults told is_sound asked Over before now old new stopped result stops h
 
-  -- they were read
   pub due_over_files : (opening : Opening) → OpeningAnswer told asked.run.files (Ok opening)
       → Ends taken sink_faults store_faults faults (λ status text. IsDueOver tells seen shown may_leave moment left_since store_faults given faults up asked.run.feeds asked.store feeds tails old new status (setting_for asked opening) text) before now old new result
       → Ends taken sink_faults store_faults faults (IsDue tells seen shown may_leave moment left_since store_faults given faults up told is_sound asked feeds tails old new) before now old new result

@@ -26,7 +26,6 @@ module _ (s : Setting) (first : Book) where
     shown = shown;
   }
 
-  -- a journal at rest
   pub safe_at_rest : (contents : List (List ℕ)) (image : Image) → IsKeptIn s contents first → image.journal ≡ at_rest contents → AreFronts image.shown (map reply_text first.logs) → IsSafe s first first image
   safe_at_rest contents image kept is fronts =
       let k = rest_keeps contents image.shown image is refl in

@@ -379,7 +379,6 @@ fn serve_found<
     }
 }
 
-/// So many zeros.
 fn zeros(alloc: Global, len: usize) -> Result<Vec<u8>, AllocError> {
     vec![in alloc; 0u8; len]
 }

@@ -46,7 +46,6 @@ fn main(rt: HostRuntime) -> io::Result<()> {
     print_line(&rt, "second-feed", failing_feed(&rt, 1))
 }
 
-/// Prints a name and a line.
 fn print_line<R: Print>(rt: &R, name: &str, line: Result<String, Failure>) -> io::Result<()> {
     match line {
         Ok(line) => println!(rt; "{name} {line}"),

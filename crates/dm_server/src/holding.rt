@@ -159,7 +159,6 @@ fn want_of_memory(refusal: Refusal) -> AdoptRefusal
     AdoptRefusal::OutOfMemory
 }
 
-/// Equal decisions.
 fn copy_of(alloc: Global, decisions: &[Decision]) -> Result<Items<Decision>, AllocError>
     ensures { IfOk result (λ items. items ≡ decisions.now) }
 {

@@ -20,7 +20,6 @@ use Rattle.dm_turn.specs.Passes.{PassValue, TurnValue}
 pub over_still : (net : Net) (price : ℕ) (before now : PassValue Base) → IsSame before now → IsOver net price before → IsOver net price now
 over_still net price before now same o = record { rows = o.rows; is = ap (λ (p : PassValue Base). p.base) same ∙ o.is }
 
--- so a server is opened
 pub served_opened : (net : Net) (rows : RowsValue) (server : TurnValue) (pass : PassValue Base) → server.seats ≡ SEATS →
     pass ≡ record { turn = server.id; base = Some (record { network = net; start = rows; penalty = PENALTY }); opening = 0; holds = false; room = SEATS; seen = []; mine = [] } →
     IsServed net server pass

@@ -142,7 +142,6 @@ none_distinct : IsDistinct nat_eq []
 unfolding IsDistinct
 none_distinct = tt
 
--- nothing is read yet
 pub none_read : (g : Arcs) (ranks : List ℕ) (start : State) → HasRead g ranks start start 0
 none_read g ranks start =
     record {

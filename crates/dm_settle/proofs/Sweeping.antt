@@ -12,7 +12,6 @@ use Rattle.dm_settle.specs.Inside.Sweep.{IsSweeping, MarksHeads, Stays, Moves, p
 use Rattle.dm_settle.proofs.Pulling.{pulls_too, binds_still, late_unless, late_stays}
 use Rattle.dm_settle.proofs.Early.{moving_rank, moving_rank-rises}
 
--- events of one rank are one
 pub one_of_rank : (events : ℕ) (order ranks : List ℕ) → AreRanks events order ranks → (e f : ℕ) → e < events → f < events →
     slice_index ranks e ≡ slice_index ranks f → e ≡ f
 one_of_rank events order ranks ranked e f in' in'' same =
@@ -188,7 +187,6 @@ module _ (g : Graph) (order ranks : List ℕ) (ranked : AreRanks g.shape.events 
         | inr clear ↦ sweeping.unsettled.settled e lt clear
       ]
 
-  -- and the times are least
   pub settled_is_least : (times : List ℕ) → length times ≡ g.shape.events → ((e : ℕ) → e < g.shape.events → IsSettled g times e) → AreLeast g times
   settled_is_least times as_many settled =
       record {

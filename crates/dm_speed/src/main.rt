@@ -35,7 +35,6 @@ const CHANGES: u32 = 24_000;
 
 const TRAINS: u32 = 2_000;
 
-/// What is timed.
 #[derive(Clone, Copy)]
 enum Timed {
     /// Changes of this kind, or of each kind in turn.

@@ -5,7 +5,6 @@ use Rattle.dm_text.specs.Inside.Parts.{behind, number_in_front}
 use Rattle.dm_text.proofs.Reading.{behind_back, behind_is, number_back, number_is}
 use Rattle.dm_store.specs.Blocks.{block, behind_gate}
 
--- what is read is a block
 pub is_block : (file a b c content rest : List ℕ) (n : ℕ) → behind (codes "+") file ≡ Some a → number_in_front (length file) a ≡ Some (n, b) →
     behind (codes "\n") b ≡ Some c → length content ≡ n → c ≡ content ++ rest → length file < 2 ^ 64 → file ≡ block content ++ rest
 is_block file a b c content rest n gate number line size split short =
@@ -16,7 +15,6 @@ is_block file a b c content rest n gate number line size split short =
     let whole : a ≡ decimal (length content) ++ 10 ∷ (content ++ rest) = head ∙ ap (λ xs. decimal (length content) ++ 10 ∷ xs) split in
     gate_is ∙ ap (λ xs. 43 ∷ xs) (whole ∙ sym (append_assoc (decimal (length content)) (10 ∷ content) rest))
 
--- how a block reads
 pub record Reads (content rest file : List ℕ) : Type 0 where
   pub gate : behind (codes "+") file ≡ Some (behind_gate content ++ rest)
   pub number : number_in_front (length file) (behind_gate content ++ rest) ≡ Some (length content, 10 ∷ (content ++ rest))

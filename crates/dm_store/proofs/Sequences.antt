@@ -61,7 +61,6 @@ module _ {S : Type 0} (tells : S → Type 0) (seen : S → List ℕ) (shown : S 
     abbrev Kept : S → Image → Type 0
     Kept old = StillKeeps contents rest (shown old)
 
-    -- a read
     pub read_leaves : (old mid : S) → ((image : Image) → left_since old (moment old) image → may_leave old image) → ((image : Image) → may_leave old image → image.shown ≡ shown old) →
         LeavesJournal file (may_leave old) → AddsNone (may_leave old) (may_leave mid) → Goes tells shown moment left_since may_leave old mid → Leaves old mid (Kept old)
     read_leaves old mid now shows durable none goes =

@@ -136,7 +136,6 @@ fn read_whole(alloc: Global, file: &mut File) -> Result<Vec<u8>, StoreError> {
     Ok(bytes)
 }
 
-/// So many zeros.
 fn zeros(alloc: Global, len: usize) -> Result<Vec<u8>, AllocError> {
     vec![in alloc; 0u8; len]
 }

@@ -174,7 +174,6 @@ fn copied(alloc: Global, replies: &[Vec<u8>]) -> Result<Vec<Vec<u8>>, AllocError
     Ok(copies)
 }
 
-// So many bytes of one kind.
 fn filled(alloc: Global, byte: u8, len: usize) -> Result<Vec<u8>, AllocError>
     ensures { IfOk result (λ bytes. length bytes.items ≡ len) }
 {

@@ -19,7 +19,6 @@ const TEARS: [Tear; 7] = [
 /// Two blocks at rest.
 const TWO: &[u8] = b"+11\ndm-store 1\n+18\nfeed 1 0\nfeed 2 0\n~";
 
-/// Three.
 const THREE: &[u8] =
     b"+11\ndm-store 1\n+18\nfeed 1 0\nfeed 2 0\n+37\nfeed 1 1\n1 cost -> 1 cost 0\nfeed 2 0\n~";
 

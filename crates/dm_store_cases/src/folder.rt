@@ -46,7 +46,6 @@ fn recovered<S: Store>(journal: &mut Journal<S>, alloc: Global) -> Result<usize,
     Ok(blocks.len())
 }
 
-/// Commits so many blocks of so many bytes.
 fn committed<S: Store>(
     journal: &mut Journal<S>,
     alloc: Global,

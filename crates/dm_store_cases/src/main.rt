@@ -5,7 +5,7 @@
 //!
 //! With no words it prints what each recovery over a store in memory comes to: the number of whole blocks, `n` where the file is
 //! no journal, `o` where it is of another version, `b` where it is broken, and `x` where the store is not left as it ought to be.
-//! `bench/store_cases.py` says the same lines by a second reading of the form.
+//! `dispatch-tools store_cases` says the same lines by a second reading of the form.
 //!
 //! With the words DIR BLOCKS BYTES it opens the real folder DIR, recovers, commits BLOCKS blocks of BYTES bytes each, and says
 //! what happened.
@@ -87,7 +87,6 @@ fn failing<R: Print + AllocGlobal>(rt: &R) -> io::Result<()> {
     Ok(())
 }
 
-/// Prints a name and a line.
 fn print_line<R: Print>(rt: &R, name: &str, line: Result<String, StoreError>) -> io::Result<()> {
     match line {
         Ok(line) => println!(rt; "{name} {line}"),

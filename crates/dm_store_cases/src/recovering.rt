@@ -16,7 +16,6 @@ pub fn recovered(alloc: Global, file: &[u8]) -> Result<char, StoreError> {
     }
 }
 
-/// The letter of an answer.
 pub fn letter_of(answer: Result<char, StoreError>) -> char {
     match answer {
         Ok(letter) => letter,

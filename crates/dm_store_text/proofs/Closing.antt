@@ -64,7 +64,6 @@ module _ {K : Type 0} (taken : K → Option (List ℕ)) (faults : K → ℕ) (du
   ends_wanting result same is =
       subst (EndsText taken faults due before now) (sym is) (subst (λ (k : K). Keeps (taken before) (taken k)) (sym same) (keeps_same (taken before)))
 
-  -- the text of a run
   pub ends_well : (text : List ℕ) (result : Status) → due Well text → EndsAs taken faults before now text Well result → EndsText taken faults due before now result
   ends_well text result is h = ends_as Well text result well_is_no_fault well_is_no_want is h
 
@@ -130,7 +129,6 @@ module _ (told : Told) (is_sound : List ℕ → Type 0) (asked : ServerAsked) (s
 -- ---- files
 
 module _ {K : Type 0} (taken : K → Option (List ℕ)) (faults : K → ℕ) (told : Told) (is_sound : List ℕ → Type 0) (asked : ServerAsked) (before now : K) where
-  -- files stopped it
   pub ends_files : (stopped : InputStop) (result : Status) → StopsOpening told is_sound asked.run.files stopped → EndsFiles taken faults asked.run.files stopped before now result
       → EndsText taken faults (IsDueText told is_sound asked) before now result
   ends_files (files.Refused flaw) result stops h =

@@ -49,7 +49,6 @@ head_back penalty plans feeds p q r =
 some_same : {X : Type 0} {x y : X} → Some x ≡ Some y → x ≡ y
 some_same e = cc
 
--- a content is one head
 head_is_one : (content : List ℕ) (p q r a b c : ℕ) → IsHead p q r content → IsHead a b c content → head_of p q r ≡ head_of a b c
 head_is_one content p q r a b c one other =
     some_same (sym (head_back p q r one.penalty_fits one.plans_fit one.feeds_fit) ∙ (ap head_in (sym one.spelled ∙ other.spelled) ∙ head_back a b c other.penalty_fits other.plans_fit other.feeds_fit))

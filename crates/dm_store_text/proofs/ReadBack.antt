@@ -18,7 +18,6 @@ use Rattle.dm_restore.specs.Restoring.{IsRestored}
 use Rattle.dm_store_text.specs.Texts.{IsTextIn, items_of}
 use Rattle.dm_store_text.specs.Written.{run_in}
 
--- no notes are true ones
 no_notes : (entries : ℕ) → AreTrueNotes entries []
 no_notes entries = record {
   few = omega arith;
@@ -27,7 +26,6 @@ no_notes entries = record {
   in_order = λ i j one other at there le. absurd (none-some one at);
 }
 
--- the book beside a table
 abbrev book_beside : TableValue → List FeedLog → Book
 book_beside table logs = record { history = table.history; logs = items_of logs }
 

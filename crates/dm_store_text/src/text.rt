@@ -176,7 +176,6 @@ fn head_of(words: &ServeWords<'_>) -> Head
     }
 }
 
-/// How many names there are.
 fn count(names: Names<'_>) -> u32
     requires { length (names_in names) ≤ FEEDS }
     ensures { result ≡ length (names_in names.entry) }

@@ -25,7 +25,6 @@ if_err : {A E : Type 0} (P Q : E → Type 0) (r : Result A E) → ((e : E) → P
 if_err P Q (Ok x) f h = tt
 if_err P Q (Err e) f h = f e h
 
--- a clock is harmless
 harmless : (m : Message) → IsNow m → IsHarmless m
 harmless (DelayEvent e d) is = absurd is
 harmless (DelayActivity a d) is = absurd is

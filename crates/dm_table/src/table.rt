@@ -291,7 +291,6 @@ impl<'n> Table<'n> {
     }
 }
 
-/// How many decisions a message has.
 fn decisions_in(message: &Message) -> usize
     ensures { result ≡ decisions_in message.now }
 {

@@ -65,7 +65,6 @@ module _ (bytes : List ℕ) (line : ℕ) where
   not_past here byte w b (inl e) = omega (arith, e)
   not_past here byte w b (inr less) = omega (arith, less, b.number)
 
-  -- at the line
   pub walk_ends : (here : Place) → Walks bytes line here → line ≤ here.line → (byte : ℕ) → BeginsAt bytes line byte → byte + length here.left ≡ length bytes
   walk_ends here w at byte b =
       same_place here byte w b (omega (arith, at, b.number, not_past here byte w b w.low, lead_number w.passed (at_start bytes) here w.lines))

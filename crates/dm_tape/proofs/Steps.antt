@@ -143,7 +143,6 @@ items_go count start here next held new x run less told e = rw e (run_goes (λ b
 abbrev part_step : List (List LogItem) → Place → Result (List LogItem × Place) CertFault → Type 0
 part_step before = TellsPart (length before + 1)
 
--- so many parts were read
 pub record HasParts (feeds : ℕ) (start here : Place) (held : List (List LogItem)) (count : ℕ) : Type 0 where
   pub run : HasRun {F = CertFault} part_step feeds start held here
   pub counted : length held ≡ count

@@ -71,7 +71,6 @@ fn part_at(alloc: Global, lines: &mut Lines, number: u32) -> Result<Items<LogIte
     }
 }
 
-/// A round of so many feeds.
 fn round_at(alloc: Global, lines: &mut Lines, feeds: u32) -> Result<Vec<Items<LogItem>>, CertFault>
     ensures { Answers (TellsRound feeds) (λ round. round.items) lines.old lines.new result }
 {

@@ -34,7 +34,6 @@ fn value_of(number: u128) -> Option<u64>
     Some(number as u64)
 }
 
-/// Equal ids.
 fn copy_of(alloc: Global, ids: &[ActId]) -> Result<Items<ActId>, AllocError>
     ensures { IfOk result (λ items. items ≡ ids.now) }
 {

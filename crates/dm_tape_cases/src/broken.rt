@@ -24,7 +24,6 @@ fn line_of(text: &[u8], byte: usize, kind: CertKind) -> RoundFault {
     }
 }
 
-/// The bytes are refused for this.
 fn is_refused(alloc: Global, feeds: u32, bytes: &[u8], due: RoundFault) -> Result<(), Failure> {
     match read(alloc, feeds, bytes)? {
         Err(fault) if fault == due => Ok(()),

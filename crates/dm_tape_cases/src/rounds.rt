@@ -45,7 +45,6 @@ fn round_text(alloc: Global, round: &[Items<LogItem>]) -> Result<MemSink, Failur
 /// A round that is read, and how long its text is, or what is wrong.
 type ReadRound = Result<(Vec<Items<LogItem>>, usize), RoundFault>;
 
-/// A round of so many feeds is read.
 pub fn read(alloc: Global, feeds: u32, bytes: &[u8]) -> Result<ReadRound, Failure>
     ensures { IfOk result (λ answered. IfOk answered (λ read. All (λ items. All IsSpelledItem items) read.0.items)) }
 {

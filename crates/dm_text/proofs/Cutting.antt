@@ -44,7 +44,6 @@ cut_there left end e =
           rw same (not_feed _ (at.2 k low));
     }
 
--- the line that ends there
 pub line_there : (left : List ℕ) (line end : ℕ) → Some end ≡ position is_feed left →
     IsLineAt (record { left = left; line = line }) (take end left)
     (record { left = take (length left - (end + 1)) (drop (end + 1) left); line = line + 1 })

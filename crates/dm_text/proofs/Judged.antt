@@ -41,7 +41,6 @@ has_feed : (bytes rest : List ℕ) → HasNoLineFeed (bytes ++ 10 ∷ rest) → 
 has_feed [] rest none = no_feed_first 10 rest none refl
 has_feed (c ∷ bytes) rest none = has_feed bytes rest (no_feed_rest c (bytes ++ 10 ∷ rest) none)
 
--- a whole line is not cut
 pub whole_or_cut : (place : Place) (bytes : List ℕ) (next : Place) → IsLineAt place bytes next → IsCutAt place → ⊥
 whole_or_cut place bytes next line cut = has_feed bytes next.left (subst HasNoLineFeed line.whole cut)
 

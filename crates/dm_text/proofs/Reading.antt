@@ -55,7 +55,6 @@ digit_passes c h = grind (arith, nat_tests)
 passing_digit : (c : ℕ) → is_ascii_digit c ≡ true → IsAsciiDigit c
 passing_digit c h = grind (arith, nat_tests)
 
--- the digits in front are digits
 pub front_digits : (line : List ℕ) → All IsAsciiDigit (take (prefix_len is_ascii_digit line) line)
 front_digits line = λ k d below.
     let short : length (take (prefix_len is_ascii_digit line) line) ≡ prefix_len is_ascii_digit line = length-prefix_len is_ascii_digit line in

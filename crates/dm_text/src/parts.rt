@@ -35,7 +35,6 @@ pub fn number_in_front(line: &[u8], largest: u128) -> Option<(u128, &[u8])>
     Some((value, &line[end..]))
 }
 
-// How many digits stand in front.
 fn digits_in_front(line: &[u8]) -> usize
     ensures { result ≡ prefix_len is_ascii_digit line.now }
 {

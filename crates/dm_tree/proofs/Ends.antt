@@ -157,12 +157,10 @@ pub no_choice : (nodes : List Node) (place : ℕ) (x : Node) → x ≡ get_or no
 no_choice nodes place x read l =
     λ c e. leaf_is_no_choice c (subst IsLeaf (read ∙ get_or_from_slice_get nodes place (Inner c) x e) l)
 
--- back and on by one
 pub back_and_on : (nodes : List Node) (ends : List ℕ) (place : ℕ) → 0 < place → AreEndsFrom place nodes ends →
     AreEndsFrom (place - 1 + 1) nodes ends
 back_and_on nodes ends place some known = (known.0, λ i low high. known.1 i (omega arith) high)
 
--- one end more is known
 pub one_end_more : (nodes : List Node) (ends : List ℕ) (place e : ℕ) → place < length nodes → IsTreeBetween nodes place e →
     AreEndsFrom (place + 1) nodes ends → AreEndsFrom place nodes (set ends place e)
 one_end_more nodes ends place e lt here known =
@@ -272,7 +270,6 @@ not_below_leaf nodes place target x e lt read is l =
     let b : target < l.end = l.before_end in
     omega arith
 
--- the end that is kept for a place
 pub kept_end : (nodes : List Node) (ends : List ℕ) (place r : ℕ) → AreEndsFrom 0 nodes ends → place < length nodes →
     r ≡ get_or ends place r → r ≡ get_or ends place 0
 kept_end nodes ends place r known lt read =

@@ -227,7 +227,6 @@ seen_here leaves path group i found g lt s =
     skip_to leaves path (reached group i) (slice_index group i) found s (reached_here leaves path group i g lt)
     (λ k l ge below. between leaves path group i k l g (omega arith) ge (λ w. below))
 
--- and with it
 pub seen_with : (leaves : List Leaf) (path : List Decision) (group : List ℕ) (i : ℕ) (l : Leaf) (found : Option Node) (n : Node) →
     IsGroup leaves path group → i < length group → SeenSoFar leaves path (reached group i) found →
     slice_get leaves (slice_index group i) ≡ Some l → AsksFor path n l × MayStand n → ((m : Node) → found ≡ Some m → Agree m n) →

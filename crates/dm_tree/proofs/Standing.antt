@@ -74,7 +74,6 @@ below_child path child d t q n is among =
     let e : (path ++ child ∷ []) ++ q ≡ path ++ d ∷ q = rw is (append_assoc path (child ∷ []) q) in
     subst (λ p. Contains (visits_below (path ++ child ∷ []) t) (record { path = p; node = n })) e among
 
--- what stands at a path is among all that stands
 pub stands_among : (path : List Decision) (t : Shape) (q : List Decision) (n : Node) → StandsAt t q n →
     Contains (visits_below path t) (record { path = path ++ q; node = n })
 stands_among path (leaf x) [] n s = rw (append-nil path, ← s) (in_front (record { path = path; node = x }) [])

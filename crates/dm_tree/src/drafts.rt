@@ -67,7 +67,6 @@ impl Draft {
     }
 }
 
-/// The places of all leaves.
 fn every_place(alloc: Global, leaves: &[Leaf]) -> Result<Vec<usize>, AllocError>
     ensures { IfOk result (λ places. IsGroup leaves.now [] places.items) }
 {

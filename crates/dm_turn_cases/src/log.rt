@@ -55,7 +55,6 @@ impl<'n> Log<'n> {
     }
 }
 
-/// The entry of this feed and line.
 pub fn entry(feed: u32, line: u32) -> Entry {
     Entry {
         feed,

@@ -61,7 +61,6 @@ impl<'n> Day<'n> {
         }
     }
 
-    /// The choices of a rule.
     pub fn choices(&self, alloc: Global, rule: WaitRule) -> Result<Vec<Decision>, Failure> {
         if !is_allowed(rule) {
             return Err(Failure::NoDay);

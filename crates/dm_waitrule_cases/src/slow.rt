@@ -60,7 +60,6 @@ impl<'n> Ruling<'n> {
         }
     }
 
-    /// Hears a message.
     fn hear(&mut self, alloc: Global, message: &Message) -> Result<(), Failure> {
         match admit(alloc, self.net, &self.rows, message) {
             Ok(change) => {

@@ -64,7 +64,6 @@ const DROP: Decision = Decision::Drop(ActId(5));
 
 const KEEP: Decision = Decision::Keep(ActId(5));
 
-/// All cases.
 pub const CASES: [Case; 8] = [
     Case {
         name: "one-change",

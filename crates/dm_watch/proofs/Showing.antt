@@ -125,7 +125,6 @@ parts_more f g yielded shown now before after is same so_far =
 pub texts_here : {T : Type 0} (yielded rest next : List (Watched T)) (watched : Watched T) → rest ≡ watched ∷ next → map all_text yielded ++ map old_text rest ≡ map all_text yielded ++ old_text watched ∷ map old_text next
 texts_here yielded rest next watched is = ap (λ (l : List (Watched _)). map all_text yielded ++ map old_text l) is
 
--- with no feed left
 pub texts_end : {T : Type 0} (feeds yielded rest : List (Watched T)) → length rest ≡ 0 → yielded ++ rest ≡ feeds → map all_text yielded ++ map old_text rest ≡ map all_text feeds
 texts_end feeds yielded rest none whole =
     ap (λ (l : List (Watched _)). map all_text yielded ++ map old_text l) (nil_from_length rest none)

@@ -106,7 +106,6 @@ fn first_not_free(net: &Network, rows: &Rows, decisions: &[Decision]) -> Option<
     None
 }
 
-/// Whether a choice is free.
 fn is_free(net: &Network, rows: &Rows, choice: Choice) -> bool
     requires { IsSized net.now rows.now }
     ensures { IsTrue result ↔ Contains (free_choices_of net.now rows.now) choice }
@@ -118,7 +117,6 @@ fn is_free(net: &Network, rows: &Rows, choice: Choice) -> bool
     }
 }
 
-/// Whether the choice at a place is free.
 fn is_free_at(net: &Network, rows: &Rows, place: ChoicePlace) -> bool
     requires sized { IsSized net.now rows.now }
     requires within { IsWithin net.now place }

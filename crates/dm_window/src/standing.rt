@@ -87,7 +87,6 @@ fn standing_pair(net: &Network, rows: &Rows, window: &Window, p: usize) -> Optio
     }
 }
 
-/// Whether a choice is held.
 fn is_held(window: &Window, choice: Choice) -> bool
     ensures { result ≡ is_held window.now.held choice }
 {
@@ -98,7 +97,6 @@ fn is_held(window: &Window, choice: Choice) -> bool
         .any(|other| other.is_same(choice))
 }
 
-/// Whether a time is in a window.
 fn is_within(window: &Window, time: Secs) -> bool
     ensures { result ≡ is_within window.now.from window.now.to time }
 {

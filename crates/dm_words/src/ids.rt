@@ -52,7 +52,6 @@ impl Ids<'_> {
     }
 }
 
-/// The id that a piece is.
 fn id_of(piece: &[u8]) -> Option<u32>
     ensures { MatchOption result ((id : ℕ) → IsId piece.now id → ⊥) (λ id. IsId piece.now id) }
 {
@@ -139,7 +138,6 @@ fn differ(all: Option<&[u8]>) -> bool
     true
 }
 
-/// The ids that the pieces of a text are.
 fn read_pieces(text: &[u8]) -> Option<Ids<'_>>
     ensures { MatchOption result ((all : List ℕ) → Spell (pieces is_comma text.now) all → ⊥)
         (λ ids. Spell (pieces is_comma text.now) ids) }

@@ -31,8 +31,8 @@ const LITTLE_BUDGET: u64 = 101;
 
 const LITTLE_BOUND: Cost = 500_500;
 
-/// What the plan of the late day costs, and how many nodes its tree has, with which `bench/judge.py` shows that no choices cost
-/// less.
+/// What the plan of the late day costs, and how many nodes its tree has, with which `dispatch-tools judge` shows that no choices
+/// cost less.
 const LATE_LEAST: Cost = 4_804_000_000;
 
 const LATE_NODES: usize = 161;

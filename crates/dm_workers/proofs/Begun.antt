@@ -34,7 +34,6 @@ pub tally_deques : (ds : List RowsId) → map deque_of (map (new_tally {T = Path
 tally_deques [] = refl
 tally_deques (d ∷ ds) = ap (λ es. d ∷ es) (tally_deques ds)
 
--- nothing is found yet
 pub none_found : (task : GuidedTask) (own : ℕ) (word : TableId) (start seats : ℕ) (hand : HandValue) (leaves : List Leaf) (choices : List Decision) (cost : ℕ)
     → AreKept task.task own choices cost → leaves ≡ [] → hand.word ≡ word → hand.start ≡ start → hand.room ≡ seats → AreListed cost hand.lowered
     → AreFindings task own word start seats hand leaves choices cost
@@ -51,7 +50,6 @@ module _ (net : Net) (rows : RowsValue) (penalty : ℕ) (base : List Decision) (
   abbrev task : GuidedTask
   task = record { task = task_beside net rows penalty base budget; hints = hints }
 
-  -- the rows' own choices
   pub own_kept : AreKept task.task own [] own
   own_kept = record {
     in_order = some_of_none (choices_beside net rows base);

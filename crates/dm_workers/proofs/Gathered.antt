@@ -20,7 +20,6 @@ use Rattle.dm_workers.specs.Inside.Gathering.{all_taken, HasLent, AreGathered}
 use Rattle.dm_workers.proofs.Efforts.{ends_lower, listed_lower}
 use Rattle.dm_workers.proofs.Ways.{below_weight}
 
--- two hands made one
 abbrev pub both : HandValue → HandValue → HandValue
 both h k = record h { lowered = h.lowered ++ k.lowered; looked = min h.looked k.looked; room = h.room + k.room }
 

@@ -26,7 +26,6 @@ use Rattle.dm_workers.proofs.Begun.{none_found}
 use Rattle.dm_workers.proofs.Ends.{pairs}
 
 module _ {F : Type 0} (task : GuidedTask) (own : ℕ) (word : TableId) (start : ℕ) (theirs : List RowsId) where
-  -- all hands are of the word
   pub handed_words : {E : Type 0} (jobs : List (Worker F)) (worked : List (Result (Worker F) E)) → AreHandedIn task own word start theirs jobs worked
       → All (λ r. IfOk r (λ w. w.hand.word ≡ word)) worked
   handed_words {E} [] [] h = All-nil (λ (r : Result (Worker F) E). IfOk r (λ w. w.hand.word ≡ word))
@@ -46,7 +45,6 @@ module _ {F : Type 0} (task : GuidedTask) (own : ℕ) (word : TableId) (start : 
       All-cons (λ (r : Result (Worker F) E). IfOk r (λ w. IfSome w.evaluator (IsOver task.task))) r rs
       (IfOk-weaker r (HandsIn task own word start theirs w) (λ v. IfSome v.evaluator (IsOver task.task)) (λ v d. d.evaluator) h.0) (handed_evaluators ws rs h.1)
 
-  -- nothing is gathered yet
   pub none_gathered : (g : Gathered F) (hand : HandValue) (choices : List Decision) (best : ℕ)
       → (g.owners.items ≡ []) × (g.tallies.items ≡ []) × (g.hand ≡ hand) × (g.leaves.items ≡ []) × (g.given_up.items ≡ []) × (g.best.choices ≡ choices) × (g.best.cost ≡ best)
       → hand.word ≡ word → hand.start ≡ start → AreListed best hand.lowered → AreKept task.task own choices best → IsGatheredFrom task own word start hand.room theirs [] g

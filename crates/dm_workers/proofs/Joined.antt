@@ -29,7 +29,6 @@ module _ {F : Type 0} where
   )
 
   module _ (task : GuidedTask) (own : ℕ) (word : TableId) (start rooms : ℕ) (theirs : List RowsId) where
-    -- one worker more
     pub one_more : (done : List (Worker F)) (job w : Worker F) (old new : Gathered F) → IsGatheredFrom task own word start rooms theirs done old → HandsIn task own word start theirs job w
         → IsGathered task own word start (rooms + length done + 1) (λ h. given_to h done + sum_by h job.owner.account.put) new
         → new.owners.items ≡ old.owners.items ++ w.owner ∷ [] → new.tallies.items ≡ old.tallies.items ++ w.tallies.items ∷ []

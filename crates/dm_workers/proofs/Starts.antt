@@ -24,7 +24,6 @@ use Rattle.dm_workers.specs.Nodes.{GuidedTask, IsChosen}
 use Rattle.dm_workers.specs.Found.{IsShown, IsEnd, IsHandedIn, AreKept, BeginsFrom, GrowsFrom}
 use Rattle.dm_workers.proofs.Outcomes.{one_chosen, chosen_is_ordered}
 
--- rows have one cost
 one_cost : (net : Net) (rows : RowsValue) (penalty a b : ℕ) → Costs net rows penalty a → Costs net rows penalty b → a ≡ b
 one_cost net rows penalty a b p q =
     p.cost ∙ (ap (λ x. cost_of net rows x penalty) (one_least net rows (is_active net rows) p.times q.times p.least q.least) ∙ sym q.cost)

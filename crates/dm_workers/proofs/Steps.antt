@@ -54,7 +54,6 @@ module _ {F : Type 0} (task : GuidedTask) (own : ℕ) (word : TableId) (start : 
       (sym is)
       (looked_on task own word start given old.owner old.tallies.items old.hand old.leaves.items old.given_up.items old.best.choices old.best.cost (only path) seen w)
 
-  -- no path was found
   pub none_taken : (old new : Worker F) → HasFoundNone old new → Work nothing old → Work nothing new
   none_taken old new n w = subst (Work nothing) (sym n.same)
       (subst (λ (o : _). IsAtWork task own word start given nothing o new.tallies.items old.hand old.leaves.items old.given_up.items old.best.choices old.best.cost) (sym n.owner)
@@ -65,7 +64,6 @@ module _ {F : Type 0} (task : GuidedTask) (own : ℕ) (word : TableId) (start : 
   path_left old new path g w = subst (Work nothing) (sym g.same)
       (left task own word start given old.owner old.tallies.items old.hand old.leaves.items old.given_up.items old.best.choices old.best.cost path new.given_up.items w g.given_up)
 
-  -- a path is taken
   pub path_taken : (old new : Worker F) (path : Path) → HasTaken old new path → Work nothing old → Work (only path) new
   path_taken old new path t w = subst (Work (only path)) (sym t.same)
       (taken task own word start given old.owner old.tallies.items old.hand old.leaves.items old.given_up.items old.best.choices old.best.cost path new.owner new.tallies.items w t.put t.weighs)

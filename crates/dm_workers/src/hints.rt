@@ -65,7 +65,6 @@ fn hint_of(hints: &[Hint], node: usize) -> Option<Hint>
     }
 }
 
-/// Whether the hint is this choice.
 pub(crate) fn is_hinted(hint: Option<Choice>, choice: Choice) -> bool
     ensures { MatchBool result (hint ≡ Some choice) (hint ≡ Some choice → ⊥) }
 {

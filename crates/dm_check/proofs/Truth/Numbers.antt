@@ -52,7 +52,6 @@ head_early : (net : Net) (rows : RowsValue) (o : Option ℕ) (e : EventId) (t : 
 head_early net rows None e t within is = absurd is
 head_early net rows (Some x) e t within is = passed_early rows _ t within is.1
 
--- the same of a change
 change_early : (net : Net) (rows : RowsValue) (o : Option ℕ) (P : ℕ → Type 0) (e : EventId) (t : ℕ) → RowsAreWithinLimits rows → IsSomeAnd o (λ x. P x × HeadHasPassed net rows x e t) → t ≤ largest_value
 change_early net rows None P e t within is = absurd is
 change_early net rows (Some x) P e t within is = passed_early rows _ t within is.1.1

@@ -75,12 +75,10 @@ items_next s history feed before (x ∷ items) answers order =
     (subst (λ (l : ℕ). IsInOrder l (number_after (number_before before) (kind_of x)) items) (sym (line_more before x)) order.2) in
     (record { line = order.0; number = order.1; is_true = answers.0 }, items_next s history feed (before ++ x ∷ []) items answers.1 more)
 
--- items that are each the next one are true
 pub next_true : (s : Setting) (history : List Entry) (feed : ℕ) (before items : List LogItem) → Each (IsNextItem s history feed) before items → AreTrueAnswers s history feed before items
 next_true s history feed before [] each = tt
 next_true s history feed before (x ∷ items) each = (each.0.is_true, next_true s history feed (before ++ x ∷ []) items each.1)
 
--- and in order
 pub next_in_order : (s : Setting) (history : List Entry) (feed : ℕ) (before items : List LogItem) → Each (IsNextItem s history feed) before items → IsInOrder (line_before before) (number_before before) items
 next_in_order s history feed before [] each = tt
 next_in_order s history feed before (x ∷ items) each = (

@@ -39,7 +39,6 @@ fn take_all_stops_one_byte_above_the_limit(rt: HostRuntime) -> Result<(), Fail> 
     Ok(())
 }
 
-// So many bytes `#`.
 fn hashes(alloc: Global, size: usize) -> Result<Vec<u8>, AllocError> {
     vec![in alloc; b'#'; size]
 }

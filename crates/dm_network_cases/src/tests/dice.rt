@@ -26,7 +26,6 @@ impl Dice {
         EventId(small(self.roll(8)))
     }
 
-    /// The id of one of some activities.
     fn activity_id(&mut self) -> ActId {
         ActId(small(self.roll(20)))
     }

@@ -40,7 +40,6 @@ pub fn passed(said: &[Message], event: EventId) -> Option<Secs> {
     passed
 }
 
-/// Whether a change is kept.
 pub fn is_kept(said: &[Message], change: ActId) -> bool {
     let mut kept = true;
     for message in said {

@@ -73,7 +73,6 @@ fn is_true(alloc: Global, net: &Network, day: Day<'_>) -> Result<bool, Fail> {
     Ok(found.as_slice() == day.times.as_slice() && cost(net, &rows, &found, 10) == day.price)
 }
 
-/// Whether each of these days is true.
 fn are_true(alloc: Global, net: &Network, days: &[Day<'_>]) -> Result<bool, Fail> {
     for day in days {
         if !is_true(alloc, net, *day)? {
