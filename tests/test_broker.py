@@ -18,7 +18,8 @@ from tests.patience import comes_to_be, PATIENCE
 from tests.samples import TOP
 
 sys.path.insert(0, os.path.join(TOP, 'examples', 'regions'))
-from play import Broker, stop  # noqa: E402
+from broker import Broker  # noqa: E402
+from play import stop  # noqa: E402
 
 IS_THERE = all(map(shutil.which, ('mosquitto', 'mosquitto_passwd', 'mosquitto_pub', 'mosquitto_sub')))
 CUTS = [Cut(1, 1, 2, 9, 60, 1000), Cut(2, 1, 2, 9, 30, 1000), Cut(3, 3, 2, 10, 0, 1000)]
@@ -211,15 +212,15 @@ class Access(OverBroker):
     def test_each_says_and_hears_its_own_topics_alone(self) -> None:
         said = [
             ('region-1', 'board/1/6'), ('region-1', 'board/2/6'), ('region-1', 'feed/1'), ('region-1', 'feed/2'), ('region-1', 'text/1'),
-            ('region-1', 'text/2'), ('region-2', 'board/2/6'), ('room-1', 'feed/1'), ('room-1', 'feed/2'), ('room-1', 'board/1/7'),
-            ('site', 'text/3'), ('site', 'feed/1'), ('watch', 'feed/1'), ('region-1', 'other'), ('region-1', '$SYS/x'),
+            ('region-1', 'text/2'), ('region-1', 'state/1'), ('region-1', 'state/2'), ('region-2', 'board/2/6'), ('room-1', 'feed/1'),
+            ('room-1', 'feed/2'), ('room-1', 'board/1/7'), ('site', 'text/3'), ('site', 'feed/1'), ('watch', 'feed/1'), ('region-1', 'other'), ('region-1', '$SYS/x'),
         ]
         self.listen('watch', 'all')
         self.listen('site', 'site')
         self.listen('region-2', 'region-2')
         for user, topic in said:
             self.say(user, topic, f'{user} {topic}', words=())
-        own = [('region-1', 'board/1/6'), ('region-1', 'text/1'), ('region-2', 'board/2/6'), ('room-1', 'feed/1')]
+        own = [('region-1', 'board/1/6'), ('region-1', 'text/1'), ('region-1', 'state/1'), ('region-2', 'board/2/6'), ('room-1', 'feed/1')]
         self.until('all', [f'{user} {topic}' for user, topic in own])
         self.until('site', ['region-1 text/1'])
         self.until('region-2', ['region-1 board/1/6', 'region-2 board/2/6'])

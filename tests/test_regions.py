@@ -8,6 +8,7 @@ import random
 import subprocess
 import tempfile
 import unittest
+from pathlib import Path
 from typing import Any, Iterator
 from unittest import mock
 
@@ -106,7 +107,13 @@ class Cuts(unittest.TestCase):
             self.assertEqual(done.returncode, 0, done.stderr)
             events = [len(read_network(os.path.join(folder, f'region-{number}', 'net')).events) for number in (1, 2)]
             self.assertEqual(events, [400, 400])
-            self.assertTrue(read_boundary(os.path.join(folder, 'region-1', 'Boundary.csv')))
+            cuts = {number: read_boundary(os.path.join(folder, f'region-{number}', 'Boundary.csv')) for number in (1, 2)}
+            self.assertTrue(cuts[1])
+            stops = {event.id: event.stop for event in day().events}
+            for number in 1, 2:
+                ends = {cut.here for cut in cuts[number]} | {cut.there for cut in cuts[3 - number]}
+                boards = ','.join(map(str, sorted({stops[event] for event in ends})))
+                self.assertEqual(Path(folder, f'region-{number}', 'boards').read_text(), f'{boards}\n')
 
 
 class Feeds(InFolder):

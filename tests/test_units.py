@@ -14,22 +14,30 @@ from tests.patience import comes_to_be
 from tests.samples import TOP
 
 LIVE = Path(TOP, 'examples', 'live')
+REGIONS = Path(TOP, 'examples', 'regions')
 
 # What is installed on a machine that runs the units, and not where this test runs.
-PROGRAM = '/usr/local/bin/dispatcher(-standby)?'
+PROGRAM = '/usr/local/bin/dispatcher(-standby|-region)?|/usr/sbin/mosquitto'
 
 
 class Units(unittest.TestCase):
     @unittest.skipUnless(shutil.which('systemd-analyze'), 'systemd-analyze is not installed')
     def test_systemd_finds_nothing_wrong(self) -> None:
         with tempfile.TemporaryDirectory() as folder:
-            for unit in [*LIVE.glob('*.service'), *LIVE.glob('*.timer')]:
+            for unit in [*LIVE.glob('*.service'), *LIVE.glob('*.timer'), *REGIONS.glob('*.service')]:
                 Path(folder, unit.name).write_text(re.sub(PROGRAM, '/bin/true', unit.read_text()))
             for unit in Path(folder).iterdir():
                 name = unit.name.replace('@', '@2026-12-24')
                 done = subprocess.run(['systemd-analyze', 'verify', '--man=no', '--recursive-errors=no', f'./{name}'], cwd=folder,
                                       capture_output=True, text=True, check=False)
                 self.assertEqual(done.stderr, '', name)
+
+    def test_a_region_has_all_its_services(self) -> None:
+        unit = (REGIONS / 'dispatcher-region@.service').read_text()
+        kinds = re.findall('^([a-z]+)\\)$', (REGIONS / 'dispatcher-region').read_text(), re.MULTILINE)
+        self.assertEqual(kinds, ['begin', 'server', 'room', 'relay', 'boards', 'state'])
+        self.assertEqual(re.findall('dispatcher-client@([a-z]+)-%i.service', unit), kinds[2:])
+        self.assertIn('\nRestartPreventExitStatus=2 3 4 5\n', unit)
 
     def test_server_is_not_started_again_where_people_have_to_look(self) -> None:
         unit = (LIVE / 'dispatcher@.service').read_text()

@@ -8,7 +8,8 @@ of about as many events each, in the order of their least stops. It refuses more
 DIR/region-1, region-2 and so on get a folder `net` with the two files of a network, and a table `Boundary.csv`. The table has a
 record for each cut activity whose tail is in the region: `event here;region here;region there;event there;lower bound;scheduled
 time there`. Each event is in one region. Each activity is in one region or in one table. A change that is cut is kept for ever,
-as a wait is, because a table knows no choices.
+as a wait is, because a table knows no choices. The file `boards` has the stops at which the region has an end of a cut activity,
+with commas between: give them to the region's server as --boards.
 
 With --date=DAY NET is a timetable in GTFS, which may be too large for one network: dispatch-tools split FEED STOPS DIR --date=DAY
 [OPTION..]. Then STOPS are its stop_ids, and the further options are those of from_gtfs. Each region's folder gets the files of
@@ -33,20 +34,23 @@ from dispatch_tools.days.split import Cut, LARGEST, MOST_REGIONS, parts_of, regi
 from dispatch_tools.formats.files import BadFile, speak_utf8, write_all
 from dispatch_tools.formats.giv import network_files, read_network
 from dispatch_tools.formats.gtfs_rows import Feed
+from dispatch_tools.formats.runtext import MOST_BOARDS
 from dispatch_tools.model.network import Activity, Event, Network
 from dispatch_tools.words import command_line, whole_between
 
 
 class Region(NamedTuple):
-    """The events and activities of a region, and the activities that were cut behind its events."""
+    """The events and activities of a region, the activities that were cut behind its events, and the stops where it has an end of one
+    that was cut."""
     events: list[Event]
     activities: list[Activity]
     cuts: list[Cut]
+    boards: set[int]
 
 
 def split(network: Network, region_of: list[int]) -> dict[int, Region]:
     """The regions by number."""
-    regions = {number: Region([], [], []) for number in sorted(set(region_of))}
+    regions = {number: Region([], [], [], set()) for number in sorted(set(region_of))}
     for place, event in enumerate(network.events):
         regions[region_of[place]].events.append(event)
     for place, activity in enumerate(network.activities):
@@ -57,6 +61,8 @@ def split(network: Network, region_of: list[int]) -> dict[int, Region]:
         else:
             there = network.events[head]
             here.cuts.append(Cut(activity.tail, region_of[tail], region_of[head], there.id, activity.lower, there.time))
+            here.boards.add(network.events[tail].stop)
+            regions[region_of[head]].boards.add(there.stop)
     return regions
 
 
@@ -73,6 +79,8 @@ def refuse_large_ones(regions: dict[int, Region]) -> None:
                 f'region {number} would have {len(region.events)} events and {len(region.activities)} activities, and may have '
                 f'{PROGRAM.events} and {PROGRAM.activities}: choose more regions, or more boundary stops'
             )
+        if len(region.boards) > MOST_BOARDS:
+            raise Refused(f'region {number} would have {len(region.boards)} boards, and may have {MOST_BOARDS}: choose fewer boundary stops')
 
 
 def write_regions(regions: dict[int, Region], folder: str, made: Optional[from_gtfs.Made]) -> None:
@@ -80,7 +88,8 @@ def write_regions(regions: dict[int, Region], folder: str, made: Optional[from_g
     for number, region in regions.items():
         files = network_files(region.events, region.activities) if made is None else from_gtfs.texts_of(named(made, region))
         write_all(os.path.join(folder, f'region-{number}', 'net'), files)
-        write_all(os.path.join(folder, f'region-{number}'), {'Boundary.csv': boundary_text(region.cuts)})
+        boards = f'{",".join(map(str, sorted(region.boards)))}\n'
+        write_all(os.path.join(folder, f'region-{number}'), {'Boundary.csv': boundary_text(region.cuts), 'boards': boards})
 
 
 def named(made: from_gtfs.Made, region: Region) -> from_gtfs.Made:

@@ -1,15 +1,19 @@
 #!/usr/bin/env python3
 """Plays a morning over a country of regions that answer at once: live.py DISPATCHER [FOLDER] [--regions N] [--faults F] [--seed S]
 
-DISPATCHER is the built program. The script generates a country, and cuts it into N regions (3, or up to 10). Each region is a
-`dispatcher serve` with a store. Its control room and its relay append to a feed each. A Mosquitto with TLS and the shipped access
-list passes on boards and lines. Whatever ends is started again, as systemd would do.
+DISPATCHER is the built program. The script generates a country, and cuts it into N regions (3, or up to 10). Each region has the
+services of `dispatcher-region`: a `dispatcher serve` with a store, which has a feed for its control room and one for its relay, what
+fills these feeds, and what sends its boards and its state. A Mosquitto with TLS and the shipped access list passes them on. Whatever
+ends is started again, as systemd would do.
 
-The morning has reports of all control rooms: delays, corrections, passed events and the clock. At five moments the script waits
-until nothing moves any more. Then the times of all regions together must be those of one server over the whole network, event by
-event. With --faults so many times a server, a relay, a control room's client, a board's client or the broker is killed (SIGKILL)
-while reports go on. Between the third moment and the fourth, region 2 is away for a while (--away=SECONDS). What a reply file
-showed when its server was killed must still stand there at the end.
+The morning has reports of all control rooms: delays, corrections of delays, passed events and the clock. At five moments the script
+waits until nothing moves any more. Then the times of all regions together must be those of one server over the whole network, event
+by event. With --faults so many times a server, a relay, a control room's client, the boards' clients, what says the state, or the
+broker is killed (SIGKILL) while reports go on. Between the third moment and the fourth, region 2 is away for --away seconds by this
+computer's clock, in which reports go on. What a reply file showed when its server was killed must still stand there at the end.
+
+All the time `dispatch-tools regions` listens. At each moment its line must say that all is well and at rest, and while region 2 is
+away for longer than it has patience (10 s), that region 2 says nothing.
 
 The status is 1 if something differs. With a FOLDER, which must be new or empty, the files stay there. The script needs Debian's
 `mosquitto`, `mosquitto-clients` and `openssl`.
@@ -18,18 +22,19 @@ from __future__ import annotations
 
 import os
 import random
-import re
 import subprocess
 import sys
 import tempfile
-import threading
 import time
-from typing import Any, Callable, Iterator, Optional
+import urllib.error
+import urllib.request
+from typing import Any, Optional
 
 HERE = os.path.dirname(os.path.abspath(__file__))
-sys.path.insert(0, os.path.join(os.path.dirname(os.path.abspath(__file__)), '..', '..'))
+sys.path.insert(0, os.path.join(HERE, '..', '..'))
 
-from play import Broker, stop  # noqa: E402
+from broker import Tls  # noqa: E402
+from services import broker_of, Keeper, page_of, SCRIPT, services_of, surroundings  # noqa: E402
 from dispatch_tools.formats.files import BadFile, write_all  # noqa: E402
 from dispatch_tools.formats.giv import read_network  # noqa: E402
 from dispatch_tools.model.network import Network  # noqa: E402
@@ -38,7 +43,6 @@ from dispatch_tools.formats.runtext import read_run  # noqa: E402
 from dispatch_tools.here import words_of  # noqa: E402
 from dispatch_tools.words import command_line, whole_between, whole_path  # noqa: E402
 
-TRAINS = 80
 MIDDLES = [11 * line + 6 for line in range(8)]
 MOMENTS = 5
 REPORTS = 40
@@ -48,72 +52,8 @@ AGAIN = 2
 QUIET = 6 * AGAIN
 PATIENCE = 240.0
 
-
-class Tls(Broker):
-    """The broker with TLS, and a name and a password for each of so many regions."""
-
-    def __init__(self, folder: str, port: int, regions: int) -> None:
-        self.regions = regions
-        subprocess.run([os.path.join(HERE, 'certificates'), folder, 'localhost'], check=True)
-        super().__init__(folder, port)
-
-    def config(self) -> str:
-        tls = 'cafile ca.crt\ncertfile broker.crt\nkeyfile broker.key'
-        return re.sub('^(listener .*)$', rf'\1\n{tls}', super().config(), count=1, flags=re.MULTILINE)
-
-    def access(self) -> str:
-        """The two blocks of a region for each of them."""
-        text = super().access()
-        block = text[text.index('user region-1\n'):text.index('user region-2\n')]
-        blocks = (re.sub('(?<=[-/])1(?=/|$)', str(number), block, flags=re.MULTILINE) for number in range(1, self.regions + 1))
-        return ''.join(blocks) + text[text.index('user site\n'):]
-
-    def where(self) -> str:
-        return f'-h localhost\n--cafile {os.path.join(self.folder, "ca.crt")}'
-
-
-class Service:
-    """Processes, each of which reads what the one before it writes. If one of them ends, all are started again."""
-
-    def __init__(self, name: str, commands: list[list[str]], folder: str, before: Callable[[], object] = lambda: None) -> None:
-        self.name, self.commands, self.folder, self.before = name, commands, folder, before
-        self.running: list[subprocess.Popen[bytes]] = []
-        self.is_wanted = True
-        self.starts = 0
-        self.one = threading.Lock()
-
-    def start(self) -> None:
-        source: Any = subprocess.DEVNULL
-        self.running, self.starts = [], self.starts + 1
-        with open(os.path.join(self.folder, f'{self.name}-said'), 'ab') as said:
-            for command in self.commands:
-                out: Any = said if command is self.commands[-1] else subprocess.PIPE
-                self.running.append(subprocess.Popen(command, cwd=self.folder, stdin=source, stdout=out, stderr=said))
-                source = self.running[-1].stdout
-        for process in self.running[:-1]:
-            assert process.stdout is not None
-            process.stdout.close()
-
-    def tend(self) -> None:
-        """Starts what should run and does not."""
-        with self.one:
-            if self.is_wanted and (not self.running or any(process.poll() is not None for process in self.running)):
-                self.end()
-                self.start()
-
-    def kill(self, for_now: bool = True) -> None:
-        """Kills it, and for now it is started again."""
-        with self.one:
-            self.is_wanted = for_now
-            self.end()
-
-    def end(self) -> None:
-        if self.running:
-            self.before()
-        for process in self.running:
-            process.kill()
-        for process in self.running:
-            process.wait()
+# For how many seconds a region may say nothing before the page of the country calls that critical.
+SILENCE = 10
 
 
 class Region:
@@ -122,35 +62,14 @@ class Region:
     def __init__(self, country: Country, number: int) -> None:
         self.country, self.number = country, number
         self.folder = os.path.join(country.folder, f'region-{number}')
-        self.network = read_network(os.path.join(self.folder, 'net'))
-        self.stops = sorted({event.stop for event in self.network.events} & set(MIDDLES))
+        self.network = read_network(self.path('net'))
         self.said: list[str] = []
         self.shown = b''
-        os.makedirs(os.path.join(self.folder, 'store'), exist_ok=True)
-        for name in ['room', 'relay', *(f'net/board-{at}.txt' for at in self.stops)]:
-            open(self.path(name), 'ab').close()
-        self.services = list(self.made())
+        subprocess.run([SCRIPT, f'begin-{number}'], env=country.environment, check=True)
+        self.services = services_of(country.folder, number, country.environment, self.note)
 
     def path(self, name: str) -> str:
         return os.path.join(self.folder, name)
-
-    def made(self) -> Iterator[Service]:
-        """Its server, what appends the control room's lines and the relay's, and what sends its boards."""
-        program = self.country.program
-        boards = f'--boards={",".join(map(str, self.stops))}'
-        yield Service('server', [[program, 'serve', 'net', 'store', 'room', 'relay', boards]], self.folder, self.note)
-        room = self.client('mosquitto_sub', 'room', '-c', '-F', '%x', '-t', f'feed/{self.number}')
-        yield Service('room', [room, script('append', 'room', '--payloads')], self.folder)
-        topics = [word for other in self.country.numbers if other != self.number for word in ('-t', f'board/{other}/+')]
-        relay = script('relay', *self.country.boundaries, '--region', str(self.number), '--topics', '--feed', 'relay')
-        yield Service('relay', [self.client('mosquitto_sub', 'relay', '-c', '-F', '%t %x', *topics), relay], self.folder)
-        for at in self.stops:
-            sent = self.client('mosquitto_pub', f'board-{at}', '-s', '-r', '-t', f'board/{self.number}/{at}')
-            tail = ['tail', '-n', '+1', '-F', f'net/board-{at}.txt']
-            yield Service(f'board-{at}', [tail, script('board', f'--again={AGAIN}', '--send', *sent)], self.folder)
-
-    def client(self, program: str, name: str, *words: str) -> list[str]:
-        return self.country.broker.client(f'region-{self.number}', program, '-i', f'{name}-{self.number}', '-q', '1', *words)
 
     def note(self) -> None:
         """Notes what the server shows before it is killed."""
@@ -184,34 +103,33 @@ class Region:
 class Country:
     """A generated network, its regions, the broker, and what keeps all running."""
 
-    def __init__(self, program: str, folder: str, count: int, port: int, seed: int) -> None:
-        self.program, self.folder, self.draws = program, folder, random.Random(seed)
+    def __init__(self, given: Any, folder: str) -> None:
+        self.program, self.folder, self.draws = given.dispatcher, folder, random.Random(given.seed)
+        self.environment = surroundings(folder, self.program, AGAIN, given.page, SILENCE)
         self.net = os.path.join(folder, 'net')
-        subprocess.run([*words_of('day'), str(seed), str(TRAINS), folder], check=True)
-        split = script('split', self.net, ','.join(map(str, MIDDLES)), folder, '--regions', str(count))
-        subprocess.run(split, check=True)
+        subprocess.run([*words_of('day'), str(given.seed), str(given.trains), folder], check=True)
+        subprocess.run(script('split', self.net, ','.join(map(str, MIDDLES)), folder, '--regions', str(given.regions)), check=True)
         self.network: Network = read_network(self.net)
-        self.numbers = range(1, count + 1)
+        self.numbers = range(1, given.regions + 1)
         self.boundaries = [os.path.join(folder, f'region-{number}', 'Boundary.csv') for number in self.numbers]
         self.behind = {cut.there for name in self.boundaries for cut in read_boundary(name)}
-        self.broker = Tls(folder, port, count)
+        self.broker = Tls(folder, given.port, given.regions)
         self.regions = [Region(self, number) for number in self.numbers]
         self.home: dict[int, Region] = {event.id: region for region in self.regions for event in region.network.events}
         self.said: list[str] = []
-        conf = Service('broker', [['mosquitto', '-c', 'mosquitto.conf']], folder)
-        self.services = [conf, *(service for region in self.regions for service in region.services)]
-        self.is_over = threading.Event()
-        self.tending = threading.Thread(target=self.tend, daemon=True)
+        services = [broker_of(folder), *(service for region in self.regions for service in region.services)]
+        self.page = given.page
+        self.keeper = Keeper([*services, page_of(folder, self.environment)])
+        # What may be killed.
+        self.services = services
 
-    def tend(self) -> None:
-        while not self.is_over.wait(0.2):
-            for service in self.services:
-                service.tend()
-
-    def end(self) -> None:
-        self.is_over.set()
-        self.tending.join()
-        stop([process for service in self.services for process in service.running])
+    def health(self) -> str:
+        """The line of the page of the country."""
+        try:
+            with urllib.request.urlopen(f'http://127.0.0.1:{self.page}/health', timeout=20) as came:
+                return str(came.read().decode())
+        except urllib.error.HTTPError as error:
+            return error.read().decode()
 
     # -- What is reported
 
@@ -225,14 +143,25 @@ class Country:
             return
         event = self.draws.choice([event for event in self.network.events if event.id not in self.behind])
         line = f'delay event {event.id} {self.draws.randrange(900)}'
-        if kind < 4 and event.time < now and not any(said.startswith(f'pass {event.id} ') for said in self.said):
+        if kind == 1:
+            line = self.corrected() or line
+        elif kind < 4 and event.time < now and not any(said.startswith(f'pass {event.id} ') for said in self.said):
             line = f'pass {event.id} {event.time + self.draws.randrange(300)}'
         self.said.append(line)
-        self.home[event.id].report(line)
+        self.home[int(line.split()[-2])].report(line)
+
+    def corrected(self) -> Optional[str]:
+        """A correction down of a delay that was reported, or none where none is left that is not 0."""
+        last = {key_of(line): int(line.split()[-1]) for line in self.said if line.startswith('delay')}
+        late = [key for key, delay in last.items() if delay]
+        if not late:
+            return None
+        key = self.draws.choice(late)
+        return f'{key} {self.draws.randrange(last[key])}'
 
     def fault(self) -> str:
         """Kills a service that runs; which one."""
-        service = self.draws.choice([one for one in self.services if one.is_wanted and one.running])
+        service = self.draws.choice([one for one in self.services if one.is_wanted and one.process is not None])
         service.kill()
         return service.name
 
@@ -293,9 +222,20 @@ def set_away(region: Region, is_away: bool) -> None:
         service.is_wanted = not is_away
 
 
+def rest(country: Country, number: int) -> int:
+    """Waits until all is at rest, and gives how many times differ, and whether the page says so."""
+    country.settle()
+    differing, line = country.differing(), country.health()
+    if line != f'OK {len(country.regions)} regions: all serve; the boundaries are at rest\n':
+        print(f'moment {number + 1}: the page of the country says: {line}', end='', flush=True)
+        differing += 1
+    return differing
+
+
 def moment(country: Country, number: int, faults: int, away: int) -> int:
     """Plays a fifth of the morning, and gives how many times differ at its end."""
     killed: list[str] = []
+    differing = 0
     if number == 3:
         set_away(country.regions[1], True)
     for count in range(REPORTS):
@@ -303,12 +243,16 @@ def moment(country: Country, number: int, faults: int, away: int) -> int:
         while len(killed) < (count + 1) * faults // REPORTS:
             killed.append(country.fault())
             time.sleep(country.draws.random())
+        if number == 3:
+            time.sleep(away / REPORTS)
     if number == 3:
-        time.sleep(away)
+        line = country.health()
+        if away > 2 * SILENCE and 'region 2 says nothing for ' not in line:
+            print(f'region 2 is away, and the page of the country says: {line}', end='', flush=True)
+            differing += 1
         set_away(country.regions[1], False)
-    country.settle()
-    differing = country.differing()
-    away_too = ', region 2 away for a while' if number == 3 else ''
+    differing += rest(country, number)
+    away_too = f', region 2 away for {away} s' if number == 3 else ''
     print(f'moment {number + 1}: {len(country.said)} lines, {len(killed)} kills{away_too}: {differing} times differ', flush=True)
     return differing
 
@@ -318,10 +262,12 @@ def main() -> None:
     words.add_argument('dispatcher', metavar='DISPATCHER', type=whole_path, help='the built program')
     words.add_argument('folder', metavar='FOLDER', nargs='?', type=whole_path, help='where files stay (a folder that is removed at the end)')
     words.add_argument('--regions', type=whole_between(2, 10), default=3, metavar='N', help='how many regions, 2 to 10 (3)')
+    words.add_argument('--trains', type=whole_between(80, 5_000), default=80, metavar='T', help='how many trains, of 20 events each (80)')
     words.add_argument('--faults', type=whole_between(0, 10_000), default=0, metavar='F', help='how often something is killed (0)')
-    words.add_argument('--away', type=whole_between(0, 3600), default=10, metavar='SECONDS', help='how long region 2 is away (10)')
+    words.add_argument('--away', type=whole_between(0, 3600), default=30, metavar='SECONDS', help='how long region 2 is away (30)')
     words.add_argument('--seed', type=whole_between(0, 999_999), default=7, metavar='S', help='from which the morning is drawn (7)')
     words.add_argument('--port', type=whole_between(1, 65_535), default=18833, metavar='P', help='the port of the broker (18833)')
+    words.add_argument('--page', type=whole_between(1, 65_535), default=18834, metavar='P', help='the port of the page (18834)')
     given = words.parse_args()
     folder: Optional[str] = given.folder
     with tempfile.TemporaryDirectory() as other:
@@ -334,15 +280,15 @@ def played(given: Any, folder: str) -> int:
     """Plays the morning; the status."""
     if os.listdir(folder):
         raise BadFile(folder, None, 'this folder is not empty')
-    country = Country(given.dispatcher, folder, given.regions, given.port, given.seed)
-    country.tending.start()
+    country = Country(given, folder)
+    country.keeper.start()
     try:
         shares = [given.faults * (number + 1) // MOMENTS - given.faults * number // MOMENTS for number in range(MOMENTS)]
         # It ends at the first moment that differs, so that the files show it.
         differing = next(filter(None, (moment(country, number, share, given.away) for number, share in enumerate(shares))), 0)
         lost = country.lost()
     finally:
-        country.end()
+        country.keeper.end()
     starts = sum(service.starts - 1 for service in country.services)
     print(f'{given.regions} regions, {len(country.network.events)} events, {starts} starts after kills: '
           f'{differing} times differ, {lost} regions lost a reply')

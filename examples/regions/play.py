@@ -16,10 +16,7 @@ the broker keeps the last one. `text/N` has the lines of the text of the region'
 from __future__ import annotations
 
 import os
-import re
-import secrets
 import shutil
-import socket
 import subprocess
 import sys
 import tempfile
@@ -30,6 +27,7 @@ from typing import Any, Iterable, NamedTuple
 HERE = os.path.dirname(os.path.abspath(__file__))
 sys.path.insert(0, os.path.join(os.path.dirname(os.path.abspath(__file__)), '..', '..'))
 
+from broker import Broker  # noqa: E402
 from dispatch_tools.formats.giv import read_network  # noqa: E402
 from dispatch_tools.model.railway import Rows, sound_times  # noqa: E402
 from dispatch_tools.live.relay import read_boundary  # noqa: E402
@@ -52,62 +50,6 @@ PATIENCE = 120.0
 
 # So many lines of a text stand before its journal.
 HEADER = 4
-
-
-class Broker:
-    """A Mosquitto with the users of `access` and what they may do, and a new password for each of them."""
-
-    def __init__(self, folder: str, port: int) -> None:
-        self.folder, self.port = folder, port
-        # Started by root it would become the user `mosquitto`, who may not read the folder.
-        self.write('mosquitto.conf', self.config() + ('user root\n' if os.geteuid() == 0 else ''))
-        access = self.access()
-        self.write('access', access)
-        passwords = {user: secrets.token_urlsafe() for user in re.findall('^user (.+)$', access, re.MULTILINE)}
-        self.write('passwords', ''.join(f'{user}:{password}\n' for user, password in passwords.items()))
-        subprocess.run(['mosquitto_passwd', '-U', os.path.join(folder, 'passwords')], check=True)
-        for user, password in passwords.items():
-            words = f'{self.where()}\n-p {port}\n-u {user}\n-P {password}\n'
-            for program in ('mosquitto_pub', 'mosquitto_sub'):
-                self.write(os.path.join(f'of-{user}', program), words)
-
-    def config(self) -> str:
-        """What the broker is told, as it ships, at its port."""
-        with open(os.path.join(HERE, 'mosquitto.conf'), encoding='ascii') as file:
-            return file.read().replace('listener 18830 ', f'listener {self.port} ')
-
-    def access(self) -> str:
-        """Who may write and read what, as it ships."""
-        with open(os.path.join(HERE, 'access'), encoding='ascii') as file:
-            return file.read()
-
-    def where(self) -> str:
-        """The words by which a client finds the broker."""
-        return '-h 127.0.0.1'
-
-    def write(self, name: str, text: str) -> None:
-        """Writes a file that its owner alone may read."""
-        name = os.path.join(self.folder, name)
-        os.makedirs(os.path.dirname(name), exist_ok=True)
-        with open(os.open(name, os.O_WRONLY | os.O_CREAT | os.O_TRUNC, 0o600), 'w', encoding='ascii') as file:
-            file.write(text)
-
-    def client(self, user: str, program: str, *words: str) -> list[str]:
-        """The command of a user's client. It finds name and password in a file, so that they are not in the list of processes."""
-        return ['env', f'XDG_CONFIG_HOME={os.path.join(self.folder, f"of-{user}")}', program, *words]
-
-    def start(self) -> subprocess.Popen[bytes]:
-        """Starts the broker, and waits until it accepts connections."""
-        with open(os.path.join(self.folder, 'broker-said'), 'ab') as said:
-            process = subprocess.Popen(['mosquitto', '-c', 'mosquitto.conf'], cwd=self.folder, stdout=said, stderr=said)
-        for _ in range(1200):
-            try:
-                socket.create_connection(('127.0.0.1', self.port)).close()
-                return process
-            except OSError:
-                time.sleep(0.05)
-        process.kill()
-        raise SystemExit('the broker does not start')
 
 
 class Play:
