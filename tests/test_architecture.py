@@ -1,4 +1,4 @@
-"""The list of crates: its rows are written from crates.txt and the crates' roots, and what differs is told."""
+"""The list of crates: its rows come from crates.txt and the crates' roots, and what differs on the pages is told."""
 from __future__ import annotations
 
 import contextlib
@@ -7,7 +7,7 @@ import os
 import unittest
 
 from dispatch_tools.dev import architecture
-from tests.folders import InFolder, read
+from tests.folders import InFolder
 
 CRATES = '''# Each crate, and the crates that it stands on.
 dm_low: csv
@@ -15,38 +15,7 @@ dm_middle: dm_low
 dm_high may_wait=2: dm_middle dm_low csv
 '''
 
-PAGE = '''# The crates
-
-What they are.
-
-## The ground
-
-- `dm_low`
-
-## Above
-
-- `dm_middle`: An old sentence that goes on
-  in a second line. On dm_none.
-- `dm_high`
-
-Words below.
-'''
-
-WRITTEN = '''# The crates
-
-What they are.
-
-## The ground
-
-- `dm_low`: Numbers: of files. On csv.
-
-## Above
-
-- `dm_middle`: Sums over two lines. On dm_low.
-- `dm_high`: The program. On dm_middle.
-
-Words below.
-'''
+LISTED = ['dm_low: Numbers: of files. On csv.', 'dm_middle: Sums over two lines. On dm_low.', 'dm_high: The program. On dm_middle.']
 
 ROOTS = {
     'dm_low/src/lib.rt': '//! Numbers: of files.\n//!\n//! It stands on csv.\n',
@@ -74,30 +43,31 @@ class Crates(InFolder):
             status = architecture.main([*words, '--repository', self.folder])
         return status, out.getvalue().splitlines()
 
-    def test_rows_are_written(self) -> None:
-        self.write('docs/CRATES.md', PAGE)
-        self.assertEqual(self.told()[0], 1)
-        self.assertEqual(self.told('--write'), (0, []))
-        self.assertEqual(read(self.folder, 'docs', 'CRATES.md'), WRITTEN)
-        self.assertEqual(self.told(), (0, []))
+    def test_each_crate_with_its_first_sentence_and_its_nearest_crates(self) -> None:
+        self.assertEqual(self.told(), (0, LISTED))
 
-    def test_crate_without_a_row_and_with_two(self) -> None:
-        self.write('docs/CRATES.md', WRITTEN.replace('- `dm_high`: The program. On dm_middle.\n', '- `dm_low`: Numbers: of files. On csv.\n'))
-        self.assertEqual(self.told(), (1, ['dm_high has no row', 'dm_low has 2 rows']))
+    def test_crates_with_those_that_stand_on_them(self) -> None:
+        self.assertEqual(self.told('dm_middle'), (0, LISTED[1:]))
+        with self.assertRaises(SystemExit), contextlib.redirect_stderr(io.StringIO()):
+            self.told('dm_none')
 
-    def test_sentence_of_another_root(self) -> None:
-        self.write('docs/CRATES.md', WRITTEN)
-        self.write('crates/dm_high/src/main.rt', '//! Another program.\n')
-        self.assertEqual(self.told(), (1, ['the rows are not as they would be written (--write)']))
+    def test_crates_that_stand_on_each_other_are_listed_all_the_same(self) -> None:
+        self.write('crates.txt', 'dm_low: dm_high\ndm_high: dm_low\n')
+        self.assertEqual(self.told()[0], 0)
+
+    def test_crate_that_no_page_names(self) -> None:
+        self.write('docs/PAGE.md', '`dm_low` and `dm_high`.\n')
+        self.assertEqual(self.told('--compare'), (1, ['no page names dm_middle']))
 
     def test_names_that_are_no_crates(self) -> None:
-        self.write('docs/CRATES.md', WRITTEN)
+        self.write('docs/PAGE.md', '`dm_low`, `dm_middle` and `dm_high`.\n')
+        self.assertEqual(self.told('--compare'), (0, []))
         self.write('docs/OTHER.md', 'As `dm_h..h` and dm_low, but not dm_gone nor `dm_.._cases`.\n')
-        self.assertEqual(self.told(), (1, ['dm_.._cases is no crate', 'dm_gone is no crate']))
+        self.assertEqual(self.told('--compare'), (1, ['dm_.._cases is no crate', 'dm_gone is no crate']))
 
-    def test_the_page_of_the_repository(self) -> None:
+    def test_the_pages_of_the_repository(self) -> None:
         with contextlib.redirect_stdout(io.StringIO()) as out:
-            status = architecture.main([])
+            status = architecture.main(['--compare'])
         self.assertEqual((status, out.getvalue()), (0, ''))
 
 

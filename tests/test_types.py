@@ -3,6 +3,7 @@ from __future__ import annotations
 
 import ast
 import os
+import re
 import shutil
 import subprocess
 import sys
@@ -94,10 +95,10 @@ class Package(unittest.TestCase):
             name = os.path.basename(script).removesuffix('.py')
             self.assertEqual(name in listed, name != '__init__', name)
 
-    def test_page_has_a_row_for_each(self) -> None:
+    def test_page_shows_a_use_of_each(self) -> None:
         page = text_of(os.path.join('docs', 'TOOLS.md'))
         for name in (name for package in PACKAGES for name in commands_in(package)):
-            self.assertEqual(page.count(f'\n| `{name}` | '), 1, name)
+            self.assertEqual(len(re.findall(rf'`{name}[ `]', page)), 1, name)
 
     def test_runs_a_command_from_any_folder(self) -> None:
         for words in ['lint', '--help'], ['day'], ['relay', 'no such file', '--region', '1']:

@@ -1,18 +1,15 @@
-"""Writes the list of crates in docs/CRATES.md, or compares it: dispatch-tools architecture [--write]
+"""Lists the crates, lowest first, or compares the pages with them: dispatch-tools architecture [--compare] [CRATE ..]
 
-The page has a heading for each wing, and below it a row for each crate of the wing. People say in which wing a crate stands, by a
-row that begins with its name. The script says the rest: what the crate is, by the first sentence of its root, and its nearest
-crates, which are those of its line in crates.txt to which no other crate of the line leads. With --write it writes all rows anew.
+A row says what a crate is, by the first sentence of its root, and names its nearest crates: those of its line in crates.txt to
+which no other crate of the line leads. With CRATE it lists these crates, and those that stand on them right away.
 
-Without, it compares. Each crate of crates.txt must have one row, and each row must be as it would be written. The pages of docs/
-may name no crate that crates.txt does not have; in a name two points stand for any letters: `dm_.._cases` is every crate of
-cases. The status is 0 if nothing differs, else 1.
+With --compare it prints what differs, and the status is 1 if anything does. The pages of docs/ must name each crate `dm_..`, and none
+that crates.txt does not have; in a name two points stand for any letters: `dm_.._cases` is every crate of cases.
 """
 from __future__ import annotations
 
 import re
 import textwrap
-from collections import Counter
 from pathlib import Path
 from typing import Iterator, Optional, Sequence
 
@@ -22,7 +19,6 @@ from dispatch_tools.words import command_line
 REPOSITORY = Path(TOP)
 
 NAMED = re.compile(r'\bdm_(?:\w|\.\.(?=\w))+')
-ROW = re.compile(r'- `(\w+)`')
 WIDTH = 130
 
 
@@ -68,25 +64,19 @@ def root_of(folder: Path, crate: str) -> str:
     return ''
 
 
-def row_of(crate: str, sentence: str, stands_on: set[str]) -> list[str]:
+def row_of(crate: str, sentence: str, stands_on: set[str]) -> str:
     """The row of a crate, in lines that are not too wide."""
     on = f' On {", ".join(sorted(stands_on))}.' if stands_on else ''
-    return textwrap.wrap(f'- `{crate}`: {sentence}.{on}', WIDTH, subsequent_indent='  ', break_long_words=False, break_on_hyphens=False)
+    return textwrap.fill(f'{crate}: {sentence}.{on}', WIDTH, subsequent_indent='  ', break_long_words=False, break_on_hyphens=False)
 
 
-def written(page: str, crates: dict[str, set[str]], folder: Path) -> str:
-    """A page with its rows as they are due; a row of what is no crate is left out."""
-    lines: list[str] = []
-    inside = False
-    for line in page.splitlines():
-        row = ROW.match(line)
-        if row:
-            name = row[1]
-            lines += row_of(name, first_sentence(root_of(folder, name)), nearest(name, crates)) if name in crates else []
-        elif not (inside and line.startswith('  ')):
-            lines.append(line)
-        inside = bool(row) or inside and line.startswith('  ')
-    return '\n'.join(lines) + '\n'
+def lowest_first(crates: dict[str, set[str]]) -> list[str]:
+    """The crates in an order in which each stands behind those of its line."""
+    order: list[str] = []
+    while len(order) < len(crates):
+        left = [crate for crate in crates if crate not in order]
+        order += [crate for crate in left if not crates[crate] & set(left)] or left
+    return order
 
 
 def covers(written_name: str, crate: str) -> bool:
@@ -94,29 +84,29 @@ def covers(written_name: str, crate: str) -> bool:
     return re.fullmatch(r'\w+'.join(map(re.escape, written_name.split('..'))), crate) is not None
 
 
-def differences(page: str, others: Sequence[str], crates: dict[str, set[str]], folder: Path) -> Iterator[str]:
+def differences(pages: Sequence[str], crates: dict[str, set[str]]) -> Iterator[str]:
     """What differs, a line each."""
-    rows = Counter(row[1] for row in map(ROW.match, page.splitlines()) if row)
-    yield from (f'{crate} has no row' for crate in crates if crate not in rows)
-    yield from (f'{crate} has {count} rows' for crate, count in rows.items() if count > 1)
-    if page != written(page, crates, folder):
-        yield 'the rows are not as they would be written (--write)'
-    named = {name for text in (page, *others) for name in NAMED.findall(text)} | set(rows)
+    named = {name for page in pages for name in NAMED.findall(page)}
+    yield from (f'no page names {crate}' for crate in crates if crate.startswith('dm_') and not any(covers(name, crate) for name in named))
     yield from (f'{name} is no crate' for name in sorted(named) if not any(covers(name, crate) for crate in crates))
 
 
 def main(argv: Optional[Sequence[str]] = None) -> int:
     words = command_line(__doc__)
-    words.add_argument('--write', action='store_true', help='write the rows')
+    words.add_argument('--compare', action='store_true', help='print what differs between the pages and crates.txt')
     words.add_argument('--repository', type=Path, default=REPOSITORY, metavar='FOLDER', help='folder with docs, crates and crates.txt (here)')
+    words.add_argument('crates', nargs='*', metavar='CRATE', help='a crate, with those that stand on it (all)')
     asked = words.parse_args(argv)
-    top = asked.repository
-    crates = crates_of((top / 'crates.txt').read_text(encoding='utf-8'))
-    name = top / 'docs' / 'CRATES.md'
-    if asked.write:
-        name.write_text(written(name.read_text(encoding='utf-8'), crates, top / 'crates'), encoding='utf-8')
-    others = [path.read_text(encoding='utf-8') for path in sorted((top / 'docs').rglob('*.md')) if path != name]
-    told = list(differences(name.read_text(encoding='utf-8'), others, crates, top / 'crates'))
-    for line in told:
-        print(line)
-    return 1 if told else 0
+    crates = crates_of((asked.repository / 'crates.txt').read_text(encoding='utf-8'))
+    if asked.compare:
+        told = list(differences([path.read_text(encoding='utf-8') for path in sorted((asked.repository / 'docs').rglob('*.md'))], crates))
+        print(*told, sep='\n', end='\n' if told else '')
+        return 1 if told else 0
+    for name in asked.crates:
+        if name not in crates:
+            words.error(f'{name} is no crate of crates.txt')
+    for crate in lowest_first(crates):
+        on = nearest(crate, crates)
+        if not asked.crates or crate in asked.crates or on & set(asked.crates):
+            print(row_of(crate, first_sentence(root_of(asked.repository / 'crates', crate)), on))
+    return 0
