@@ -35,7 +35,7 @@ pub fn say_taking_up<R: Eprint + AllocGlobal + Files<File = File>>(
     rt: &R,
     words: &[String],
 ) -> io::Result<()> {
-    let Some(LiveWords::Serve(server)) = read_serve_words(words) else {
+    let Some(LiveWords::Serve(server) | LiveWords::Begin(server)) = read_serve_words(words) else {
         return Ok(());
     };
     let store = server.store;
@@ -62,7 +62,9 @@ pub fn do_live<
     requires { vec_len boards.old ≤ BOARDS }
 {
     match read_serve_words(words) {
-        Some(LiveWords::Serve(server)) => serve(rt, files, server, boards, out),
+        Some(LiveWords::Serve(server) | LiveWords::Begin(server)) => serve(
+            rt, files, server, boards, out,
+        ),
         Some(LiveWords::Text(server)) => {
             text_of_store(files.alloc(), &server, &mut FolderShelf::new(rt), out)
         }

@@ -79,7 +79,10 @@ fn stops(alloc: Global, words: &[String]) -> Result<Vec<u32>, AllocError>
     ensures { IfOk result (λ stops. vec_len stops ≤ BOARDS) }
 {
     match read_serve_words(words) {
-        Some(LiveWords::Serve(server)) => server.run.boards.to_vec(alloc),
+        Some(LiveWords::Serve(server) | LiveWords::Begin(server)) => server
+            .run
+            .boards
+            .to_vec(alloc),
         _ => board_words(alloc, words),
     }
 }
@@ -99,7 +102,7 @@ fn board_in<R: AllocGlobal + Files<File = File> + Drop>(
 fn folder(words: &[String]) -> &str {
     match (read_words(words), read_serve_words(words)) {
         (Some(CommandWords::Run(run)), _) => run.files.folder,
-        (_, Some(LiveWords::Serve(server))) => server.run.files.folder,
+        (_, Some(LiveWords::Serve(server) | LiveWords::Begin(server))) => server.run.files.folder,
         _ => "",
     }
 }

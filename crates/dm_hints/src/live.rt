@@ -16,14 +16,26 @@ use std::rt::Files;
 use std::str::from_utf8;
 
 /// Why a store is refused, and what to look at first.
-const REASONS: [(&str, &str); 3] = [
+const REASONS: [(&str, &str); 6] = [
+    (
+        "missing",
+        "the folder has no journal: was the store moved, or is its disk not mounted? A new store is begun by `serve --new`",
+    ),
+    (
+        "exists",
+        "the store was begun before: `serve` without --new goes on with it",
+    ),
+    (
+        "files",
+        "the store was begun over other files of the network: bring those back, or go on in a new store with `dispatch-tools carry`",
+    ),
     (
         "locked",
         "another server holds the store: make the file `stop` in its folder to end that one",
     ),
     (
         "full",
-        "the store has no room for more, 134217728 bytes of a journal and 536870912 of its text: go on with a new store",
+        "the store has no room for more, 134217728 bytes of a journal and 536870912 of its text: go on in a new store with `dispatch-tools carry`",
     ),
     (
         "head",
@@ -41,7 +53,7 @@ pub fn tell_live<R: Eprint + Files<File = File> + AllocGlobal, K: Sink>(
     out: &Listener<K>,
 ) -> io::Result<()> {
     match read_serve_words(words) {
-        Some(LiveWords::Serve(server)) => {
+        Some(LiveWords::Serve(server) | LiveWords::Begin(server)) => {
             tell_end(rt, words, &server, status, out.heard())?;
             tell_ended(rt, &server, status, out.heard())
         }

@@ -84,7 +84,7 @@ pub const COMMANDS: [CommandTable; 9] = [
     },
     CommandTable {
         name: "serve",
-        form: "serve DIR STORE FEED..",
+        form: "serve [--new] DIR STORE FEED..",
         least: 3,
         most: 66,
         options: FILES + BATCH + WORKERS + BOARDS,

@@ -25,6 +25,9 @@ const WANTED: [(&str, &str); 3] = [
     ),
 ];
 
+/// The word behind `serve` by which a store is begun.
+const NEW: &str = "--new";
+
 /// Says the first thing that is wrong with the words.
 pub fn tell_usage<R: Eprint>(rt: &R, words: &[String]) -> io::Result<()> {
     let Some((command, rest)) = words.split_first() else {
@@ -45,6 +48,9 @@ pub fn tell_usage<R: Eprint>(rt: &R, words: &[String]) -> io::Result<()> {
         );
     };
     for (place, word) in rest.iter().enumerate() {
+        if place == 0 && table.name == "serve" && word.as_str() == NEW {
+            continue;
+        }
         if is_wrong(table, rest.get(..place).unwrap_or_default(), word.as_str()) {
             return tell_word(rt, table, place.saturating_add(2), word.as_str());
         }
@@ -96,6 +102,13 @@ fn tell_word<R: Eprint>(rt: &R, table: CommandTable, place: usize, word: &str) -
                 Piece::Number(place as u128),
                 Piece::Text(" is empty"),
             ],
+        );
+    }
+    if word == NEW {
+        return say_word(
+            rt,
+            place,
+            &[Piece::Text("--new stands right behind `serve` alone")],
         );
     }
     if let Some(option) = option_of(word) {

@@ -1,10 +1,11 @@
 -- What words ask of a server: one thing at most, and no command.
-use Rattle.std.proofs.Common.{◌≡◌, ℕ, List, [], ◌∷◌, Option, codes, refl, sym, ap, ◌∙◌}
+use Rattle.std.proofs.Common.{◌≡◌, ℕ, List, [], ◌∷◌, Option, codes, refl, sym, ap, subst, ◌∙◌}
 use Rattle.std.specs.Option.{MatchOption}
 use Rattle.dm_words.specs.Queries.{kind_of, word_of}
 use Rattle.dm_words.specs.ServerAsked.{live_of}
-use Rattle.dm_words.specs.Serving.{AsksLive, AsksNoServer, AsksServer, LiveAsked, ServerAsked, ServeOf, TextOf}
-use Rattle.dm_words.specs.Words.{AsksNothing, RunOf, CheckOf, GenOf, QueryOf}
+use Rattle.dm_words.specs.Serving.{AsksLive, AsksNew, AsksNoServer, AsksServer, LiveAsked, ServerAsked, ServeOf, BeginOf, TextOf}
+use Rattle.dm_words.specs.Words.{AreKnown, AsksNothing, RunOf, CheckOf, GenOf, QueryOf}
+use Rattle.dm_words.specs.declared.options.Kind.TheVariants.{Run}
 use Rattle.dm_words.specs.declared.options.QueryKind.{QueryKind}
 use Rattle.dm_words.specs.declared.options.QueryKind.TheVariants as kind
 use Rattle.dm_words.specs.declared.serve.LiveWords.{LiveWords}
@@ -27,10 +28,27 @@ server_one words x y p q =
     (boards_one words x.run.boards y.run.boards p.boards q.boards))
     (first_name x.store y.store x.run.feeds y.run.feeds behind)
 
+new_one : (words : List (List ℕ)) (x y : ServerAsked) → AsksNew words x → AsksNew words y → x ≡ y
+new_one [] x y p q = absurd p
+new_one (word ∷ words) x y p q = server_one words x y p.1 q.1
+
+-- no other words of a server begin with the word for a new store
+not_known : (words : List (List ℕ)) → AreKnown Run (codes "--new" ∷ words) → ⊥
+not_known words known = cc
+
+not_new : (words : List (List ℕ)) (x y : ServerAsked) → AsksServer words x → AsksNew words y → ⊥
+not_new [] x y p q = q
+not_new (word ∷ words) x y p q = not_known words (subst (λ (w : List ℕ). AreKnown Run (w ∷ words)) q.0 p.known)
+
 pub one_live : (words : List (List ℕ)) (x y : LiveAsked) → AsksLive words x → AsksLive words y → x ≡ y
 one_live [] x y p q = absurd p
 one_live (word ∷ words) (ServeOf x) (ServeOf y) p q = ap ServeOf (server_one words x y p.1 q.1)
 one_live (word ∷ words) (TextOf x) (TextOf y) p q = ap TextOf (server_one words x y p.1 q.1)
+one_live (word ∷ words) (BeginOf x) (BeginOf y) p q = ap BeginOf (new_one words x y p.1 q.1)
+one_live (word ∷ words) (ServeOf x) (BeginOf y) p q = absurd (not_new words x y p.1 q.1)
+one_live (word ∷ words) (BeginOf x) (ServeOf y) p q = absurd (not_new words y x q.1 p.1)
+one_live (word ∷ words) (BeginOf x) (TextOf y) p q = absurd (differ (codes "serve") (codes "text") word p.0 q.0 refl)
+one_live (word ∷ words) (TextOf x) (BeginOf y) p q = absurd (differ (codes "text") (codes "serve") word p.0 q.0 refl)
 one_live (word ∷ words) (ServeOf x) (TextOf y) p q = absurd (differ (codes "serve") (codes "text") word p.0 q.0 refl)
 one_live (word ∷ words) (TextOf x) (ServeOf y) p q = absurd (differ (codes "text") (codes "serve") word p.0 q.0 refl)
 
@@ -52,6 +70,10 @@ no_command (word ∷ words) (ServeOf x) p (RunOf y) q = differ (codes "serve") (
 no_command (word ∷ words) (ServeOf x) p (CheckOf y) q = differ (codes "serve") (codes "check") word p.0 q.0 refl
 no_command (word ∷ words) (ServeOf x) p (GenOf y) q = differ (codes "serve") (codes "gen") word p.0 q.0 refl
 no_command (word ∷ words) (ServeOf x) p (QueryOf y) q = no_word_serve (kind_of y.query) word q.0 p.0
+no_command (word ∷ words) (BeginOf x) p (RunOf y) q = differ (codes "serve") (codes "run") word p.0 q.0 refl
+no_command (word ∷ words) (BeginOf x) p (CheckOf y) q = differ (codes "serve") (codes "check") word p.0 q.0 refl
+no_command (word ∷ words) (BeginOf x) p (GenOf y) q = differ (codes "serve") (codes "gen") word p.0 q.0 refl
+no_command (word ∷ words) (BeginOf x) p (QueryOf y) q = no_word_serve (kind_of y.query) word q.0 p.0
 no_command (word ∷ words) (TextOf x) p (RunOf y) q = differ (codes "text") (codes "run") word p.0 q.0 refl
 no_command (word ∷ words) (TextOf x) p (CheckOf y) q = differ (codes "text") (codes "check") word p.0 q.0 refl
 no_command (word ∷ words) (TextOf x) p (GenOf y) q = differ (codes "text") (codes "gen") word p.0 q.0 refl

@@ -1,5 +1,5 @@
--- What words ask of the live server: `serve DIR STORE FEED..`, or of its store: `text DIR STORE FEED..`, with the options of a run
--- among them.
+-- What words ask of the live server: `serve DIR STORE FEED..`, `serve --new DIR STORE FEED..` where a store is to be begun, or of its
+-- store: `text DIR STORE FEED..`, with the options of a run among them.
 use Rattle.std.specs.Prelude.{ℕ, ◌≡◌, ◌≤◌, List, [], ◌∷◌, length, filter, codes}
 use Rattle.dm_base.specs.declared.limits.TheConstants.{FEEDS}
 use Rattle.dm_words.specs.Options.{batch_option, is_name}
@@ -14,9 +14,10 @@ pub record ServerAsked : Type 0 where
   pub run : RunAsked
   pub store : List ℕ
 
--- what words may ask of a server: that it answers, or the text of what its store holds
+-- what words may ask of a server: that it answers, that it begins a store and answers, or the text of what its store holds
 pub data LiveAsked : Type 0 where
   ServeOf : ServerAsked → LiveAsked
+  BeginOf : ServerAsked → LiveAsked
   TextOf : ServerAsked → LiveAsked
 
 -- What the words behind `serve` or `text` ask for: the names are a folder, a store and 1 to FEEDS feeds, and the options are those of
@@ -31,10 +32,16 @@ pub record AsksServer (words : List (List ℕ)) (asked : ServerAsked) : Type 0 w
   pub workers : HasWorkers words asked.run.workers
   pub boards : HasBoards words asked.run.boards
 
+-- what the words behind `serve` ask for where the first of them is `--new`
+abbrev pub AsksNew : List (List ℕ) → ServerAsked → Type 0
+AsksNew [] asked = ⊥
+AsksNew (word ∷ words) asked = (word ≡ codes "--new") × AsksServer words asked
+
 -- the words, without the program's name, ask this of a server
 abbrev pub AsksLive : List (List ℕ) → LiveAsked → Type 0
 AsksLive [] live = ⊥
 AsksLive (word ∷ words) (ServeOf asked) = (word ≡ codes "serve") × AsksServer words asked
+AsksLive (word ∷ words) (BeginOf asked) = (word ≡ codes "serve") × AsksNew words asked
 AsksLive (word ∷ words) (TextOf asked) = (word ≡ codes "text") × AsksServer words asked
 
 -- the words ask nothing of a server

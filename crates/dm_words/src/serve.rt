@@ -1,8 +1,8 @@
 //! What the words of a command line ask of the live server and of its store.
-ghost use Rattle.std.specs.Prelude.{ℕ, ◌∷◌, map, string_bytes, MatchOption};
+ghost use Rattle.std.specs.Prelude.{ℕ, ◌≡◌, ◌∷◌, codes, map, string_bytes, MatchOption};
 ghost use Rattle.dm_words.specs.Options.{batch_option};
 ghost use Rattle.dm_words.specs.Queries.{HasNumber};
-ghost use Rattle.dm_words.specs.Serving.{AsksLive, AsksNoServer, AsksServer, ServerAsked};
+ghost use Rattle.dm_words.specs.Serving.{AsksLive, AsksNew, AsksNoServer, AsksServer, ServerAsked};
 ghost use Rattle.dm_words.specs.ServerAsked.{live_of, server_of};
 ghost use Rattle.dm_words.specs.declared.command.TheConstants.{BATCH as MOST};
 
@@ -14,6 +14,9 @@ use dm_base::limits::FEEDS;
 
 /// How many lines of each feed a server answers in a round where the words do not say it.
 pub const STANDARD_ROUND: u64 = 1_000;
+
+/// The word behind `serve` by which a store is begun.
+const NEW: &str = "--new";
 
 /// The words of a server: a run that goes on, and the folder of the store that keeps it.
 #[derive(Drop)]
@@ -27,8 +30,11 @@ pub struct ServeWords<'a> {
 /// What words ask of a server or of its store.
 #[derive(Drop)]
 pub enum LiveWords<'a> {
-    /// Answer the feeds as they grow.
+    /// Answer the feeds as they grow, and go on with what the store holds.
     Serve(ServeWords<'a>),
+
+    /// Begin the store, and answer the feeds as they grow.
+    Begin(ServeWords<'a>),
 
     /// Print the text of the run that the store holds.
     Text(ServeWords<'a>),
@@ -87,16 +93,42 @@ fn read_server(words: &[String]) -> Option<ServeWords<'_>>
     })
 }
 
+/// What the words behind `serve` ask for where the first of them is `--new`.
+fn read_new(words: &[String]) -> Option<ServeWords<'_>>
+    ensures { MatchOption result ((asked : ServerAsked) → AsksNew (map string_bytes words.now) asked → ⊥)
+        (λ server. AsksNew (map string_bytes words.now) (server_of server)) }
+{
+    let Some((first, rest)) = words.split_first() else {
+        return None;
+    };
+    if first.as_str() == NEW {
+        return read_server(rest);
+    }
+    None
+}
+
+/// What the words behind `serve` ask for.
+fn read_serve<'a>(command: &str, rest: &'a [String]) -> Option<LiveWords<'a>>
+    requires { command.now ≡ codes "serve" }
+    ensures { MatchOption result (AsksNoServer (command.now ∷ map string_bytes rest.now))
+        (λ live. AsksLive (command.now ∷ map string_bytes rest.now) (live_of live)) }
+{
+    if let Some(server) = read_new(rest) {
+        return Some(LiveWords::Begin(server));
+    }
+    match read_server(rest) {
+        Some(server) => Some(LiveWords::Serve(server)),
+        None => None,
+    }
+}
+
 /// What a command word and the words behind it ask of a server or of its store.
 fn read_live<'a>(command: &str, rest: &'a [String]) -> Option<LiveWords<'a>>
     ensures { MatchOption result (AsksNoServer (command.now ∷ map string_bytes rest.now))
         (λ live. AsksLive (command.now ∷ map string_bytes rest.now) (live_of live)) }
 {
     if command == "serve" {
-        return match read_server(rest) {
-            Some(server) => Some(LiveWords::Serve(server)),
-            None => None,
-        };
+        return read_serve(command, rest);
     }
     if command == "text" {
         return match read_server(rest) {
@@ -108,8 +140,8 @@ fn read_live<'a>(command: &str, rest: &'a [String]) -> Option<LiveWords<'a>>
 }
 
 /// What the words ask of a server or of its store, or nothing where they are in no such form. They are those without the
-/// program's name, and an option is a word `--NAME=VALUE` wherever it stands behind the command word. No command of
-/// [`crate::read_words`] has such words.
+/// program's name, and an option is a word `--NAME=VALUE` wherever it stands behind the command word; `--new` stands right behind
+/// `serve`. No command of [`crate::read_words`] has such words.
 pub fn read_serve_words(words: &[String]) -> Option<LiveWords<'_>>
     ensures { MatchOption result (AsksNoServer (map string_bytes words.now))
         (λ live. AsksLive (map string_bytes words.now) (live_of live)) }
