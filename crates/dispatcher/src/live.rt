@@ -62,9 +62,8 @@ pub fn do_live<
     requires { vec_len boards.old ≤ BOARDS }
 {
     match read_serve_words(words) {
-        Some(LiveWords::Serve(server) | LiveWords::Begin(server)) => serve(
-            rt, files, server, boards, out,
-        ),
+        Some(LiveWords::Serve(server)) => serve(rt, files, server, boards, out),
+        Some(LiveWords::Begin(server)) => serve(rt, files, server, boards, out),
         Some(LiveWords::Text(server)) => {
             text_of_store(files.alloc(), &server, &mut FolderShelf::new(rt), out)
         }

@@ -53,13 +53,23 @@ pub fn tell_live<R: Eprint + Files<File = File> + AllocGlobal, K: Sink>(
     out: &Listener<K>,
 ) -> io::Result<()> {
     match read_serve_words(words) {
-        Some(LiveWords::Serve(server) | LiveWords::Begin(server)) => {
-            tell_end(rt, words, &server, status, out.heard())?;
-            tell_ended(rt, &server, status, out.heard())
-        }
+        Some(LiveWords::Serve(server)) => tell_server(rt, words, &server, status, out.heard()),
+        Some(LiveWords::Begin(server)) => tell_server(rt, words, &server, status, out.heard()),
         Some(LiveWords::Text(server)) => tell_end(rt, words, &server, status, out.heard()),
         None => tell_words(rt, words),
     }
+}
+
+/// Says what went amiss with a server, and that it has ended.
+fn tell_server<R: Eprint + Files<File = File> + AllocGlobal>(
+    rt: &R,
+    words: &[String],
+    server: &ServeWords<'_>,
+    status: u8,
+    heard: &Heard,
+) -> io::Result<()> {
+    tell_end(rt, words, server, status, heard)?;
+    tell_ended(rt, server, status, heard)
 }
 
 /// Says why there is no run.
