@@ -19,6 +19,13 @@ IsTrueClaim s history (AskTime event) (Time n time) = IsTimeAt s history n event
 IsTrueClaim s history AskCost (Cost n cost) = IsCostAt s history n cost
 IsTrueClaim s history _ _ = ⊥
 
+-- the number of the entry at which the reply to a line claims something of the rows; any other reply claims nothing of them
+abbrev pub claimed_at : Line → Reply → Option ℕ
+claimed_at (Say message) (Refused at) = Some at.entry
+claimed_at (AskTime event) (Time n time) = Some n
+claimed_at AskCost (Cost n cost) = Some n
+claimed_at _ _ = None
+
 -- the line that is answered is one that is spelled
 abbrev pub IsSpelledAnswer : Answered → Type 0
 IsSpelledAnswer a = IsSpelledLine a.said

@@ -1,4 +1,7 @@
 //! What answers claim of the rows at an entry.
+ghost use Rattle.std.specs.Prelude.{◌≡◌};
+ghost use Rattle.dm_records.specs.Readings.{reply_of};
+ghost use Rattle.dm_check_answers.specs.Claims.{claimed_at};
 
 use dm_feed::Line;
 use dm_records::Answer;
@@ -13,7 +16,9 @@ pub struct Answered {
 impl Answered {
     /// After how many entries the answer claims something of the rows: the time of an event, the cost, or that a message is
     /// refused. None where it claims nothing of them.
-    pub fn claims_at(&self) -> Option<u32> {
+    pub fn claims_at(&self) -> Option<u32>
+        ensures { result ≡ claimed_at self.now.said (reply_of self.now.answer) }
+    {
         match &self.said {
             Line::Say(_) => match &self.answer {
                 Answer::Refused(number, _) => Some(*number),
