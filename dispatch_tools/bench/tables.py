@@ -61,7 +61,7 @@ TABLES = {
     ], '', '33 minutes of one processor of a busy machine'),
     'replanned-200': Table('STUDIES', 'A day that is replanned', [('examples/replan/play.py', PROGRAM, '--trains=200')]),
     'replanned-2000': Table('STUDIES', 'A day that is replanned', [('examples/replan/play.py', PROGRAM)], '', '4 minutes of a busy processor'),
-    'plans': Table('PLANNING, MEASURED', 'In numbers; Plans', [('plans', PROGRAM)]),
+    'plans': Table('MEASURED', 'Plans', [('plans', PROGRAM)]),
     'beside': Table('MEASURED', 'Feeds and boards beside each other',
                     [DAY, COUNTRY, ('speed', f'{FOLDER}/day', PROGRAM, f'--country={FOLDER}/country')]),
     'instructions': Table('MEASURED', 'One feed', [('instructions', PROGRAM)], 'valgrind'),
