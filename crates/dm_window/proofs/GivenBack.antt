@@ -1,14 +1,17 @@
 -- Choices that are given back, one after the other.
 use Rattle.std.proofs.Common.{◌≡◌, ℕ, zero, suc, ◌+◌, ◌-◌, ◌<◌, ◌≤◌, List, [], ◌∷◌, Option, Some, None, length, map, refl, sym, ap, subst, ◌∙◌, inl, inr, arith}
 use Rattle.std.specs.Prelude.{All, Contains, slice_get}
+use Rattle.std.proofs.lemmas.Option.{slice_get_within, slice_get_cases}
 use Rattle.std.specs.List.{remove}
 use Rattle.std.proofs.lemmas.List.Elements.{All-contains, All-contains_itself, Contains-append_right}
 use Rattle.dm_network.specs.Net.{Net}
 use Rattle.dm_rows.specs.declared.messages.Choice.{Choice}
 use Rattle.dm_rows.specs.declared.messages.Decision.{Decision}
 use Rattle.dm_base.specs.declared.ids.ActId.{ActId}
-use Rattle.dm_rows.specs.Decide.{IsChoiceList, free_choices_of, choice_of}
-use Rattle.dm_rows.specs.Active.{HasNoCycle, ShowsCycle}
+use Rattle.dm_rows.specs.Decide.{IsChoiceList, free_choices_of, choice_of, with_decisions}
+use Rattle.dm_rows.specs.Active.{HasNoCycle, ShowsCycle, is_active}
+use Rattle.dm_rows.specs.Cost.{cost_of}
+use Rattle.dm_tree.proofs.Shown.{one_least}
 use Rattle.dm_rows.specs.Rows.{RowsValue}
 use Rattle.dm_tree.specs.Plans.{AreSomeOf}
 use Rattle.dm_tree.specs.declared.plans.Plan.{Plan}
@@ -17,8 +20,8 @@ use Rattle.dm_paths.proofs.Lists.{apart_from_once}
 use Rattle.dm_paths.proofs.Setting.{in_front}
 use Rattle.dm_relax.proofs.BoundLaw.{all_from}
 use Rattle.dm_search.proofs.Optimal.{some_apart}
-use Rattle.dm_window.specs.Minimal.{IsPlanOver, IsMinimal, IsWorth, CostsSet}
-use Rattle.dm_window.specs.Inside.Thinning.{AreJudged, ExceedEach, IsJudged, IsThinned, with_worths, worth_of}
+use Rattle.dm_window.specs.Minimal.{IsPlanOver, IsMinimal, IsWorth, CostsSet, GivesBack}
+use Rattle.dm_window.specs.Inside.Thinning.{AreJudged, ExceedEach, IsNearAt, IsJudged, IsThinned, with_worths, worth_of}
 use Rattle.dm_window.specs.declared.thinning.KeptChoice.{KeptChoice}
 
 -- ---- lists without what stands at a place
@@ -69,9 +72,32 @@ module _ (net : Net) (rows : RowsValue) where
       (λ d h. All-contains (λ e. Contains (free_choices_of net rows) (choice_of e)) ds d list.free (in_removed ds place d h))
 
   module _ (penalty : ℕ) (plan : Plan) (most : ℕ) where
+    -- rows have one cost
+    one_set_cost : (ds : List Decision) (a b : ℕ) → CostsSet net rows penalty ds a → CostsSet net rows penalty ds b → a ≡ b
+    one_set_cost ds a b p q =
+        p.cost.cost
+        ∙ (ap (λ (x : List ℕ). cost_of net (with_decisions net rows ds) x penalty)
+        (one_least net (with_decisions net rows ds) (is_active net (with_decisions net rows ds)) p.cost.times q.cost.times p.cost.least q.cost.least)
+        ∙ sym q.cost.cost)
+
+    -- what is no more than each judged cost is no more than what the others cost without one
+    judged_cost : (others : List Decision) (o : Option ℕ) (c d : ℕ) → IsJudged net rows penalty others o → ((e : ℕ) → o ≡ Some e → c ≤ e) → CostsSet net rows penalty others d → c ≤ d
+    judged_cost others None c d judged low costs = absurd (judged costs.no_cycle)
+    judged_cost others (Some e) c d judged low costs = let same = one_set_cost others e d judged costs in omega (arith, same, low e refl)
+
+    no_less_than : (kept : List Decision) (costs : List (Option ℕ)) (c : ℕ) → AreJudged net rows penalty kept (length kept) costs
+        → ((k e : ℕ) → slice_get costs k ≡ Some (Some e) → c ≤ e) → (other d : ℕ) → other < length kept → CostsSet net rows penalty (remove kept other) d → c ≤ d
+    no_less_than kept costs c judged low other d below set =
+        elim (slice_get_cases costs other).1 [
+          | inl met ↦ judged_cost (remove kept other) met.0 c d (judged.each other met.0 met.2) (λ e is. low other e (met.2 ∙ ap Some is)) set
+          | inr past ↦ absurd (let size = judged.size in omega (arith, size, below, past.0))
+        ]
+
     pub thinned_none : IsPlanOver net rows penalty plan → IsThinned net rows penalty plan most plan.choices plan.cost
     thinned_none is =
         record {
+          many = 0;
+          given_back = refl;
           among = All-contains_itself plan.choices;
           in_order = all_some (map choice_of plan.choices);
           cost = is.cost;
@@ -87,14 +113,30 @@ module _ (net : Net) (rows : RowsValue) where
         (All-contains (Contains plan.choices) kept d thinned.among h))
 
     pub thinned_more : (kept : List Decision) (cost place c : ℕ) (costs : List (Option ℕ)) → IsThinned net rows penalty plan most kept cost →
-        AreJudged net rows penalty kept (length kept) costs → slice_get costs place ≡ Some (Some c) → c ≤ plan.cost + most →
+        AreJudged net rows penalty kept (length kept) costs → IsNearAt (plan.cost + most) costs place c →
         IsThinned net rows penalty plan most (remove kept place) c
-    thinned_more kept cost place c costs thinned judged at near =
+    thinned_more kept cost place c costs thinned judged near =
+        let at = near.0 in
+        let within = slice_get_within costs place (Some c) at in
         record {
+          many = suc thinned.many;
+          given_back = (
+            kept,
+            thinned.given_back,
+            record {
+              place = place;
+              within = omega (arith, within, judged.size);
+              others = refl;
+              cost = c;
+              costs = judged.each place (Some c) at;
+              near = near.1;
+              cheapest = λ other d below set. no_less_than kept costs c judged near.2 other d below set;
+            },
+          );
           among = all_from (Contains plan.choices) (remove kept place) (λ d h. All-contains (Contains plan.choices) kept d thinned.among (in_removed kept place d h));
           in_order = subst (AreSomeOf (map choice_of plan.choices)) (sym (map_removed choice_of kept place)) (some_removed (map choice_of plan.choices) (map choice_of kept) place thinned.in_order);
           cost = judged.each place (Some c) at;
-          near = near;
+          near = near.1;
         }
 
 -- rows of which a cycle is shown are not without one
@@ -131,6 +173,8 @@ module _ (net : Net) (rows : RowsValue) (penalty : ℕ) (plan : Plan) (most : �
   minimal_is choices thinned judged above is =
       let same : map (λ (k : KeptChoice). k.decision) choices ≡ kept = ap (map (λ (k : KeptChoice). k.decision)) is ∙ worths_kept cost kept costs judged.size in
       record {
+        many = thinned.many;
+        given_back = subst (GivesBack net rows penalty (plan.cost + most) thinned.many plan.choices) (sym same) thinned.given_back;
         among = subst (All (Contains plan.choices)) (sym same) thinned.among;
         in_order = subst (λ (ds : List Decision). AreSomeOf (map choice_of plan.choices) (map choice_of ds)) (sym same) thinned.in_order;
         cost = subst (λ (ds : List Decision). CostsSet net rows penalty ds cost) (sym same) thinned.cost;

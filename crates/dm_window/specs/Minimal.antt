@@ -1,5 +1,5 @@
 -- Which choices of a plan are kept where those that are worth little are given back.
-use Rattle.std.specs.Prelude.{ℕ, ◌≡◌, ◌+◌, ◌<◌, ◌≤◌, List, Some, All, Contains, map, slice_get}
+use Rattle.std.specs.Prelude.{ℕ, zero, suc, ◌≡◌, ◌+◌, ◌<◌, ◌≤◌, List, Some, All, Contains, length, map, slice_get}
 use Rattle.std.specs.List.{remove}
 use Rattle.dm_network.specs.Net.{Net}
 use Rattle.dm_rows.specs.declared.messages.Decision.{Decision}
@@ -33,8 +33,26 @@ IsWorth net rows penalty c limit others (Saves more) = CostsSet net rows penalty
 abbrev pub kept_of : Minimal → List Decision
 kept_of minimal = map (λ (kept : KeptChoice). kept.decision) minimal.choices
 
--- Kept are some of the plan's choices, in its order. With them the rows have no cycle, and cost what is told, at most so much more than
--- the plan. To leave out any one of them makes a cycle, or costs more than that.
+-- The decision at a place is given back: the others have no cycle, and cost at most a limit; and of those that can be left out, it
+-- is one whose loss costs least.
+pub record GivesOneBack (net : Net) (rows : RowsValue) (penalty limit : ℕ) (before after : List Decision) : Type 0 where
+  pub place : ℕ
+  pub within : place < length before
+  pub others : after ≡ remove before place
+  pub cost : ℕ
+  pub costs : CostsSet net rows penalty after cost
+  pub near : cost ≤ limit
+  pub cheapest : (other c : ℕ) → other < length before → CostsSet net rows penalty (remove before other) c → cost ≤ c
+
+-- so many decisions are given back, one after another
+abbrev pub GivesBack : Net → RowsValue → ℕ → ℕ → ℕ → List Decision → List Decision → Type 0
+GivesBack net rows penalty limit zero before after = after ≡ before
+GivesBack net rows penalty limit (suc many) before after =
+    (middle : List Decision) × GivesBack net rows penalty limit many before middle × GivesOneBack net rows penalty limit middle after
+
+-- Kept are some of the plan's choices, in its order: those that are left where one after another is given back whose loss costs
+-- least. With them the rows have no cycle, and cost what is told, at most so much more than the plan. To leave out any one of them
+-- makes a cycle, or costs more than that.
 pub record IsMinimal (net : Net) (rows : RowsValue) (penalty : ℕ) (plan : Plan) (most : ℕ) (minimal : Minimal) : Type 0 where
   pub among : All (Contains plan.choices) (kept_of minimal)
   pub in_order : AreSomeOf (map choice_of plan.choices) (map choice_of (kept_of minimal))
@@ -42,3 +60,5 @@ pub record IsMinimal (net : Net) (rows : RowsValue) (penalty : ℕ) (plan : Plan
   pub near : minimal.cost ≤ plan.cost + most
   pub worth : (place : ℕ) (kept : KeptChoice) → slice_get minimal.choices place ≡ Some kept →
       IsWorth net rows penalty minimal.cost (plan.cost + most) (remove (kept_of minimal) place) kept.worth
+  pub many : ℕ
+  pub given_back : GivesBack net rows penalty (plan.cost + most) many plan.choices (kept_of minimal)

@@ -19,8 +19,9 @@
 //! - All else is as in a true plan of a whole network.
 //!
 //! `thin` gives those of a plan's choices that stay where choices that are worth little are given back (`IsMinimal`), in the
-//! plan's order. With them the rows have no cycle, and cost at most a given amount more than the plan. Each comes with what it is
-//! worth: to leave out any one of them makes a cycle, or costs more than that amount allows.
+//! plan's order. One after another is given back, each time one whose loss costs least. With those that stay the rows have no
+//! cycle, and cost at most a given amount more than the plan. Each comes with what it is worth: to leave out any one of them makes
+//! a cycle, or costs more than that amount allows.
 //!
 //! `rebase` gives those of a plan's choices that differ from newer rows, in their order, and what these rows cost with them,
 //! under the newer entry. What it gives carries no mark. It is refused exactly by its faults, in this order:

@@ -8,7 +8,7 @@ use Rattle.dm_rows.specs.Decide.{choice_of, with_decisions}
 use Rattle.dm_rows.specs.Rows.{RowsValue}
 use Rattle.dm_tree.specs.Plans.{AreSomeOf}
 use Rattle.dm_tree.specs.declared.plans.Plan.{Plan}
-use Rattle.dm_window.specs.Minimal.{CostsSet}
+use Rattle.dm_window.specs.Minimal.{CostsSet, GivesBack}
 use Rattle.dm_window.specs.declared.thinning.KeptChoice.{KeptChoice}
 use Rattle.dm_window.specs.declared.thinning.Worth.{Worth}
 use Rattle.dm_window.specs.declared.thinning.Worth.TheVariants.{Needed, Saves}
@@ -24,25 +24,32 @@ pub record AreJudged (net : Net) (rows : RowsValue) (penalty : ℕ) (decisions :
   pub size : length costs ≡ many
   pub each : (place : ℕ) (cost : Option ℕ) → slice_get costs place ≡ Some cost → IsJudged net rows penalty (remove decisions place) cost
 
--- each cost is above a limit, and the cost at a place is not
+-- each cost is above a limit
 abbrev pub ExceedEach : ℕ → List (Option ℕ) → Type 0
 ExceedEach limit costs = (place c : ℕ) → slice_get costs place ≡ Some (Some c) → limit < c
 
+-- the cost at a place is not above a limit, and none costs less
 abbrev pub IsNearAt : ℕ → List (Option ℕ) → ℕ → ℕ → Type 0
 IsNearAt limit costs place c = (slice_get costs place ≡ Some (Some c)) × (c ≤ limit)
+    × ((other d : ℕ) → slice_get costs other ≡ Some (Some d) → c ≤ d)
 
--- a cost that is not above the limit is found among those before a place, if there is one
+-- the least cost that is not above the limit is found among those before a place, if there is one
 abbrev pub Finds : ℕ → List (Option ℕ) → ℕ → Option (ℕ × ℕ) → Type 0
 Finds limit costs place None = (k c : ℕ) → k < place → slice_get costs k ≡ Some (Some c) → limit < c
-Finds limit costs place (Some found) = IsNearAt limit costs found.0 found.1
+Finds limit costs place (Some found) = (slice_get costs found.0 ≡ Some (Some found.1)) × (found.1 ≤ limit)
+    × ((k c : ℕ) → k < place → slice_get costs k ≡ Some (Some c) → found.1 ≤ c)
 
--- what is found is what was found before, or the cost at a place, which is not above the limit
+-- what is found is what was found before, where the cost at a place is above the limit or no less, or that cost, where it is neither
 abbrev pub FindsNext : ℕ → Option (ℕ × ℕ) → ℕ → ℕ → Option (ℕ × ℕ) → Type 0
 FindsNext limit before place c None = (before ≡ None) × (limit < c)
-FindsNext limit before place c (Some found) = (before ≡ Some found) ⊎ ((found ≡ (place, c)) × (c ≤ limit))
+FindsNext limit before place c (Some found) =
+    ((before ≡ Some found) × ((limit < c) ⊎ (found.1 ≤ c)))
+    ⊎ ((found ≡ (place, c)) × (c ≤ limit) × ((b : ℕ × ℕ) → before ≡ Some b → c ≤ b.1))
 
--- some of the plan's choices, which cost this
+-- some of the plan's choices, which cost this, once so many were given back
 pub record IsThinned (net : Net) (rows : RowsValue) (penalty : ℕ) (plan : Plan) (most : ℕ) (kept : List Decision) (c : ℕ) : Type 0 where
+  pub many : ℕ
+  pub given_back : GivesBack net rows penalty (plan.cost + most) many plan.choices kept
   pub among : All (Contains plan.choices) kept
   pub in_order : AreSomeOf (map choice_of plan.choices) (map choice_of kept)
   pub cost : CostsSet net rows penalty kept c

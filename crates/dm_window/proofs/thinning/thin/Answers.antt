@@ -1,9 +1,8 @@
-use Rattle.std.proofs.Common.{◌≡◌, ◌+◌, ◌<◌, ℕ, List, Option, Some, length, ap, sym, subst, ◌∙◌, arith}
-use Rattle.std.specs.Prelude.{slice_get}
+use Rattle.std.proofs.Common.{◌+◌, ◌<◌, ℕ, List, Option, Some, length, ap, sym, subst, ◌∙◌, arith}
 use Rattle.std.proofs.lemmas.Option.{slice_get_within}
 use Rattle.dm_rows.specs.declared.messages.Decision.{Decision}
 use Rattle.dm_rows.specs.Decide.{IsChoiceList}
-use Rattle.dm_window.specs.Inside.Thinning.{AreJudged, ExceedEach, IsThinned, with_worths}
+use Rattle.dm_window.specs.Inside.Thinning.{AreJudged, ExceedEach, IsNearAt, IsThinned, with_worths}
 use Rattle.dm_window.proofs.GivenBack.{list_removed, minimal_is, thinned_list, thinned_more, thinned_none}
 use Rattle.dm_window.proofs.thinning.thin.Goals as goal
 
@@ -30,10 +29,11 @@ judge_each-requires-in-Some-clause-list c =
 
 pub loop-place-preserved : goal.loop-place-preserved
 loop-place-preserved c =
-    let at = subst (λ (costs : List (Option ℕ)). slice_get costs c.in-Some.place ≡ Some (Some c.in-Some.left)) c.as_slice-in-loop-place.ensures.value c.in-Some.ensures.0 in (
+    let near = subst (λ (costs : List (Option ℕ)). IsNearAt (c.args.plan.now.cost + c.args.most) costs c.in-Some.place c.in-Some.left) c.as_slice-in-loop-place.ensures.value
+    c.in-Some.ensures in (
       subst (λ (ds : List Decision). IsThinned c.args.net.now c.args.rows.now c.args.penalty c.args.plan.now c.args.most ds c.in-Some.left) (sym c.remove.ensures.items)
           (thinned_more c.args.net.now c.args.rows.now c.args.penalty c.args.plan.now c.args.most c.loop-place.kept.items c.loop-place.cost c.in-Some.place c.in-Some.left
-          c.loop-place.costs.items c.loop-place.invariant.0 c.loop-place.invariant.1 at c.in-Some.ensures.1),
+          c.loop-place.costs.items c.loop-place.invariant.0 c.loop-place.invariant.1 near),
       subst (λ (ds : List Decision). AreJudged c.args.net.now c.args.rows.now c.args.penalty ds (length ds) c.in_ok-costs-2.costs.items) c.as_slice-in-Some.ensures.value
           c.in_ok-costs-2.ensures,
     )
