@@ -1,6 +1,7 @@
 -- Paths that begin with a base, and what two of them have in common behind it.
-use Rattle.std.proofs.Common.{◌≡◌, ℕ, ◌+◌, ◌<◌, ◌≤◌, List, [], ◌∷◌, ◌++◌, length, get_or, take, drop, sym, ap, subst, ◌∙◌, arith, append_assoc, append-nil, suc}
-use Rattle.std.proofs.lemmas.List.{drop_at, length-append, take-append-drop, take_more}
+use Rattle.std.proofs.Common.{◌≡◌, ℕ, ◌+◌, ◌<◌, ◌≤◌, List, [], ◌∷◌, ◌++◌, length, get_or, take, drop, sym, ap, subst, ◌∙◌, arith, inl, inr, append_assoc, append-nil, suc, Some}
+use Rattle.std.proofs.lemmas.List.{drop_at, length-append, take-append-drop, take_more, take_all}
+use Rattle.std.proofs.lemmas.Option.{slice_get-get_or, slice_get_past, slice_get_cases}
 use Rattle.dm_network.specs.Net.{Net}
 use Rattle.dm_network.specs.Start.{IsNetwork}
 use Rattle.dm_rows.specs.declared.messages.Decision.{Decision}
@@ -9,9 +10,11 @@ use Rattle.dm_rows.specs.Decide.{IsChoiceList}
 use Rattle.dm_evaluate.specs.Evaluator.{EvaluatorValue, IsEvaluatorOf}
 use Rattle.dm_tree.specs.Pending.{IsFront}
 use Rattle.dm_tree.specs.Plans.{Task}
+use Rattle.dm_tree.specs.Relaxed.{HasNoRelaxedCycle}
+use Rattle.dm_paths.proofs.Lists.{decides_free, pushed}
 use Rattle.dm_search.specs.Steps.{HasRelaxedCycle}
-use Rattle.dm_search.specs.Inside.Walking.{AreFronts}
-use Rattle.dm_search.specs.Moving.{IsOver}
+use Rattle.dm_search.specs.Inside.Walking.{AreFronts, IsLeftUnmade}
+use Rattle.dm_search.specs.Moving.{IsOver, GoesAlong}
 use Rattle.dm_search.proofs.Walks.{front_of, longer_cycle}
 
 pub front_of_front : (xs ys zs : List Decision) → IsFront xs ys → IsFront ys zs → IsFront xs zs
@@ -92,3 +95,38 @@ module _ (net : Net) (network : IsNetwork net) (rows : RowsValue) (sized : IsSiz
   made_cycle h =
       subst (HasRelaxedCycle net rows) whole_is
       (longer_cycle net network rows sized (path ++ d ∷ []) (drop (i + 1) decisions) whole_list made_list h)
+
+-- behind a base, so many decisions are made, and the next one cannot be
+pub along_to : (net : Net) (rows own : RowsValue) (base decisions path new : List Decision) (i : ℕ) (d : Decision) → own ≡ rows → i < length decisions
+    → d ≡ get_or decisions i d → path ≡ base ++ take i decisions → IsLeftUnmade net own path new d → GoesAlong net rows base decisions new
+along_to net rows own base decisions path new i d same lt is e left =
+    record {
+      many = i;
+      made = left.same ∙ e;
+      stuck = λ x at.
+          let met : Some x ≡ Some d = sym at ∙ (slice_get-get_or decisions i d lt ∙ ap Some (sym is)) in
+          let one : x ≡ d = cc in
+          rw (one, left.same, sym same) left.cannot;
+    }
+
+-- behind a base, all of them are made
+pub along_all : (net : Net) (rows : RowsValue) (base decisions path : List Decision) (i : ℕ) → length decisions ≤ i → path ≡ base ++ take i decisions
+    → GoesAlong net rows base decisions path
+along_all net rows base decisions path i le e =
+    record { many = i; made = e; stuck = λ x at. absurd (let none = slice_get_past decisions i le in cc) }
+
+-- where all decisions are a list behind the base that makes no cycle, all of them are made
+pub all_made : (net : Net) → IsNetwork net → (rows : RowsValue) → IsSized net rows → (base decisions path : List Decision)
+    → IsChoiceList net rows (base ++ decisions) → HasNoRelaxedCycle net rows (base ++ decisions) → GoesAlong net rows base decisions path → path ≡ base ++ decisions
+all_made net network rows sized base decisions path list none g =
+    elim (slice_get_cases decisions g.many).1 [
+      | inl met ↦
+          let d : Decision = met.0 in
+          let here : d ≡ get_or decisions g.many d = sym met.3 in
+          let longer : IsChoiceList net rows (path ++ d ∷ []) = made_list net network rows sized base decisions list path g.many d met.1 g.made here in
+          absurd (elim (g.stuck d met.2) [
+            | inl shut ↦ shut (record { free = decides_free net rows path d longer; undecided = (pushed net rows path d longer).new })
+            | inr cycle ↦ (let whole = made_cycle net network rows sized base decisions list path g.many d met.1 g.made here cycle in none whole.cycle whole.is_cycle)
+          ])
+      | inr past ↦ g.made ∙ ap (λ xs. base ++ xs) (take_all g.many decisions past.0)
+    ]

@@ -3,12 +3,12 @@ ghost use Rattle.std.specs.Prelude.{◌≡◌, ◌++◌, [], IfOk, OnOk, None};
 ghost use Rattle.dm_evaluate.specs.Evaluator.{IsEvaluatorOf};
 ghost use Rattle.dm_guide.specs.Tasks.{task_of, IsPosedTask};
 ghost use Rattle.dm_rows.specs.Decide.{IsChoiceList};
-ghost use Rattle.dm_search.specs.Moving.{IsOver};
+ghost use Rattle.dm_search.specs.Moving.{IsOver, GoesAlong};
 ghost use Rattle.dm_search.specs.Steps.{IsOutcome, IsFoundThere, IsByHint};
 
 use crate::Outcome;
 use crate::finishing::evaluator_of;
-use crate::walking::{make, make_all, outcome_here, step_there};
+use crate::walking::{back_to, make, make_all, outcome_here, step_there};
 use dm_base::Cost;
 use dm_evaluate::Evaluator;
 use dm_guide::{Searcher, Task};
@@ -87,8 +87,8 @@ pub fn step_by(
     step_there(task, evaluator, path, best, hint)
 }
 
-/// What [`step`](crate::step) says of where the task's evaluator stands, once it has made the decisions of a path up to the first
-/// of which the choice is not open or which makes a cycle.
+/// What [`step`](crate::step) says where the decisions of a path are made behind the base of a task, up to the first of which the
+/// choice is not open or which makes a cycle.
 pub fn step_along(
     task: &Task<'_>,
     evaluator: &mut Evaluator,
@@ -98,20 +98,24 @@ pub fn step_along(
     requires posed { IsPosedTask task.now }
     requires evaluator { IsOver (task_of task.now) evaluator.old }
     ensures outcome { IfOk result (IsOutcome task.now.net.now task.now.rows.now evaluator.new.path task.now.penalty best) }
+    ensures along { GoesAlong task.now.net.now task.now.rows.now task.now.base.now path.now evaluator.new.path }
     ensures evaluator { IsOver (task_of task.now) evaluator.new }
 {
+    back_to(task.net, evaluator, task.base.len());
     make_along(task, evaluator, path);
     outcome_here(task, evaluator, best)
 }
 
 /// Makes the decisions of a path, up to the first of which the choice is not open or which makes a cycle.
-#[tactic(auto, using(crate::proofs::Fronts::over_longer))]
 fn make_along(task: &Task<'_>, evaluator: &mut Evaluator, path: &[Decision])
-    requires { IsOver (task_of task.now) evaluator.old }
-    ensures { IsOver (task_of task.now) evaluator.new }
+    requires evaluator { IsEvaluatorOf task.now.net.now evaluator.old }
+    requires rows { evaluator.old.rows ≡ task.now.rows.now }
+    requires base { evaluator.old.path ≡ task.now.base.now }
+    ensures evaluator { IsOver (task_of task.now) evaluator.new }
+    ensures along { GoesAlong task.now.net.now task.now.rows.now task.now.base.now path.now evaluator.new.path }
 {
-    for decision in path {
-        if !make(task.net, evaluator, *decision) {
+    for i in 0..path.len() {
+        if !make(task.net, evaluator, path[i]) {
             return;
         }
     }

@@ -8,7 +8,7 @@ ghost use Rattle.dm_relax.specs.Relaxed.{first_violated};
 ghost use Rattle.dm_tree.specs.Pending.{IsFront};
 ghost use Rattle.dm_tree.specs.Relaxed.{IsViolated};
 ghost use Rattle.dm_search.specs.Steps.{HasRelaxedCycle, IsOutcome, IsFoundThere, IsByHint, IsChosenBy};
-ghost use Rattle.dm_search.specs.Inside.Walking.{AreFronts};
+ghost use Rattle.dm_search.specs.Inside.Walking.{AreFronts, IsLeftUnmade};
 ghost use Rattle.dm_search.specs.Moving.{IsOver};
 
 use crate::Outcome;
@@ -269,6 +269,8 @@ pub(crate) fn make(net: &Network, evaluator: &mut Evaluator, decision: Decision)
     ensures evaluator { IsEvaluatorOf net.now evaluator.new }
     ensures rows { evaluator.new.rows ≡ evaluator.old.rows }
     ensures path { IsFront evaluator.old.path evaluator.new.path }
+    ensures made { MatchBool result (evaluator.new.path ≡ evaluator.old.path ++ decision ∷ [])
+        (IsLeftUnmade net.now evaluator.old.rows evaluator.old.path evaluator.new.path decision) }
 {
     if !evaluator.is_open(net, decision.choice()) {
         return false;
@@ -290,6 +292,8 @@ fn make_open<L: Ledger>(
     ensures evaluator { IsEvaluatorOf net.now evaluator.new }
     ensures rows { evaluator.new.rows ≡ evaluator.old.rows }
     ensures path { IsFront evaluator.old.path evaluator.new.path }
+    ensures made { MatchBool result (evaluator.new.path ≡ evaluator.old.path ++ decision ∷ [])
+        (IsLeftUnmade net.now evaluator.old.rows evaluator.old.path evaluator.new.path decision) }
 {
     let mut steps = Steps::<L>::new(blank);
     match evaluator.decide(net, decision, &mut steps) {
