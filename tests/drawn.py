@@ -3,8 +3,9 @@ from __future__ import annotations
 
 from random import Random
 
+from dispatch_tools.model.messages import DelayActivity, DelayEvent, Drop, First, Keep, Message, Now, Pass
 from dispatch_tools.model.network import Activity, Event, Network
-from dispatch_tools.model.railway import Message, refusal_at_once, Rows, rows_after, times_of
+from dispatch_tools.model.railway import refusal_at_once, Rows, rows_after, times_of
 
 
 def drawn_network(draws: Random, trains: int = 4, legs: int = 2) -> Network:
@@ -46,14 +47,14 @@ def drawn_rows(draws: Random, network: Network, messages: int = 8) -> Rows:
     for _ in range(messages):
         event, activity = draws.choice(network.events), draws.choice(network.activities)
         messages_of: list[Message] = [
-            ('delay event', event.id, draws.randrange(0, 120)), ('delay event', event.id, draws.randrange(0, 120)),
-            ('delay activity', activity.id, draws.randrange(0, 40)), ('pass', event.id, event.time + draws.randrange(-20, 90)),
-            ('now', draws.randrange(0, 120)), ('drop', activity.id), ('keep', activity.id),
-            *(('pass', head.id, head.time + draws.randrange(-10, 60)) for head in heads[:1]),
-            *(('first', network.events[later].id, network.events[sooner].id) for sooner, later in network.pairs[:2]),
+            DelayEvent(event.id, draws.randrange(0, 120)), DelayEvent(event.id, draws.randrange(0, 120)),
+            DelayActivity(activity.id, draws.randrange(0, 40)), Pass(event.id, event.time + draws.randrange(-20, 90)),
+            Now(draws.randrange(0, 120)), Drop(activity.id), Keep(activity.id),
+            *(Pass(head.id, head.time + draws.randrange(-10, 60)) for head in heads[:1]),
+            *(First(network.events[later].id, network.events[sooner].id) for sooner, later in network.pairs[:2]),
         ]
         message = draws.choice(messages_of)
-        if message[0] == 'pass' and message[2] < 0:
+        if isinstance(message, Pass) and message.time < 0:
             continue
         if refusal_at_once(network, rows, message) is None:
             after = rows_after(network, rows, message)

@@ -2,9 +2,10 @@
 from __future__ import annotations
 
 import os
-from typing import TYPE_CHECKING, Any, Iterable, Optional
+from typing import TYPE_CHECKING, Iterable, Optional
 
 if TYPE_CHECKING:
+    from dispatch_tools.model.messages import Message
     from dispatch_tools.model.network import Network
 
 TOP = os.path.join(os.path.dirname(os.path.abspath(__file__)), '..')
@@ -22,9 +23,9 @@ def text(name: str) -> str:
     return os.path.join(CASES, 'runs', name, 'text')
 
 
-def lines_of_run(net: Network, messages: Iterable[tuple[Any, ...]] = (), times: Optional[Iterable[int]] = None, cost: int = 0) -> list[str]:
+def lines_of_run(net: Network, messages: Iterable[Message] = (), times: Optional[Iterable[int]] = None, cost: int = 0) -> list[str]:
     """The lines of the text of a run over a network, in which these messages were accepted; by default the day is on time."""
-    entries = [f'entry {number} feed 1 line {number} {" ".join(map(str, said))}' for number, said in enumerate(messages, 1)]
+    entries = [f'entry {number} feed 1 line {number} {said}' for number, said in enumerate(messages, 1)]
     lines = ['dm-run 2', 'penalty 0', 'feeds 1', f'entries {len(entries)}', *entries, 'feed 1 0', 'end', 'boards 0', 'times 0']
     times = [event.time for event in net.events] if times is None else times
     return [*lines, *(f'{event.id}; {time}' for event, time in zip(net.events, times)), f'cost {cost}', 'done']

@@ -9,7 +9,8 @@ from dispatch_tools.commands import to_gtfs
 from dispatch_tools.dev.feeds import SMALL, write_feed
 from dispatch_tools.formats.giv import read_network
 from dispatch_tools.formats.gtfs_rows import seconds_of
-from dispatch_tools.model.railway import admit, cost_of, Message, Rows, sound_times
+from dispatch_tools.model.messages import DelayEvent, Message, Pass
+from dispatch_tools.model.railway import admit, cost_of, Rows, sound_times
 from tests.folders import read
 from tests.samples import lines_of_run
 from tests.test_gtfs import InNetwork, trips_and_times
@@ -35,7 +36,7 @@ class Back(InNetwork):
 
     def test_train_that_has_passed_before_it_should_have_left(self) -> None:
         self.made(trips_and_times('r1 R 0 - A 07:00 B 07:10 C 07:30', 'r2 R 0 - A 09:00 B 09:10'))
-        said, lines = self.late([('delay event', 1, 1800), ('pass', 2, 26100)])
+        said, lines = self.late([DelayEvent(1, 1800), Pass(2, 26100)])
         self.assertEqual(lines[:3], ['r1,07:15:00,07:15:00,A,1', 'r1,07:15:00,07:15:00,B,2', 'r1,07:33:36,07:33:36,C,3'])
         self.assertEqual(said, 'to_gtfs: trip r1: its times fall, so some are written as one that follows: 1, '
                          'first the departure at A, call 1, 07:30:00 as 07:15:00\n')
@@ -43,7 +44,7 @@ class Back(InNetwork):
 
     def test_times_never_fall(self) -> None:
         self.made(trips_and_times('r1 R 0 - A 07:00 B 07:10 C 07:30 A 07:50 B 08:00'))
-        said, lines = self.late([('delay event', 1, 900), ('pass', 4, 27100), ('delay event', 5, 3000), ('pass', 6, 26900), ('pass', 8, 26000)])
+        said, lines = self.late([DelayEvent(1, 900), Pass(4, 27100), DelayEvent(5, 3000), Pass(6, 26900), Pass(8, 26000)])
         times = [seconds_of(time) for line in lines for time in re.findall('[0-9]+:[0-9]+:[0-9]+', line)]
         self.assertEqual(times, sorted(times))
         self.assertEqual(lines[-1], 'r1,07:13:20,07:13:20,B,5')
@@ -55,7 +56,7 @@ class Back(InNetwork):
         self.made(files)
         feed = write_feed(os.path.join(self.folder, 'ends'), {**SMALL, **files})
         self.assertEqual(self.late([], f'--feed={feed}'), ('', calls))
-        self.assertEqual(self.late([('delay event', 1, 600)], f'--feed={feed}')[1],
+        self.assertEqual(self.late([DelayEvent(1, 600)], f'--feed={feed}')[1],
                          ['r1,08:05:00,08:10:00,A,1', 'r1,08:19:18,08:19:48,B,2', 'r1,08:37:29,08:41:59,C,3'])
         self.assertEqual([line.split(',')[1:3] for line in self.late([])[1]][::2], [['08:00:00', '08:00:00'], ['08:30:00', '08:30:00']])
 

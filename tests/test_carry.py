@@ -15,8 +15,9 @@ from dispatch_tools.commands import carry as carry_command
 from dispatch_tools.days import carry
 from dispatch_tools.formats.giv import write_records
 from dispatch_tools.formats.runtext import Entry, Run
+from dispatch_tools.model.messages import DelayActivity, DelayEvent, Drop, First, Keep, Message, Now, Pass, Recall
 from dispatch_tools.model.network import Activity, Event, Network
-from dispatch_tools.model.railway import admit, apply, Message, Rows, sound_times
+from dispatch_tools.model.railway import admit, apply, Rows, sound_times
 from tests.drawn import drawn_network
 from tests.samples import lines_of_run
 
@@ -30,12 +31,13 @@ def drawn_journal(draws: Random, network: Network, most: int) -> list[Message]:
     for _ in range(most):
         event, activity = draws.choice(network.events), draws.choice(network.activities)
         pair = draws.choice(network.pairs) if network.pairs else (0, 0)
-        message: Message = draws.choice([
-            ('delay event', event.id, draws.randrange(0, 120)), ('delay activity', activity.id, draws.randrange(0, 40)),
-            ('pass', event.id, event.time + draws.randrange(0, 90)), ('recall', event.id), ('now', draws.randrange(0, 120)),
-            ('drop', activity.id), ('keep', activity.id), ('first', network.events[pair[0]].id, network.events[pair[1]].id),
-            ('first', network.events[pair[1]].id, network.events[pair[0]].id),
-        ])
+        drawn: list[Message] = [
+            DelayEvent(event.id, draws.randrange(0, 120)), DelayActivity(activity.id, draws.randrange(0, 40)),
+            Pass(event.id, event.time + draws.randrange(0, 90)), Recall(event.id), Now(draws.randrange(0, 120)),
+            Drop(activity.id), Keep(activity.id), First(network.events[pair[0]].id, network.events[pair[1]].id),
+            First(network.events[pair[1]].id, network.events[pair[0]].id),
+        ]
+        message = draws.choice(drawn)
         refusal, after = admit(network, rows, len(journal), message)
         if refusal is None and after is not None:
             journal.append(message)
@@ -83,16 +85,16 @@ class OneDay(unittest.TestCase):
         for number, (tail, head) in enumerate([(1, 3), (3, 1), (2, 4), (4, 2)], 3):
             activities.append(Activity(number, 'headway', tail, head, 5, 0))
         network = Network(events, activities)
-        journal: list[Message] = [('first', 4, 2), ('pass', 1, 0), ('pass', 3, 90), ('recall', 1), ('pass', 1, 0)]
+        journal: list[Message] = [First(4, 2), Pass(1, 0), Pass(3, 90), Recall(1), Pass(1, 0)]
         target = rows_after_all(network, journal)
         messages = carry.messages_to(network, Rows(network), target, run_of(journal))
         self.assertEqual(vars(self.accepted(network, messages)), vars(target))
 
     def test_a_wrong_message_does_not_lead_there(self) -> None:
         network = drawn_network(Random(3))
-        target = rows_after_all(network, [('delay event', 1, 60)])
-        self.assertFalse(carry.leads_to(network, Rows(network), target, [('delay event', 1, 59)]))
-        self.assertFalse(carry.leads_to(network, Rows(network), target, [('delay event', 99_999, 60)]))
+        target = rows_after_all(network, [DelayEvent(1, 60)])
+        self.assertFalse(carry.leads_to(network, Rows(network), target, [DelayEvent(1, 59)]))
+        self.assertFalse(carry.leads_to(network, Rows(network), target, [DelayEvent(99_999, 60)]))
 
 
 # A train that leaves at 23:50, stands at a stop over midnight and arrives at 0:20; its other stop after midnight is at 0:30.
@@ -126,22 +128,22 @@ class TwoDays(unittest.TestCase):
 
     def test_a_late_train_is_late_behind_midnight(self) -> None:
         """It leaves 600 s late; at the stop 60 of these are caught up, since it may go 60 s after its arrival and has 120 there."""
-        status, lines = self.carried([('delay event', 1, 600), ('delay activity', 5, 30)])
+        status, lines = self.carried([DelayEvent(1, 600), DelayActivity(5, 30)])
         self.assertEqual((status, lines), (0, ['delay event 3 540', 'delay activity 5 30']))
         network = Network(self.second_events, WAY[2:])
-        rows = rows_after_all(network, [('delay event', 3, 540), ('delay activity', 5, 30)])
+        rows = rows_after_all(network, [DelayEvent(3, 540), DelayActivity(5, 30)])
         there = dict(zip((event.id for event in network.events), sound_times(network, rows)))
         self.assertEqual(there[4], 60 + 540 + 1100)
 
     def test_what_has_passed_and_the_clock_go_along(self) -> None:
-        journal: list[Message] = [('pass', 1, DAY - 590), ('pass', 2, DAY - 50), ('pass', 3, DAY + 100), ('now', DAY + 200)]
+        journal: list[Message] = [Pass(1, DAY - 590), Pass(2, DAY - 50), Pass(3, DAY + 100), Now(DAY + 200)]
         self.assertEqual(self.carried(journal), (0, ['pass 3 100', 'now 200']))
 
     def test_before_midnight_the_clock_is_left_out(self) -> None:
-        self.assertEqual(self.carried([('now', DAY - 700)]), (0, []))
+        self.assertEqual(self.carried([Now(DAY - 700)]), (0, []))
 
     def test_other_times_are_another_train(self) -> None:
-        self.assertEqual(self.carried([('delay event', 1, 600)], '--shift=86000')[0], 2)
+        self.assertEqual(self.carried([DelayEvent(1, 600)], '--shift=86000')[0], 2)
 
     def test_trains_are_found_by_their_trips(self) -> None:
         second = [event._replace(id=event.id + 100) for event in self.second_events]
@@ -150,7 +152,7 @@ class TwoDays(unittest.TestCase):
             (folder / 'Day.csv').write_text(f'{day};Europe/Berlin\n')
             rows = (f'{event.id};{events[0].id};{trip};{event.id % 100};s{event.stop};{event.kind};\n' for event in events)
             (folder / 'Events.csv').write_text(''.join(rows))
-        self.assertEqual(self.carried([('delay event', 1, 600), ('pass', 5, 87_800)]), (0, ['delay event 103 540', 'pass 105 1400']))
+        self.assertEqual(self.carried([DelayEvent(1, 600), Pass(5, 87_800)]), (0, ['delay event 103 540', 'pass 105 1400']))
 
 
 if __name__ == '__main__':

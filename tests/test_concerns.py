@@ -14,7 +14,8 @@ from dispatch_tools.commands import concerns as concerns_command
 from dispatch_tools.desk import concerns
 from dispatch_tools.desk.naming import Naming
 from dispatch_tools.formats.giv import read_network
-from dispatch_tools.model.railway import Message, Rows
+from dispatch_tools.model.messages import DelayEvent, Message, Pass
+from dispatch_tools.model.railway import Rows
 from tests.samples import lines_of_run, TOP
 
 NET = str(Path(TOP, 'examples', 'connection', 'net'))
@@ -45,7 +46,7 @@ class Concerns(unittest.TestCase):
                     return end.code if isinstance(end.code, int) else 1, out.getvalue()
 
     def test_a_dropped_change(self) -> None:
-        self.assertEqual(self.said([('delay event', 1, 60)], '5'), (0, DROPPED))
+        self.assertEqual(self.said([DelayEvent(1, 60)], '5'), (0, DROPPED))
 
     def test_a_dropped_change_for_which_there_is_time(self) -> None:
         status, said = self.said([], '5')
@@ -56,7 +57,7 @@ class Concerns(unittest.TestCase):
     def test_no_change_and_a_train_that_has_left_are_refused(self) -> None:
         self.assertEqual(self.said([], '4')[0], 2)
         self.assertEqual(self.said([], '77')[0], 2)
-        self.assertEqual(self.said([('pass', 5, 230)], '5')[0], 2)
+        self.assertEqual(self.said([Pass(5, 230)], '5')[0], 2)
 
     def test_a_text_without_a_plan(self) -> None:
         self.assertEqual(self.said([])[0], 1)

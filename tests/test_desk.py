@@ -32,8 +32,9 @@ from dispatch_tools.formats.journal import Answered, Head
 from dispatch_tools.formats.names import read_stops
 from dispatch_tools.formats.runtext import Answer, Bad, Entry, Item, read_journal, Text
 from dispatch_tools.model.decide import in_turn
+from dispatch_tools.model.messages import Adopt, DelayActivity, DelayEvent, Drop, First, Keep, Message, Now, Pass, Recall
 from dispatch_tools.model.network import Network
-from dispatch_tools.model.railway import admit, Message, Rows, times_of
+from dispatch_tools.model.railway import admit, Rows, times_of
 from tests.patience import PATIENCE
 from tests.samples import CASES, network
 
@@ -78,14 +79,15 @@ class Reckonings(unittest.TestCase):
             if admit(net, reckoning.rows, 0, message)[0] is None:
                 reckoning.enter(message)
                 entered += 1
-                kinds.add(message[0])
+                kinds.add(type(message))
                 self.assertEqual(reckoning.times, times_of(net, reckoning.rows), message)
         self.assertEqual(len(kinds), 9)
 
     def test_many_at_once_are_as_one_by_one(self) -> None:
         net = read_network(CONNECTION)
         one, all_at_once = Reckoning(net, Rows(net)), Reckoning(net, Rows(net))
-        for message in [('delay event', 1, 60), ('drop', 5), ('first', 5, 3)]:
+        messages: list[Message] = [DelayEvent(1, 60), Drop(5), First(5, 3)]
+        for message in messages:
             one.enter(message)
             all_at_once.enter_only(message)
         all_at_once.all_anew()
@@ -100,11 +102,12 @@ def drawn_message(net: Network, rows: Rows, draws: random.Random) -> Message:
     changes = [activity.id for activity in net.activities if activity.kind == 'change']
     change = draws.choice(changes)
     passed = [net.events[place].id for place, time in enumerate(rows.passed) if time is not None]
-    return draws.choice([
-        ('delay event', event, draws.choice([0, 60, 600])), ('delay activity', draws.choice(net.activities).id, draws.choice([0, 300])),
-        ('pass', event, 21600 + draws.randrange(5000)), ('recall', draws.choice(passed or [event])), ('keep', change), ('drop', change), ('first', *pair),
-        ('now', 21600 + draws.randrange(3000)), ('adopt', (('drop', change), ('first', *pair))),
-    ])
+    drawn: list[Message] = [
+        DelayEvent(event, draws.choice([0, 60, 600])), DelayActivity(draws.choice(net.activities).id, draws.choice([0, 300])),
+        Pass(event, 21600 + draws.randrange(5000)), Recall(draws.choice(passed or [event])), Keep(change), Drop(change), First(*pair),
+        Now(21600 + draws.randrange(3000)), Adopt((Drop(change), First(*pair))),
+    ]
+    return draws.choice(drawn)
 
 
 class Feeds(InStore):
@@ -215,7 +218,7 @@ class Rooms(InRoom):
             self.room.undo(2)
         self.assertIn('Train 41 goes before Train 201', str(caught.exception))
         with self.assertRaises(ValueError):
-            in_turn(net, self.room.day.reckoning.rows, [('first', 41, 201)])
+            in_turn(net, self.room.day.reckoning.rows, [First(41, 201)])
 
     def test_only_the_plan_that_was_looked_at_is_adopted_or_entered(self) -> None:
         first, second = PLAN, PLAN.replace('3 plan 100', '4 plan 50')
@@ -292,11 +295,11 @@ class Rooms(InRoom):
 
     def test_the_text_for_the_program_is_a_journal(self) -> None:
         self.say(round_of('1 delay event 1 60 -> 1 ok\n', '1 drop 5 -> 2 ok\n'))
-        text = journal_text(10, 2, [*self.room.day.entries, adoption([('keep', 5), ('first', 5, 3)], 2)])
+        text = journal_text(10, 2, [*self.room.day.entries, adoption([Keep(5), First(5, 3)], 2)])
         _, penalty, feeds, entries = read_journal(Text(text.encode()))
         self.assertEqual((penalty, feeds), (10, 2))
         self.assertEqual([(entry.feed, entry.message) for entry in entries],
-                         [(1, ('delay event', 1, 60)), (2, ('drop', 5)), (2, ('adopt', (('keep', 5), ('first', 5, 3))))])
+                         [(1, DelayEvent(1, 60)), (2, Drop(5)), (2, Adopt((Keep(5), First(5, 3))))])
 
 
 class Alerts(InRoom):
@@ -326,8 +329,8 @@ class Alerts(InRoom):
         net = read_network(FORTY)
         day = Day(net, Rows(net), Names({}, {}, {}), 2)
         day.begin(Head(10, 16, 2))
-        told = [Entry(1, number, ('delay event', 20 * number + 1, 900)) for number in range(40)]
-        day.take([Answered(1, Item(one.line, one.message, Answer('ok', number)), one) for number, one in enumerate(told, 1)])
+        told = [DelayEvent(20 * number + 1, 900) for number in range(40)]
+        day.take([Answered(1, Item(number - 1, one, Answer('ok', number)), Entry(1, number - 1, one)) for number, one in enumerate(told, 1)])
         late = [alert for alert in alerts_of(day, Marks(waits=10 ** 6), Server(True, None), []) if alert.kind == 'late']
         self.assertEqual((len(late), late[-1].words), (MOST + 1, f'and {40 - MOST} more of this kind'))
 

@@ -20,6 +20,7 @@ from dispatch_tools.live import feed_file
 from dispatch_tools.live.feed_file import append, ending
 from dispatch_tools.live.relay import FeedFile
 from dispatch_tools.live.serving import Server
+from dispatch_tools.model.messages import AskCost, DelayEvent, Drop, Keep, Pass
 from tests.folders import InFolder
 from tests.patience import PATIENCE
 from tests.samples import TOP
@@ -82,7 +83,7 @@ class Halves(InFeed):
         for half in [line[:size] for line in WHOLE for size in range(1, len(line) + 1)] + odd:
             self.begin(b'cost\n' + half.encode('latin-1'))
             self.assertEqual(append(self.feed, ['drop 5', 'keep 6']), len(bytes_of(self.feed)) - 14)
-            self.assertEqual(said_in(self.feed), [('cost',), None, ('drop', 5), ('keep', 6)], half)
+            self.assertEqual(said_in(self.feed), [AskCost(), None, Drop(5), Keep(6)], half)
 
     def test_nothing_is_put_before_a_whole_line(self) -> None:
         self.assertEqual(append(self.feed, ['cost']), 0)
@@ -96,7 +97,7 @@ class Halves(InFeed):
             self.begin(b'delay event 12 60')
             assert callable(write)
             write()
-            self.assertEqual(said_in(self.feed), [None, ('delay event', 12, 600)], name)
+            self.assertEqual(said_in(self.feed), [None, DelayEvent(12, 600)], name)
 
     def test_a_relay_that_begins_knows_nothing_of_half_a_line(self) -> None:
         self.begin(b'delay event 9 300\ndelay event 9 30')
@@ -120,7 +121,7 @@ class Full(InFeed):
                     self.fails(name, write)
             with largest_file(24):
                 write()  # type: ignore[operator]
-            self.assertEqual(said_in(self.feed), [('cost',), ('delay event', 12, 600)], name)
+            self.assertEqual(said_in(self.feed), [AskCost(), DelayEvent(12, 600)], name)
 
     def test_a_write_that_takes_a_part_is_taken_back(self) -> None:
         for half in b'', b'now 5':
@@ -161,7 +162,7 @@ class Full(InFeed):
         append(self.feed, ['delay event 1 60'])
         os.remove(other)
         append(self.feed, ['delay event 12 600'])
-        self.assertEqual(said_in(self.feed)[-2:], [('delay event', 1, 60), ('delay event', 12, 600)])
+        self.assertEqual(said_in(self.feed)[-2:], [DelayEvent(1, 60), DelayEvent(12, 600)])
 
 
 KILLED = '''
@@ -194,16 +195,16 @@ class Others(InFeed):
             done = subprocess.run([sys.executable, '-c', KILLED, TOP, self.feed, str(size)])
             self.assertEqual(done.returncode, -signal.SIGKILL)
             append(self.feed, ['keep 6'])
-            whole = [('delay event', 12, 600)] if size >= 19 else []
-            self.assertEqual(said_in(self.feed), [('cost',), *whole, *([None] if size != 19 else []), ('keep', 6)])
+            whole = [DelayEvent(12, 600)] if size >= 19 else []
+            self.assertEqual(said_in(self.feed), [AskCost(), *whole, *([None] if size != 19 else []), Keep(6)])
 
     def test_writers_take_turns(self) -> None:
         writers = [subprocess.Popen([sys.executable, '-c', MANY, TOP, self.feed, str(number), str(PATIENCE)]) for number in range(3)]
         self.assertEqual([writer.wait() for writer in writers], [0, 0, 0])
         said = said_in(self.feed)
         for first, second in zip(said[::2], said[1::2]):
-            assert isinstance(first, tuple) and isinstance(second, tuple)
-            self.assertEqual((first[0], second[0], first[1:]), ('pass', 'delay event', second[1:]))
+            assert isinstance(first, Pass) and isinstance(second, DelayEvent)
+            self.assertEqual(first.numbers(), second.numbers())
         self.assertEqual(len(set(said)), 600)
 
     def test_a_lock_that_another_keeps(self) -> None:

@@ -12,6 +12,7 @@ import xml.etree.ElementTree as xml
 
 from dispatch_tools.formats.runtext import due_items
 from dispatch_tools.here import words_of
+from dispatch_tools.model.messages import STATEMENTS
 from dispatch_tools.model.railway import admit
 from dispatch_tools.pictures.figures import feed_of, hours, quarters, ticks
 from dispatch_tools.pictures.scene import read_scene
@@ -39,7 +40,7 @@ class Feeds(unittest.TestCase):
             scene = read_scene(network('connection'), text(name))
             rows = scene.start
             for count, (_, said) in enumerate(due_items('\n'.join(feed_of(scene)) + '\n')):
-                assert said is not None
+                assert isinstance(said, STATEMENTS)
                 refusal, after = admit(scene.network, rows, count, said)
                 self.assertIsNone(refusal)
                 assert after is not None

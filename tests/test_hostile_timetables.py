@@ -13,6 +13,7 @@ from dispatch_tools.days.carry import name_of_next_day
 from dispatch_tools.dev.feeds import DATE, File, SMALL, write_feed
 from dispatch_tools.formats.names import name_of_trip, named_trip, read_labels, read_stops, read_trains, read_trips, shown
 from dispatch_tools.formats.protobuf import decode, encode
+from dispatch_tools.model.messages import Now
 from tests.folders import read
 from tests.patience import PATIENCE
 from tests.samples import lines_of_run
@@ -91,7 +92,7 @@ class Names(InNetwork):
         trips = trips_and_times('X@08:00:00 R 0 - A 08:00 B 08:10', 'g@1 G 0 - B 08:15 C 08:40')
         net, _ = self.made({**trips, 'agency.txt': AGENCY, 'frequencies.txt': [FREQUENCIES, 'g@1,08:55:00,09:00:00,300']})
         self.assertEqual([train.trip for train in read_trains(self.net)], ['X@@08:00:00', 'g@@1@08:55:00'])
-        folder = write_feed(os.path.join(self.folder, 'run'), {'text': lines_of_run(net, [('now', 28000)])})
+        folder = write_feed(os.path.join(self.folder, 'run'), {'text': lines_of_run(net, [Now(28000)])})
         text, out, late = os.path.join(folder, 'text'), os.path.join(self.folder, 'out.pb'), os.path.join(self.folder, 'late')
         self.assertEqual(self.call(gtfs_rt_out, self.net, text, out), (0, ''))
         with open(out, 'rb') as file:

@@ -9,9 +9,8 @@ from dispatch_tools.commands import from_lintim
 from dispatch_tools.dev.feeds import File, write_feed
 from dispatch_tools.formats.giv import read_delays, read_network
 from dispatch_tools.formats.names import read_stops
-from dispatch_tools.model.railway import (
-    apply, cost_of, Decision, free_choices, Message, Rows, sound_times, times_of, ways_of, with_decisions,
-)
+from dispatch_tools.model.messages import Decision, DelayEvent, Drop, First, Keep, Message
+from dispatch_tools.model.railway import apply, cost_of, free_choices, Rows, sound_times, times_of, ways_of, with_decisions
 from tests.folders import InFolder, read
 from tests.samples import TOP
 
@@ -167,18 +166,18 @@ class Worked(InFolder):
 
     def test_change(self) -> None:
         folder = os.path.join(TOP, 'examples', 'lintim', 'change')
-        self.assertEqual(self.costs(folder, 3600), {('keep', 5): 35_200_000, ('drop', 5): 61_200_000})
-        self.assertEqual(self.costs(folder, 900), {('keep', 5): 35_200_000, ('drop', 5): 34_200_000})
+        self.assertEqual(self.costs(folder, 3600), {Keep(5): 35_200_000, Drop(5): 61_200_000})
+        self.assertEqual(self.costs(folder, 900), {Keep(5): 35_200_000, Drop(5): 34_200_000})
 
     def test_order(self) -> None:
         folder = os.path.join(TOP, 'examples', 'lintim', 'order')
-        self.assertEqual(self.costs(folder, 3600), {('first', 1, 3): 23_300_000, ('first', 3, 1): 7_500_000})
+        self.assertEqual(self.costs(folder, 3600), {First(1, 3): 23_300_000, First(3, 1): 7_500_000})
 
     def test_periodic(self) -> None:
         source = os.path.join(TOP, 'examples', 'lintim', 'periodic')
         self.assertEqual(self.call(from_lintim, source, self.net, '--period=60', '--from=06:00', '--to=08:00')[0], 0)
-        costs = self.costs(self.net, 3600, ('delay event', 1, 600))
-        self.assertEqual((costs['keep', 5], costs['drop', 5]), (21_600_000, 32_400_000))
+        costs = self.costs(self.net, 3600, DelayEvent(1, 600))
+        self.assertEqual((costs[Keep(5)], costs[Drop(5)]), (21_600_000, 32_400_000))
 
 
 if __name__ == '__main__':

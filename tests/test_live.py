@@ -8,7 +8,6 @@ import subprocess
 import tempfile
 import unittest
 from pathlib import Path
-from typing import Any
 
 from dispatch_tools.commands import gtfs_rt_out
 from dispatch_tools.formats.files import BadFile
@@ -19,6 +18,7 @@ from dispatch_tools.formats.runtext import Entry
 from dispatch_tools.commands import gtfs_rt_in as gtfs_rt_in_command
 from dispatch_tools.live import gtfs_rt_in
 from dispatch_tools.live.serving import Server
+from dispatch_tools.model.messages import Adopt, DelayEvent, Drop, First, Message, Now
 from dispatch_tools.model.railway import apply, cost_of, Rows, sound_times
 from dispatch_tools.oracle.journals import at_rest, block
 from tests.folders import read
@@ -58,12 +58,12 @@ class Journals(InStore):
         self.write(at_rest([HEAD]))
         self.assertEqual((journal.read(), journal.head, journal.logs), ([], Head(3600, 16, 2), [[], []]))
         self.write(at_rest([HEAD, DELAYED])[:-1] + b'~' + block(PLANNED)[1:] + b'~')
-        self.assertEqual(journal.read(), [Entry(1, 1, ('delay event', 1, 60))])
+        self.assertEqual(journal.read(), [Entry(1, 1, DelayEvent(1, 60))])
         self.write(at_rest([HEAD, DELAYED, PLANNED]))
-        self.assertEqual(journal.read(), [Entry(2, 3, ('adopt', (('drop', 5), ('first', 5, 3))))])
+        self.assertEqual(journal.read(), [Entry(2, 3, Adopt((Drop(5), First(5, 3))))])
         self.assertEqual(journal.read(), [])
         self.write(at_rest([HEAD, DELAYED, PLANNED, LAST]))
-        self.assertEqual(journal.read(), [Entry(1, 3, ('now', 150))])
+        self.assertEqual(journal.read(), [Entry(1, 3, Now(150))])
         self.assertEqual([[item.line for item in log] for log in journal.logs], [[1, 3], [1, 3, 4, 5]])
 
     def test_each_front_has_the_blocks_that_are_whole(self) -> None:
@@ -92,7 +92,7 @@ class Journals(InStore):
 
     def test_entries_of_a_round_are_in_order(self) -> None:
         self.write(at_rest([HEAD, b'feed 1 1\n1 now 7 -> 2 ok\nfeed 2 1\n1 now 5 -> 1 ok\n']))
-        self.assertEqual([entry.message for entry in Journal(str(self.store)).read()], [('now', 5), ('now', 7)])
+        self.assertEqual([entry.message for entry in Journal(str(self.store)).read()], [Now(5), Now(7)])
 
     def test_what_is_no_journal_is_told(self) -> None:
         self.assertEqual(Journal(str(self.store)).read(), [])
@@ -185,7 +185,7 @@ class Realtime(InNetwork):
     def test_times_of_a_store_go_out(self) -> None:
         self.journal(b'feed 1 1\n1 delay event 1 60 -> 1 ok\nfeed 2 0\n')
         net = read_network(self.net)
-        messages: list[tuple[Any, ...]] = [('delay event', 1, 60)]
+        messages: list[Message] = [DelayEvent(1, 60)]
         rows = Rows(net)
         apply(net, rows, messages[0])
         times = sound_times(net, rows)

@@ -8,13 +8,13 @@ import subprocess
 import sys
 import tempfile
 import unittest
-from typing import Any
 
 from dispatch_tools.bench import morning, morning_day
 from dispatch_tools.commands import from_gtfs, gtfs_rt_in
 from dispatch_tools.dev.feeds import DATE, EXAMPLE, SHIPPED
 from dispatch_tools.formats.giv import read_network
 from dispatch_tools.formats.runtext import heard
+from dispatch_tools.model.messages import Message, STATEMENTS
 from dispatch_tools.model.network import Network
 from dispatch_tools.model.railway import admit, cost_of, Rows, sound_times
 from tests.folders import InFolder, read
@@ -23,14 +23,16 @@ from tests.samples import lines_of_run, TOP
 HAS_PROTOC = unittest.skipUnless(shutil.which('protoc'), 'protoc (protobuf-compiler of Debian) is not here')
 
 
-def rows_after(net: Network, feed: str) -> tuple[Any, Rows]:
+def rows_after(net: Network, feed: str) -> tuple[list[Message], Rows]:
     """The messages of a feed and the rows after them, by the second reading of the rules; none is refused."""
-    rows, messages = Rows(net), [heard(line) for line in read(feed).splitlines()]
-    for count, message in enumerate(messages):
-        assert message is not None
-        refusal, after = admit(net, rows, count, message)
+    rows, messages = Rows(net), list[Message]()
+    for line in read(feed).splitlines():
+        message = heard(line)
+        assert isinstance(message, STATEMENTS)
+        refusal, after = admit(net, rows, len(messages), message)
         assert refusal is None and after is not None, (message, refusal)
         rows = after
+        messages.append(message)
     return messages, rows
 
 

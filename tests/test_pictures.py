@@ -16,12 +16,13 @@ from dispatch_tools.formats.files import BadFile
 from dispatch_tools.formats.giv import read_network
 from dispatch_tools.formats.markup import in_script
 from dispatch_tools.here import words_of
+from dispatch_tools.model.messages import BoundLeaf, CycleLeaf, Inner, Message, Node, Now, OpenLeaf
 from dispatch_tools.model.network import Activity, Event, Network
 from dispatch_tools.pictures.diagram import drawing, frame_of
 from dispatch_tools.pictures.scene import (
     cost_parts, distances, lines_of, links_of, path_of, read_scene, Scene, trains_of, turned_pairs,
 )
-from dispatch_tools.pictures.view import page, tree_part, upper_part
+from dispatch_tools.pictures.view import Cut, page, tree_part, upper_part
 from tests.samples import lines_of_run, network, text, TOP
 
 
@@ -141,16 +142,16 @@ class Pages(unittest.TestCase):
         self.assertEqual(in_script('<!--</script>&\u2028\u2029'), '"\\u003c!--\\u003c/script\\u003e\\u0026\\u2028\\u2029"')
 
     def test_tree_of_two_levels(self) -> None:
-        nodes = [('inner', ('change', 5)), ('inner', ('pair', 3, 5)), ('bound', 1), ('cycle',), ('open', 2)]
+        nodes: list[Node | Cut] = [Inner(('change', 5)), Inner(('pair', 3, 5)), BoundLeaf(1), CycleLeaf(), OpenLeaf(2)]
         tree = xml.fromstring(tree_part(nodes))
         self.assertEqual([mark.text for mark in tree.iter('b')], ['keep 5', 'first 3 5', 'first 5 3', 'drop 5'])
         self.assertEqual([leaf.text for leaf in tree.iter('span')], ['bound 1', 'cycle', 'open 2'])
 
     def test_upper_part_of_a_tree(self) -> None:
-        nodes = [('inner', ('change', 5)), ('inner', ('pair', 3, 5)), ('bound', 1), ('cycle',), ('open', 2)]
+        nodes: list[Node] = [Inner(('change', 5)), Inner(('pair', 3, 5)), BoundLeaf(1), CycleLeaf(), OpenLeaf(2)]
         self.assertEqual(upper_part(nodes, 5), nodes)
-        self.assertEqual(upper_part(nodes, 4), [nodes[0], ('cut', ('pair', 3, 5), 2), ('open', 2)])
-        self.assertEqual(upper_part(nodes, 2), [('cut', ('change', 5), 4)])
+        self.assertEqual(upper_part(nodes, 4), [nodes[0], Cut(('pair', 3, 5), 2), OpenLeaf(2)])
+        self.assertEqual(upper_part(nodes, 2), [Cut(('change', 5), 4)])
         self.assertIn('branches on pair 3 5, 2 nodes below', tree_part(upper_part(nodes, 4)))
 
     def test_cost_and_replies_stand_there(self) -> None:
@@ -163,13 +164,13 @@ class Pages(unittest.TestCase):
         with tempfile.TemporaryDirectory() as folder:
             name = os.path.join(folder, 'text')
 
-            def late(latest: int, *messages: tuple[Any, ...]) -> Scene:
+            def late(latest: int, *messages: Message) -> Scene:
                 with open(name, 'w', encoding='ascii') as file:
                     file.writelines(f'{line}\n' for line in lines_of_run(net, messages, [latest] * len(net.events)))
                 return read_scene(network('connection'), name)
             with self.assertRaisesRegex(BadFile, f': one of its times is {10 ** 38}, and no time of a run is above {10 ** 12}'):
                 late(10 ** 38)
-            for one in late(10 ** 12), late(2 * 10 ** 9, ('now', 2 * 10 ** 9)):
+            for one in late(10 ** 12), late(2 * 10 ** 9, Now(2 * 10 ** 9)):
                 self.assertLess(page(one).count('<line'), 2_500)
 
 

@@ -16,11 +16,12 @@ from dispatch_tools.formats.files import BadFile
 from dispatch_tools.formats.giv import read_network
 from dispatch_tools.days.playing import Played
 from dispatch_tools.days.policies import DaySoFar, day_so_far, decided, play_by, policy_of
+from dispatch_tools.model.messages import DelayEvent, Drop
 from dispatch_tools.model.railway import Rows
 
 # Train 1 runs from stop 1 (100) by stop 2 (200 to 220) to stop 3; train 5 leaves stop 2 for stop 4 at 230. Their departures share
 # a track, at a distance of 8, and passengers change in 20.
-LATE = Told(0, ('delay event', 1, 60))
+LATE = Told(0, DelayEvent(1, 60))
 
 
 def day(now: int, *told: Told) -> DaySoFar:
@@ -45,7 +46,7 @@ class Days(unittest.TestCase):
 
     def test_what_a_policy_may_say(self) -> None:
         known = day(260, LATE)
-        self.assertEqual(decided('one', lambda _: ['drop 5'], known), [('drop', 5)])
+        self.assertEqual(decided('one', lambda _: ['drop 5'], known), [Drop(5)])
         for line in 'drop 4', 'first 3 5', 'delay event 5 60', 'drop', '':
             with self.assertRaises(BadFile):
                 decided('one', partial(lambda line, _: [line], line), known)

@@ -16,8 +16,9 @@ from typing import Callable, Iterator, Optional, Sequence
 from dispatch_tools.commands import from_sol, to_mps
 from dispatch_tools.formats.solution import decisions_of, read_solution
 from dispatch_tools.model.decide import in_turn
+from dispatch_tools.model.messages import Decision, Drop, First
 from dispatch_tools.model.programme import lp_text, mps_text, Posed, Programme, programme_of, Window
-from dispatch_tools.model.railway import admit, cost_of, Decision, free_choices, sound_times, times_of, ways_of, with_decisions
+from dispatch_tools.model.railway import admit, cost_of, free_choices, sound_times, times_of, ways_of, with_decisions
 from tests.drawn import drawn_network, drawn_rows
 from tests.folders import InFolder
 from tests.patience import PATIENCE
@@ -101,9 +102,9 @@ LISTS = {
 
 def variable_of(decision: Decision) -> tuple[str, int]:
     """The variable of a decision, and its value."""
-    if decision[0] == 'first':
-        return 'first_{}_{}'.format(*sorted(decision[1:])), int(decision[1] < decision[2])
-    return f'drop_{decision[1]}', int(decision[0] == 'drop')
+    if isinstance(decision, First):
+        return 'first_{}_{}'.format(*sorted(decision.numbers())), int(decision.event < decision.other)
+    return f'drop_{decision.activity}', int(isinstance(decision, Drop))
 
 
 def value_at(programme: Programme, decisions: Sequence[Decision]) -> Optional[int]:

@@ -20,7 +20,8 @@ from dispatch_tools.formats.protobuf import BadMessage, decode, encode, Message,
 from dispatch_tools.formats.realtime import beginning
 from dispatch_tools.commands import gtfs_rt_out as gtfs_rt_out_command
 from dispatch_tools.live import gtfs_rt_out
-from dispatch_tools.model.railway import admit, cost_of, Message as Entered, Rows, rows_after, sound_times
+from dispatch_tools.model.messages import DelayEvent, Drop, Message as Entered, Now, Pass
+from dispatch_tools.model.railway import admit, cost_of, Rows, rows_after, sound_times
 from tests.folders import read
 from tests.patience import PATIENCE
 from tests.samples import lines_of_run, TOP
@@ -121,9 +122,9 @@ class In(Realtime):
 
     def test_text_of_a_run_says_what_is_known(self) -> None:
         net = read_network(self.net)
-        rows = rows_after(net, Rows(net), ('delay event', 1, 300))
+        rows = rows_after(net, Rows(net), DelayEvent(1, 300))
         times = sound_times(net, rows)
-        run = write_feed(os.path.join(self.folder, 'run'), {'text': lines_of_run(net, [('delay event', 1, 300)], times, cost_of(net, rows, times, 0))})
+        run = write_feed(os.path.join(self.folder, 'run'), {'text': lines_of_run(net, [DelayEvent(1, 300)], times, cost_of(net, rows, times, 0))})
         _, lines = self.heard(28700, self.update('r1', call(2, arrival=29700)), options=[f'--text={run}/text', '--replay'])
         self.assertEqual(lines, ['now 28700'])
 
@@ -183,7 +184,7 @@ class Written(Realtime):
 
 class Out(Written):
     def test_calls_have_delays_and_times_or_nothing_is_known(self) -> None:
-        message = decode(self.written(('delay event', 1, 60), ('now', 28000)))
+        message = decode(self.written(DelayEvent(1, 60), Now(28000)))
         self.assertEqual(message['header'], {'gtfs_realtime_version': '2.0', 'incrementality': 0, 'timestamp': MIDNIGHT + 28000})
         late, other = (one['trip_update'] for one in message['entity'])
         self.assertEqual(late['trip'], {'trip_id': 'r1', 'start_date': DATE, 'schedule_relationship': 0})
@@ -199,7 +200,7 @@ class Out(Written):
         frequencies = ['trip_id,start_time,end_time,headway_secs', 'r1,08:00:00,08:10:00,300']
         agency = ['agency_name,agency_url,agency_timezone', 'X,https://example.org,Europe/Berlin']
         self.made({**trips_and_times('r1 R 0 - A 07:00 B 07:10'), 'agency.txt': agency, 'frequencies.txt': frequencies})
-        first, second = (one['trip_update'] for one in decode(self.written(('delay event', 1, 60), ('now', 28000)))['entity'])
+        first, second = (one['trip_update'] for one in decode(self.written(DelayEvent(1, 60), Now(28000)))['entity'])
         self.assertEqual(first['trip'], {'trip_id': 'r1', 'start_time': '08:00:00', 'start_date': DATE})
         self.assertEqual(first['stop_time_update'][0]['departure'], {'time': MIDNIGHT + 28860})
         self.assertEqual(second['trip']['start_time'], '08:05:00')
@@ -209,15 +210,15 @@ class Out(Written):
 
     def test_dropped_changes_are_alerts(self) -> None:
         change = next(one for one in read_network(self.net).activities if one.kind == 'change')
-        alert, = (one['alert'] for one in decode(self.written(('drop', change.id), ('now', 28000)))['entity'] if 'alert' in one)
+        alert, = (one['alert'] for one in decode(self.written(Drop(change.id), Now(28000)))['entity'] if 'alert' in one)
         self.assertEqual([(one['trip']['trip_id'], one['stop_id']) for one in alert['informed_entity']], [('r1', 'B'), ('g1', 'B')])
         self.assertEqual(alert['header_text']['translation'][0]['text'], 'Red 08:00: no connection to Green 08:15 at Boll')
         self.assertEqual(alert['active_period'], [{'end': MIDNIGHT + 29700}])
-        gone = decode(self.written_again(('drop', change.id), ('pass', change.head, 29700), ('now', 29700)))
+        gone = decode(self.written_again(Drop(change.id), Pass(change.head, 29700), Now(29700)))
         self.assertEqual([one for one in gone['entity'] if 'alert' in one], [])
 
     def test_what_comes_out_goes_in_as_the_same_delay(self) -> None:
-        data = self.written(('delay event', 1, 60), ('now', 28000))
+        data = self.written(DelayEvent(1, 60), Now(28000))
         name = os.path.join(self.folder, 'out.pb')
         self.assertTrue(data)
         self.assertEqual(self.call(gtfs_rt_in, self.net, self.feed, '--replay', name), (0, ''))
@@ -225,7 +226,7 @@ class Out(Written):
 
     @unittest.skipUnless(shutil.which('protoc'), 'protoc (protobuf-compiler of Debian) is not here')
     def test_an_independent_decoder_reads_the_same(self) -> None:
-        data = self.written(('delay event', 1, 60), ('now', 28000))
+        data = self.written(DelayEvent(1, 60), Now(28000))
         told = subprocess.run(['protoc', '--decode_raw'], input=data, capture_output=True, check=True).stdout.decode()
         told = re.sub(r'\s+', ' ', told)
         self.assertTrue(told.startswith(f'1 {{ 1: "2.0" 2: 0 3: {MIDNIGHT + 28000} }} 2 {{ 1: "trip-1" 3 {{ 1 {{ 1: "r1" 3: "{DATE}" 4: 0 }} '), told)
@@ -236,7 +237,7 @@ class Again(Written):
     """A file that is handed out, and taken in from its URL."""
 
     def test_is_handed_out_and_taken_in(self) -> None:
-        self.written(('delay event', 1, 60), ('now', 28000))
+        self.written(DelayEvent(1, 60), Now(28000))
         out = os.path.join(self.folder, 'out.pb')
         with contextlib.redirect_stderr(io.StringIO()) as said, gtfs_rt_out.serving(out, 0) as server:
             url = f'http://127.0.0.1:{server.server_port}/'
@@ -251,13 +252,13 @@ class Again(Written):
             server.shutdown()
 
     def test_what_is_told_again_is_as_a_new_process_tells_it(self) -> None:
-        self.written(('delay event', 1, 60), ('now', 28000))
+        self.written(DelayEvent(1, 60), Now(28000))
         text, out = os.path.join(self.folder, 'run', 'text'), os.path.join(self.folder, 'out.pb')
         writer = gtfs_rt_out.Writer(argparse.Namespace(net=self.net, source=text, out=out, zone=None, now=None))
         writer.write()
-        late: Entered = ('delay event', 1, 120)
+        late: Entered = DelayEvent(1, 120)
         days: list[list[Entered]] = [
-            [('now', 28100)], [late, ('now', 28200)], [late, ('now', 28300)], [('pass', 1, 28750), ('now', 28800)],
+            [Now(28100)], [late, Now(28200)], [late, Now(28300)], [Pass(1, 28750), Now(28800)],
         ]
         for messages in days:
             new = self.written_again(*messages)
@@ -266,7 +267,7 @@ class Again(Written):
                 self.assertEqual(file.read(), new)
 
     def test_is_written_anew_where_the_text_is_another_one(self) -> None:
-        self.written(('delay event', 1, 60), ('now', 28000))
+        self.written(DelayEvent(1, 60), Now(28000))
         text, out = os.path.join(self.folder, 'run', 'text'), os.path.join(self.folder, 'out.pb')
         writer = gtfs_rt_out.Writer(argparse.Namespace(net=self.net, source=text, out=out, zone=None, now=None))
         seen = writer.write_again(None)
@@ -281,7 +282,7 @@ class Again(Written):
         self.assertEqual(said.getvalue().count('is no text of a run'), 1)
 
     def test_a_file_that_could_not_be_written_is_tried_again(self) -> None:
-        self.written(('delay event', 1, 60), ('now', 28000))
+        self.written(DelayEvent(1, 60), Now(28000))
         text, folder = os.path.join(self.folder, 'run', 'text'), os.path.join(self.folder, 'public')
         out = os.path.join(folder, 'out.pb')
         writer = gtfs_rt_out.Writer(argparse.Namespace(net=self.net, source=text, out=out, zone=None, now=None))
@@ -299,7 +300,7 @@ class Again(Written):
         self.assertFalse(os.path.exists(out))
 
     def test_who_asks_nothing_shuts_nobody_out(self) -> None:
-        self.written(('delay event', 1, 60), ('now', 28000))
+        self.written(DelayEvent(1, 60), Now(28000))
         out = os.path.join(self.folder, 'out.pb')
         with contextlib.redirect_stderr(io.StringIO()), gtfs_rt_out.serving(out, 0) as server:
             held = [socket.create_connection(('127.0.0.1', server.server_port), timeout=PATIENCE) for _ in range(150)]

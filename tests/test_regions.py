@@ -22,8 +22,9 @@ from dispatch_tools.formats.giv import read_network
 from dispatch_tools.formats.names import read_events, read_stops, read_trains
 from dispatch_tools.here import words_of
 from dispatch_tools.live.relay import read_boundary, Relay
+from dispatch_tools.model.messages import DelayEvent, Message
 from dispatch_tools.model.network import Network
-from dispatch_tools.model.railway import apply, Message, Rows, sound_times
+from dispatch_tools.model.railway import apply, Rows, sound_times
 from tests.folders import InFolder, read
 from tests.patience import comes_to_be
 from tests.samples import CASES, network
@@ -59,7 +60,7 @@ class Server:
         """Whether lines of boards move anything here."""
         answers = [answer for line in lines for answer in self.relay.tell([line])]
         for event, delay in answers:
-            self.hear(('delay event', event, delay))
+            self.hear(DelayEvent(event, delay))
         return bool(answers)
 
 
@@ -204,7 +205,7 @@ class Relays(unittest.TestCase):
             rows = Rows(whole)
             for event in draws.sample(inner, 60):
                 for delay in (draws.randrange(900), draws.randrange(300)):
-                    message = ('delay event', event, delay)
+                    message = DelayEvent(event, delay)
                     apply(whole, rows, message)
                     owner = next(server for server in servers.values() if event in server.network.event_place)
                     owner.hear(message)

@@ -6,6 +6,7 @@ import unittest
 from dispatch_tools.formats.files import BadFile
 from dispatch_tools.formats.giv import read_network
 from dispatch_tools.formats.runtext import Bad, read_run
+from dispatch_tools.model.messages import Adopt, BoundLeaf, DelayEvent, Drop, First, Inner
 from dispatch_tools.pictures.scene import read_scene
 from tests.samples import network, text
 
@@ -20,12 +21,12 @@ class WholeTexts(unittest.TestCase):
         run = read_run(bytes_of('plan_that_is_adopted'), 6)
         self.assertEqual(run.penalty, 10)
         self.assertEqual([entry.message for entry in run.journal],
-                         [('delay event', 1, 60), ('adopt', (('drop', 5), ('first', 5, 3)))])
+                         [DelayEvent(1, 60), Adopt((Drop(5), First(5, 3)))])
         answer = run.logs[0].items[1].answer
         assert answer is not None
         plan = answer.value
         self.assertEqual((plan.mark, plan.cost, plan.bound), ('optimal', 940000, 940000))
-        self.assertEqual(plan.nodes, [('inner', ('change', 5)), ('bound', 1075000), ('bound', 940000)])
+        self.assertEqual(plan.nodes, [Inner(('change', 5)), BoundLeaf(1075000), BoundLeaf(940000)])
         self.assertEqual(run.times, {1: 160, 2: 250, 3: 260, 4: 340, 5: 230, 6: 330})
         self.assertEqual(run.cost, 940000)
 

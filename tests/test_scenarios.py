@@ -17,7 +17,8 @@ from dispatch_tools.days.delays import Drawing, drawn_day, KINDS, Lines, size_of
 from dispatch_tools.days.playing import Played, Program, replanned, Replanning
 from dispatch_tools.days.shapes import made, USUAL
 from dispatch_tools.formats.giv import read_network
-from dispatch_tools.formats.runtext import due_items, Said
+from dispatch_tools.formats.runtext import due_items
+from dispatch_tools.model.messages import DelayEvent, First, Said, STATEMENTS
 from dispatch_tools.model.network import Activity, Event, Network
 from dispatch_tools.model.railway import apply, refusal_at_once, Rows, sound_times
 from tests.drawn import drawn_network
@@ -46,7 +47,7 @@ def rows_of(net: Network, messages: Iterable[Optional[Said]]) -> Rows:
     """The rows after messages, none of which may be refused at once; delays, passes and clocks make no cycle."""
     rows = Rows(net)
     for message in messages:
-        assert message is not None, 'a line is malformed'
+        assert isinstance(message, STATEMENTS), 'a line is malformed, or asks'
         refusal = refusal_at_once(net, rows, message)
         if refusal is not None:
             raise AssertionError(f'{message} is refused: {refusal}')
@@ -93,15 +94,16 @@ class Days(InFolder):
             told = drawn_day(lines, drawing, 7, 1)
             self.assertEqual(told, drawn_day(lines, drawing, 7, 1))
             self.assertNotEqual(told, drawn_day(lines, drawing, 7, 2))
-            self.assertTrue(told and told == sorted(told))
+            self.assertTrue(told and told == sorted(told, key=lambda one: one.time))
             rows_of(net, [one.message for one in told])
 
     def test_blocked_stretch(self) -> None:
         net = read_network(network('forty_trains'))
         told = drawn_day(Lines(net), Drawing('blocked', 0, size_of('exponential:1')), 1, 1)
         start = told[0].time
-        leaving = [net.events[net.event_place[one.message[1]]].time + one.message[2] for one in told]
-        self.assertTrue(all(one.time == start and one.message[0] == 'delay event' for one in told))
+        delays = [one.message for one in told if one.time == start and isinstance(one.message, DelayEvent)]
+        leaving = [net.events[net.event_place[delay.event]].time + delay.seconds for delay in delays]
+        self.assertEqual(len(delays), len(told))
         self.assertEqual([time - start for time in sorted(leaving)], [3600 + 120 * place for place in range(len(leaving))])
 
     def test_feed_with_a_clock(self) -> None:
@@ -181,11 +183,11 @@ class Playing(InFolder):
             [Activity(1, 'headway', 1, 2, 8, 0), Activity(2, 'headway', 2, 1, 8, 0)],
         )
         played = Played(net, Rows(net))
-        played.say(('delay event', 1, 40))
+        played.say(DelayEvent(1, 40))
         before = sound_times(net, played.rows)
         self.assertEqual(before, [260, 268])
         self.assertEqual(played.question(250, before, 0), ['delay event 1 40', 'delay event 2 20'])
-        self.assertEqual(played.enter([('first', 2, 1)]), 1)
+        self.assertEqual(played.enter([First(2, 1)]), 1)
         played.hold_back(250, before)
         self.assertEqual(played.lines, ['delay event 1 40', 'first 2 1', 'delay event 2 20'])
         self.assertEqual(sound_times(net, played.rows), [260, 250])

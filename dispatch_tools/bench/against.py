@@ -38,7 +38,7 @@ from dispatch_tools.formats.files import BadFile
 from dispatch_tools.formats.giv import read_network
 from dispatch_tools.formats.solution import decisions_of, read_solution, Solution
 from dispatch_tools.here import TOP
-from dispatch_tools.model.decide import in_turn, spoken
+from dispatch_tools.model.decide import in_turn
 from dispatch_tools.model.network import Network
 from dispatch_tools.model.programme import mps_text, Posed, Programme, programme_of, Window
 from dispatch_tools.model.railway import Rows
@@ -141,7 +141,7 @@ def windowed(server: Server, delays: Sequence[str], window: Window, network: Net
     done = measured([*words, f'--penalty={PENALTY}'])
     mark, cost, bound = plan_of(done.printed)
     choices = choices_in(done.printed.encode(), None)
-    if server.cost([*delays, *spoken(in_turn(network, rows, choices))]) != cost:
+    if server.cost([*delays, *map(str, in_turn(network, rows, choices))]) != cost:
         raise Fault('the choices of a window do not cost what its plan says')
     return Found(cost, bound, mark == 'optimal', done.seconds, done.megabytes)
 
@@ -217,7 +217,7 @@ def told_cost(solution: Solution, unit: int) -> Optional[int]:
 
 def cost_of_solution(server: Server, delays: Sequence[str], name: str, solution: Solution, posed: Posed) -> int:
     decisions = decisions_of(name, solution, posed.free)
-    return server.cost([*delays, *spoken(in_turn(posed.network, posed.rows, decisions))])
+    return server.cost([*delays, *map(str, in_turn(posed.network, posed.rows, decisions))])
 
 
 # ---- Days

@@ -23,10 +23,10 @@ import threading
 import time
 from collections.abc import Iterator, Sequence
 from pathlib import Path
-from typing import Any
 
 from dispatch_tools.days.generated import Draws, FEED, mixed, write_day
 from dispatch_tools.formats.runtext import due_items, read_run, Run
+from dispatch_tools.model.messages import Adopt, Message
 from dispatch_tools.words import add_program, command_line
 
 LIVES = 500
@@ -176,12 +176,9 @@ def told(run: Run, feed: int) -> list[tuple[int, object]]:
     return [(item.line, item.said) for item in run.logs[feed].items]
 
 
-def lines_of_message(message: tuple[Any, ...]) -> list[str]:
+def lines_of_message(message: Message) -> list[str]:
     """A message as lines of a feed: an adopted list as its decisions."""
-    word, *rest = message
-    if word == 'adopt':
-        return [' '.join(map(str, decision)) for decision in rest[0]]
-    return [' '.join(map(str, message))]
+    return [*map(str, message.decisions)] if isinstance(message, Adopt) else [str(message)]
 
 
 def judged(server: Server, text: bytes, count: int) -> Run:

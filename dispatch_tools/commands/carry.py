@@ -21,7 +21,6 @@ from typing import Sequence
 from dispatch_tools.days.carry import differs, lines_of_the_day, read_days, rows_of_next_day, without_cycles
 from dispatch_tools.formats.files import BadFile, speak_utf8
 from dispatch_tools.formats.giv import read_delays, read_network
-from dispatch_tools.model.decide import spoken
 from dispatch_tools.model.railway import Rows
 from dispatch_tools.pictures.scene import read_text, rows_of
 from dispatch_tools.words import add_run, command_line, whole_between, whole_path
@@ -47,7 +46,7 @@ def main(argv: Sequence[str] | None = None) -> int:
             days = read_days(given.net, network, given.to, given.shift)
             begun = Rows(days.after)
             messages, left_out = without_cycles(days.after, begun, rows_of_next_day(days, rows_of(network, start, run, given.text), begun))
-            lines = spoken(messages)
+            lines = [*map(str, messages)]
         else:
             lines, left_out = lines_of_the_day(network, start, run, given.text), []
         print(''.join(f'{line}\n' for line in lines), end='')
@@ -55,7 +54,7 @@ def main(argv: Sequence[str] | None = None) -> int:
     except BadFile as bad:
         print(f'carry: {bad}', file=sys.stderr)
         return 2
-    for line in spoken(left_out):
+    for line in map(str, left_out):
         print(f'carry: "{line}" is left out: with the others it would close a cycle', file=sys.stderr)
     if is_other:
         print('carry: the program finds other times than the text has', file=sys.stderr)

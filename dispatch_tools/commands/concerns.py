@@ -23,6 +23,7 @@ from dispatch_tools.desk.concerns import change_place, lines_of, met_all_the_sam
 from dispatch_tools.desk.naming import Naming
 from dispatch_tools.formats.files import BadFile, speak_utf8, write_all
 from dispatch_tools.formats.runtext import MOST_FEEDS, Text
+from dispatch_tools.model.messages import Drop, Keep
 from dispatch_tools.pictures.scene import read_scene
 from dispatch_tools.words import add_run, command_line, whole_between
 
@@ -41,7 +42,7 @@ def main(argv: Sequence[str] | None = None) -> int:
         title = ''
         for number in given.changes:
             place = change_place(scene.network, scene.rows, number)
-            compared = of_decisions(scene, [('keep', number)], [('drop', number)])
+            compared = of_decisions(scene, [Keep(number)], [Drop(number)])
             title = f'{naming.activity(number)} ({number}): dropped, and not kept'
             print(f'change {number}: {naming.activity(number)}, {people(scene.network.activities[place].weight)}')
             say([*lines_of(naming, compared, ('kept', 'dropped')), *met_all_the_same(naming, compared.after, place)])

@@ -20,7 +20,8 @@ from dispatch_tools.formats.files import BadFile
 from dispatch_tools.formats.giv import read_delays
 from dispatch_tools.formats.runtext import Entry
 from dispatch_tools.formats.solution import decisions_of, read_solution
-from dispatch_tools.model.decide import in_turn, spoken
+from dispatch_tools.model.decide import in_turn
+from dispatch_tools.model.messages import Adopt
 from dispatch_tools.model.network import Network
 from dispatch_tools.model.programme import choices_in
 from dispatch_tools.model.railway import apply, Rows
@@ -30,10 +31,10 @@ from dispatch_tools.words import command_line
 def said_again(network: Network, rows: Rows, journal: Iterable[Entry]) -> Iterator[str]:
     """The entries of a journal as lines of a feed, from the rows at the start, which they change."""
     for entry in journal:
-        if entry.message[0] == 'adopt':
-            yield from spoken(in_turn(network, rows, entry.message[1]))
+        if isinstance(entry.message, Adopt):
+            yield from map(str, in_turn(network, rows, entry.message.decisions))
         else:
-            yield ' '.join(map(str, entry.message))
+            yield str(entry.message)
         apply(network, rows, entry.message)
 
 
@@ -42,7 +43,7 @@ def lines_of_solution(given: argparse.Namespace, words: argparse.ArgumentParser)
     network, rows, journal, _ = read_rows(given)
     decisions = decisions_of(given.solution, read_solution(given.solution), choices_in(network, rows, window))
     try:
-        lines = spoken(in_turn(network, rows, decisions))
+        lines = [*map(str, in_turn(network, rows, decisions))]
     except ValueError as error:
         raise BadFile(given.solution, None, 'its choices have a cycle: it is of another problem') from error
     if given.whole:

@@ -33,7 +33,7 @@ def items_of(reply: bytes) -> Iterator[Item]:
 
 def line_of(item: Item) -> str:
     """The line that an item answers."""
-    return MALFORMED if item.said is None else ' '.join(map(str, item.said))
+    return MALFORMED if item.said is None else str(item.said)
 
 
 def behind(name: str, feed: bytes, items: list[Item]) -> list[str]:

@@ -13,11 +13,10 @@ from dispatch_tools.formats.giv import read_network
 from dispatch_tools.formats.names import name_of_trip, named_trip, read_day_name, read_events
 from dispatch_tools.formats.runtext import Run
 from dispatch_tools.live.serving import Server
-from dispatch_tools.model.decide import in_turn, spoken
+from dispatch_tools.model.decide import in_turn
+from dispatch_tools.model.messages import Adopt, Decision, DelayActivity, DelayEvent, Drop, First, Keep, Message, Now, Pass
 from dispatch_tools.model.network import Network
-from dispatch_tools.model.railway import (
-    active_activities, apply, Decision, LARGEST_DELAY, Message, refusal_at_once, Rows, sound_times, times_of,
-)
+from dispatch_tools.model.railway import active_activities, apply, LARGEST_DELAY, refusal_at_once, Rows, sound_times, times_of
 from dispatch_tools.pictures.scene import rows_of
 
 WHOLE_DAY = 86_400
@@ -30,20 +29,20 @@ def delays_between(network: Network, start: Rows, target: Rows) -> Iterator[Mess
     """The delays by which rows differ."""
     for event, now, then in zip(network.events, start.event_delays, target.event_delays):
         if now != then:
-            yield 'delay event', event.id, then
+            yield DelayEvent(event.id, then)
     for activity, now, then in zip(network.activities, start.activity_delays, target.activity_delays):
         if now != then:
-            yield 'delay activity', activity.id, then
+            yield DelayActivity(activity.id, then)
 
 
 def decisions_between(network: Network, start: Rows, target: Rows) -> list[Decision]:
     """The choices by which rows differ."""
     changes: list[Decision] = [
-        ('keep' if then else 'drop', activity.id)
+        Keep(activity.id) if then else Drop(activity.id)
         for activity, now, then in zip(network.activities, start.kept, target.kept) if now != then
     ]
     pairs: list[Decision] = [
-        ('first', *(network.events[place].id for place in (pair if then == pair[0] else pair[::-1])))
+        First(*(network.events[place].id for place in (pair if then == pair[0] else pair[::-1])))
         for pair, now, then in zip(network.pairs, start.first, target.first) if now != then
     ]
     return changes + pairs
@@ -51,12 +50,12 @@ def decisions_between(network: Network, start: Rows, target: Rows) -> list[Decis
 
 def passes_of(network: Network, rows: Rows) -> list[Message]:
     """What has passed, by its time."""
-    passed = [('pass', event.id, time) for event, time in zip(network.events, rows.passed) if time is not None]
-    return sorted(passed, key=lambda message: (message[2], message[1]))
+    passed = [Pass(event.id, time) for event, time in zip(network.events, rows.passed) if time is not None]
+    return [*sorted(passed, key=lambda message: (message.time, message.event))]
 
 
 def clock_of(rows: Rows) -> list[Message]:
-    return [('now', rows.clock)] if rows.clock else []
+    return [Now(rows.clock)] if rows.clock else []
 
 
 def with_delays(network: Network, start: Rows, delays: Iterable[Message]) -> Rows:
@@ -85,9 +84,12 @@ def as_it_went(network: Network, start: Rows, target: Rows, journal: Iterable[Me
     delays = list(delays_between(network, start, target))
     rows, messages = with_delays(network, start, delays), list(delays)
     for message in journal:
-        if message[0] in ('delay event', 'delay activity', 'now'):
+        if isinstance(message, (DelayEvent, DelayActivity, Now)):
             continue
-        messages += in_turn(network, rows, message[1]) if message[0] == 'adopt' else [message]
+        if isinstance(message, Adopt):
+            messages += in_turn(network, rows, message.decisions)
+        else:
+            messages.append(message)
         apply(network, rows, message)
     return messages + clock_of(target)
 
@@ -276,4 +278,4 @@ def lines_of_the_day(network: Network, start: Rows, run: Run, text: str) -> list
     messages = messages_to(network, start, target, run)
     if not leads_to(network, start, target, messages):
         raise BadFile(text, None, 'no lines were found that lead to its rows')
-    return spoken(messages)
+    return [*map(str, messages)]

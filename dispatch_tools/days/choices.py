@@ -5,9 +5,10 @@ import sys
 from typing import Iterator
 
 from dispatch_tools.formats.runtext import (
-    Answer, DECISIONS, fits, NUMBER, read_form, read_journal, read_log, read_plan, read_plan_head, Text, VALUE,
+    Answer, fits, NUMBER, read_decision, read_journal, read_log, read_plan, read_plan_head, Text, VALUE,
 )
-from dispatch_tools.model.railway import Decision, MOST_ENTRIES, Plan
+from dispatch_tools.model.messages import Decision
+from dispatch_tools.model.railway import MOST_ENTRIES, Plan
 
 
 class NoPlan(Exception):
@@ -48,7 +49,7 @@ def choices_carried(text: Text, words: list[str]) -> tuple[Decision, ...]:
     if numbers is None:
         text.demand(words[0] == 'rebased' and words[2:3] == ['refused'], 'form')
         raise NoPlan(f'the plan could not be carried over: {" ".join(words[3:])}')
-    return tuple(text.sure(read_form(DECISIONS, said)) for said in read_choices(text, numbers[2]))
+    return tuple(read_decision(said) or text.refuse() for said in read_choices(text, numbers[2]))
 
 
 def choices_left(text: Text, words: list[str]) -> tuple[Decision, ...]:
@@ -58,7 +59,7 @@ def choices_left(text: Text, words: list[str]) -> tuple[Decision, ...]:
     for said in read_choices(text, many):
         is_needed = said[-1] == 'needed'
         text.demand(is_needed or fits(said[-2:], ['saves', NUMBER]) is not None, 'form')
-        choices.append(text.sure(read_form(DECISIONS, said[:-1] if is_needed else said[:-2])))
+        choices.append(read_decision(said[:-1] if is_needed else said[:-2]) or text.refuse())
     return tuple(choices)
 
 
@@ -90,7 +91,7 @@ def choices_in(data: bytes, feed: int | None) -> tuple[Decision, ...]:
 
 
 def lines_of(choices: tuple[Decision, ...]) -> str:
-    return ''.join(' '.join(map(str, decision)) + '\n' for decision in choices)
+    return ''.join(f'{decision}\n' for decision in choices)
 
 
 def bytes_of(name: str) -> bytes:

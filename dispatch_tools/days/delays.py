@@ -13,8 +13,8 @@ from random import Random
 from typing import Callable, NamedTuple
 
 from dispatch_tools.formats.files import BadFile, text_of
+from dispatch_tools.model.messages import DelayActivity, DelayEvent, Statement
 from dispatch_tools.model.network import Event, Network
-from dispatch_tools.model.railway import Message
 from dispatch_tools.pictures.scene import trains_of
 
 KINDS = ('delays', 'slow', 'blocked', 'line', 'mixed')
@@ -28,7 +28,7 @@ APART = 120
 class Told(NamedTuple):
     """A message, and from when on it is known."""
     time: int
-    message: Message
+    message: Statement
 
 
 @dataclass(frozen=True)
@@ -126,7 +126,7 @@ def drawn_day(lines: Lines, drawing: Drawing, seed: int, day: int) -> list[Told]
         told += blocked_hour(lines, draws)
     elif kind == 'line':
         told += late_line(lines, drawing, draws)
-    return sorted(told)
+    return sorted(told, key=lambda one: (one.time, one.message.KIND, one.message.numbers()))
 
 
 def train_delays(lines: Lines, drawing: Drawing, draws: Random) -> list[Told]:
@@ -135,7 +135,7 @@ def train_delays(lines: Lines, drawing: Drawing, draws: Random) -> list[Told]:
     for train in lines.trains:
         if draws.random() < drawing.probability:
             event = lines.network.events[draws.choice(train)]
-            told.append(Told(event.time, ('delay event', event.id, drawing.seconds(draws))))
+            told.append(Told(event.time, DelayEvent(event.id, drawing.seconds(draws))))
     return told
 
 
@@ -145,7 +145,7 @@ def slow_stretch(lines: Lines, drawing: Drawing, draws: Random) -> list[Told]:
     start = lines.tail(draws.choice(stretch)).time
     longer = drawing.seconds(draws)
     drives = [place for place in stretch if start <= lines.tail(place).time <= start + 2 * HOUR]
-    return [Told(lines.tail(place).time, ('delay activity', lines.network.activities[place].id, longer)) for place in drives]
+    return [Told(lines.tail(place).time, DelayActivity(lines.network.activities[place].id, longer)) for place in drives]
 
 
 def blocked_hour(lines: Lines, draws: Random) -> list[Told]:
@@ -155,7 +155,7 @@ def blocked_hour(lines: Lines, draws: Random) -> list[Told]:
     waiting = sorted({lines.tail(place) for place in stretch if start <= lines.tail(place).time < start + HOUR},
                      key=lambda event: (event.time, event.id))
     return [
-        Told(start, ('delay event', event.id, start + HOUR + APART * place - event.time)) for place, event in enumerate(waiting)
+        Told(start, DelayEvent(event.id, start + HOUR + APART * place - event.time)) for place, event in enumerate(waiting)
         if start + HOUR + APART * place > event.time
     ]
 
@@ -163,12 +163,12 @@ def blocked_hour(lines: Lines, draws: Random) -> list[Told]:
 def late_line(lines: Lines, drawing: Drawing, draws: Random) -> list[Told]:
     """Each train of one line is late from its first event on."""
     firsts = [lines.network.events[train[0]] for train in draws.choice(lines.lines)]
-    return [Told(event.time, ('delay event', event.id, drawing.seconds(draws))) for event in firsts]
+    return [Told(event.time, DelayEvent(event.id, drawing.seconds(draws))) for event in firsts]
 
 
 def told_lines(told: list[Told]) -> list[str]:
     """The messages as lines of a feed. Of two messages of one event the later one holds."""
-    return [' '.join(map(str, one.message)) for one in told]
+    return [str(one.message) for one in told]
 
 
 def delays_of_shape(shape: str, number: int, folder: str) -> tuple[str, list[str]]:

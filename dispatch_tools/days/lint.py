@@ -8,7 +8,8 @@ from typing import Iterable, Iterator, NamedTuple, Optional
 from dispatch_tools.formats.files import BadFile, in_one_line, text_of
 from dispatch_tools.formats.giv import ACTIVITIES, activity_row, event_row, EVENTS, rows_of_file
 from dispatch_tools.formats.names import numbered
-from dispatch_tools.formats.runtext import due_items, Said
+from dispatch_tools.formats.runtext import due_items
+from dispatch_tools.model.messages import AskPlan, AskTime, DelayActivity, DelayEvent, Drop, First, Keep, Now, Pass, Recall, Said
 from dispatch_tools.model.network import Activity, Event, Network
 from dispatch_tools.model.railway import LARGEST_DELAY, LARGEST_PASSED
 
@@ -146,30 +147,29 @@ def guess(line: str) -> str:
 
 def ids_of(network: Network, said: Said) -> Optional[str]:
     """What a line names that the network has not, in words."""
-    kind, *numbers = said
-    if kind in ('delay activity', 'keep', 'drop'):
-        place = network.activity_place.get(numbers[0])
+    if isinstance(said, (DelayActivity, Keep, Drop)):
+        place = network.activity_place.get(said.activity)
         if place is None:
-            return f'there is no activity {numbers[0]}'
-        if kind != 'delay activity' and network.activities[place].kind != 'change':
-            return f'activity {numbers[0]} is no change'
-    elif kind in ('delay event', 'pass', 'recall', 'time', 'first'):
-        events = numbers if kind == 'first' else numbers[:1]
-        for event in events:
+            return f'there is no activity {said.activity}'
+        if not isinstance(said, DelayActivity) and network.activities[place].kind != 'change':
+            return f'activity {said.activity} is no change'
+    elif isinstance(said, (DelayEvent, Pass, Recall, AskTime, First)):
+        for event in (said.event, said.other) if isinstance(said, First) else (said.event,):
             if event not in network.event_place:
                 return f'there is no event {event}'
-        if kind == 'first' and network.pair_of(*(network.event_place[event] for event in events)) is None:
-            return f'events {events[0]} and {events[1]} are no pair'
+        if isinstance(said, First) and network.pair_of(network.event_place[said.event], network.event_place[said.other]) is None:
+            return f'events {said.event} and {said.other} are no pair'
     return None
 
 
 def range_of(said: Said) -> Optional[str]:
     """What number of a line is above its limit, in words."""
-    largest = {'delay event': LARGEST_DELAY, 'delay activity': LARGEST_DELAY, 'pass': LARGEST_PASSED, 'now': LARGEST_PASSED}
-    if said[0] in largest and said[-1] > largest[said[0]]:
-        return f'{said[-1]} is above {largest[said[0]]}'
-    if said[0] == 'plan' and not 1 <= said[1] <= 16_384:
-        return f'a plan has 1 to 16384 nodes, not {said[1]}'
+    if isinstance(said, (DelayEvent, DelayActivity)) and said.seconds > LARGEST_DELAY:
+        return f'{said.seconds} is above {LARGEST_DELAY}'
+    if isinstance(said, (Pass, Now)) and said.time > LARGEST_PASSED:
+        return f'{said.time} is above {LARGEST_PASSED}'
+    if isinstance(said, AskPlan) and not 1 <= said.budget <= 16_384:
+        return f'a plan has 1 to 16384 nodes, not {said.budget}'
     return None
 
 

@@ -14,10 +14,11 @@ from typing import Callable, Optional, Sequence
 from dispatch_tools.days.choices import choices_in
 from dispatch_tools.days.delays import Told
 from dispatch_tools.formats.files import BadFile
-from dispatch_tools.formats.runtext import Bad, DECISIONS, read_form
-from dispatch_tools.model.decide import in_turn, spoken
+from dispatch_tools.formats.runtext import Bad, read_decision
+from dispatch_tools.model.decide import in_turn
+from dispatch_tools.model.messages import Decision, DelayEvent, Message, Now, Pass
 from dispatch_tools.model.network import Network
-from dispatch_tools.model.railway import apply, Decision, Message, refusal_at_once, Rows, sound_times
+from dispatch_tools.model.railway import apply, refusal_at_once, Rows, sound_times
 
 # The most bytes of a feed.
 FEED = 262_144
@@ -90,8 +91,8 @@ class Program:
     def ruled(self, rule: str) -> list[Decision]:
         """The choices that a waiting rule makes behind the text."""
         told = self.call('rules', self.net, self.path('text'), rule, '1')
-        forms = [read_form(DECISIONS, line.split()[1:]) for line in told.splitlines() if line.startswith('choice ')]
-        return [form for form in forms if form is not None]
+        decisions = [read_decision(line.split()[1:]) for line in told.splitlines() if line.startswith('choice ')]
+        return [decision for decision in decisions if decision is not None]
 
 
 @dataclass
@@ -104,7 +105,7 @@ class Played:
     ahead: list[Told] = field(default_factory=list)
 
     def say(self, message: Message) -> None:
-        self.lines.append(' '.join(map(str, message)))
+        self.lines.append(str(message))
         apply(self.network, self.rows, message)
 
     def tell(self, now: Optional[int]) -> bool:
@@ -123,34 +124,34 @@ class Played:
         for message in self.passing(now, sound_times(self.network, self.rows), 0):
             self.say(message)
         if now > self.rows.clock:
-            self.say(('now', now))
+            self.say(Now(now))
 
     def passing(self, now: int, times: Sequence[int], since: int) -> list[Message]:
         """What has happened by now of the events that are scheduled since some time, in the order of their times."""
         events = self.network.events
         happened = [(at, place) for place, at in enumerate(times)
                     if at <= now and events[place].time >= since and self.rows.passed[place] is None]
-        return [('pass', events[place].id, at) for at, place in sorted(happened)]
+        return [Pass(events[place].id, at) for at, place in sorted(happened)]
 
     def question(self, now: int, times: Sequence[int], since: int) -> list[str]:
         """The feed with what has happened since some time, and with what is late and cannot be before now, for one question."""
         late = [
-            ('delay event', event.id, now - event.time) for event, at in zip(self.network.events, times) if since <= event.time < now < at
+            DelayEvent(event.id, now - event.time) for event, at in zip(self.network.events, times) if since <= event.time < now < at
             and event.time + self.rows.event_delays[self.network.event_place[event.id]] < now
         ]
-        return self.lines + spoken(late) + spoken(self.passing(now, times, since))
+        return [*self.lines, *map(str, late), *map(str, self.passing(now, times, since))]
 
     def hold_back(self, now: int, before: Sequence[int]) -> None:
         """What had not happened by now, and which choices would let happen before, is delayed until now."""
         after = sound_times(self.network, self.rows)
         for event, was, will_be in zip(self.network.events, before, after):
             if was > now > will_be:
-                self.say(('delay event', event.id, now - event.time))
+                self.say(DelayEvent(event.id, now - event.time))
 
     def enter(self, decisions: Sequence[Decision]) -> int:
         """Says choices, in an order in which none closes a cycle; how many."""
         turns = in_turn(self.network, self.rows, decisions)
-        self.lines += spoken(turns)
+        self.lines += map(str, turns)
         for decision in turns:
             self.rows.decide(self.network, decision)
         return len(turns)

@@ -18,10 +18,11 @@ from typing import Callable, Iterable, Sequence
 
 from dispatch_tools.days.playing import Played
 from dispatch_tools.formats.files import BadFile
-from dispatch_tools.formats.runtext import DECISIONS, read_form
+from dispatch_tools.formats.runtext import read_decision
+from dispatch_tools.model.messages import Decision
 from dispatch_tools.model.network import Choice, Network
 from dispatch_tools.model.railway import (
-    active_activities, Decision, decision_refusal, free_choices, least_times, Rows, sound_times,
+    active_activities, decision_refusal, free_choices, least_times, Rows, sound_times,
 )
 from dispatch_tools.pictures.scene import clock_time
 
@@ -108,12 +109,12 @@ def decided(name: str, policy: Policy, day: DaySoFar) -> list[Decision]:
     """What a policy decides; BadFile if a line of it is none, or cannot be decided any more."""
     decisions = []
     for line in policy(day):
-        decision = read_form(DECISIONS, line.split())
+        decision = read_decision(line.split())
         if decision is None:
             raise BadFile(name, None, f'"{line}" is none of keep A, drop A, first E F')
         refusal = decision_refusal(day.network, day.rows, decision)
         if refusal is not None:
-            raise BadFile(name, None, f'at {clock_time(day.now)} it says "{line}", which is refused: {" ".join(map(str, refusal))}')
+            raise BadFile(name, None, f'at {clock_time(day.now)} it says "{line}", which is refused: {refusal}')
         decisions.append(decision)
     return decisions
 

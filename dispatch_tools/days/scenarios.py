@@ -63,5 +63,5 @@ def made(given: argparse.Namespace, drawing: Drawing) -> None:
         feed = ''.join(f'{line}\n' for line in played.lines)
         if len(feed) > FEED:
             raise BadFile(given.folder, None, f'day {day} needs {len(feed)} bytes of a feed, which holds {FEED}: try --no-clock')
-        table = ''.join(f'{one.time};{" ".join(map(str, one.message))}\n' for one in told)
+        table = ''.join(f'{one.time};{one.message}\n' for one in told)
         write_all(given.folder, {f'day-{day}': feed, f'day-{day}.csv': '# time;message\n' + table})

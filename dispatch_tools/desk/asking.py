@@ -11,8 +11,9 @@ from typing import NamedTuple, Optional, Sequence
 from dispatch_tools.days.playing import Program
 from dispatch_tools.formats.files import BadFile
 from dispatch_tools.formats.runtext import Answer, Bad, Entry, NUMBER, read_message, read_plan, read_plan_head, read_time, Text
+from dispatch_tools.model.messages import Adopt, Decision
 from dispatch_tools.model.network import Network
-from dispatch_tools.model.railway import apply, cost_of, Decision, Plan, Rows, sound_times
+from dispatch_tools.model.railway import apply, cost_of, Plan, Rows, sound_times
 from dispatch_tools.pictures.figures import BOUND, Curve, LEVEL, millions, picture, Scale, Study
 
 # The seconds of the waiting rules that are compared, and the budget of the plan beside them.
@@ -29,13 +30,7 @@ class Followed(NamedTuple):
 
 def message_line(entry: Entry) -> str:
     """The words that stand behind the number of an entry."""
-    words: list[object] = []
-    for part in entry.message:
-        if isinstance(part, tuple):
-            words += [word for decision in part for word in decision]
-        else:
-            words.append(part)
-    return f'feed {entry.feed} line {entry.line} {" ".join(map(str, words))}'
+    return f'feed {entry.feed} line {entry.line} {entry.message}'
 
 
 def journal_text(penalty: int, feeds: int, entries: Sequence[str]) -> str:
@@ -109,7 +104,7 @@ def found_program(name: Optional[str], top: str) -> Optional[str]:
 
 def adoption(choices: Sequence[Decision], feed: int) -> str:
     """What stands behind the number of an entry that adopts choices."""
-    return message_line(Entry(feed, 1, ('adopt', tuple(choices))))
+    return message_line(Entry(feed, 1, Adopt(tuple(choices))))
 
 
 class SecondReading:

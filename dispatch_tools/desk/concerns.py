@@ -7,8 +7,9 @@ from typing import Iterable, Iterator, Optional, Sequence
 from dispatch_tools.desk.naming import duration, Naming
 from dispatch_tools.formats.files import BadFile, in_one_line
 from dispatch_tools.formats.markup import escaped
+from dispatch_tools.model.messages import Decision
 from dispatch_tools.model.network import Network
-from dispatch_tools.model.railway import cost_of, Decision, is_met, Rows, times_of, with_decisions
+from dispatch_tools.model.railway import cost_of, is_met, Rows, times_of, with_decisions
 from dispatch_tools.pictures.scene import Scene
 
 MINUTE = 60
@@ -187,5 +188,5 @@ def of_decisions(scene: Scene, one: Sequence[Decision], other: Sequence[Decision
     """What holds with some decisions beside what holds with others; BadFile where either has a cycle."""
     states = [state_of(scene.network, with_decisions(scene.network, scene.rows, decided), scene.run.penalty) for decided in (one, other)]
     if states[0] is None or states[1] is None:
-        raise BadFile(' '.join(map(str, (other if states[0] else one)[0])), None, 'this closes a cycle')
+        raise BadFile(str((other if states[0] else one)[0]), None, 'this closes a cycle')
     return compare(scene, states[0], states[1])

@@ -12,8 +12,9 @@ from dispatch_tools.desk.reckoning import Reckoning
 from dispatch_tools.desk.undoing import reversal
 from dispatch_tools.formats.journal import Answered, Head
 from dispatch_tools.formats.runtext import Bad, Item, Run
+from dispatch_tools.model.messages import AdoptLast, Message
 from dispatch_tools.model.network import Network
-from dispatch_tools.model.railway import is_met, Message, Plan, refusal_at_once, Rows
+from dispatch_tools.model.railway import is_met, Plan, refusal_at_once, Rows
 from dispatch_tools.pictures.scene import changes_of, Scene, trains_of
 
 # If more entries come at once, all times are worked out anew, and not entry by entry.
@@ -134,7 +135,7 @@ class Day:
         """The last plan of the desk's own feed, the line that asked for it, and whether it was adopted."""
         if item.answer is not None and item.answer.kind == 'plan':
             self.plan, self.plan_line, self.adopted = item.answer.value, item.line, 0
-        elif item.said == ('adopt',) and number is not None:
+        elif isinstance(item.said, AdoptLast) and number is not None:
             self.adopted = number
 
     def look_at(self, touched: set[int]) -> None:

@@ -5,7 +5,8 @@ from typing import Any, Sequence
 
 from dispatch_tools.desk.asking import Followed
 from dispatch_tools.desk.naming import duration, Naming
-from dispatch_tools.model.railway import Decision, Plan
+from dispatch_tools.model.messages import Decision, Drop, First, Keep
+from dispatch_tools.model.railway import Plan
 from dispatch_tools.pictures.view import cost_words
 
 # So many trains and choices are listed.
@@ -14,8 +15,8 @@ MOST = 60
 
 def choice_rows(naming: Naming, choices: Sequence[Decision]) -> list[list[str]]:
     """A row for each choice: its kind, the choice in names, and the line that makes it."""
-    kinds = {'keep': 'change kept', 'drop': 'change dropped', 'first': 'order turned'}
-    return [[kinds[choice[0]], naming.decision(choice), ' '.join(map(str, choice))] for choice in choices]
+    kinds = {Keep: 'change kept', Drop: 'change dropped', First: 'order turned'}
+    return [[kinds[type(choice)], naming.decision(choice), str(choice)] for choice in choices]
 
 
 def train_rows(naming: Naming, trains: Sequence[list[int]], before: Sequence[int], after: Sequence[int]) -> list[list[Any]]:
@@ -38,11 +39,11 @@ def effect(naming: Naming, trains: Sequence[list[int]], plan: Plan, before: Foll
     """What a plan would change, as the page's table has it."""
     moved = train_rows(naming, trains, before.times, after.times)
     gap = 0 if plan.cost == 0 else 100 * (plan.cost - plan.bound) / plan.cost
-    kinds = [choice[0] for choice in plan.choices]
+    kinds = [type(choice) for choice in plan.choices]
     return {
         'entry': plan.entry, 'mark': plan.mark, 'now': cost_words(before.cost), 'cost': cost_words(plan.cost),
-        'bound': cost_words(plan.bound), 'gap': f'{gap:.1f} %', 'kept': kinds.count('keep'), 'dropped': kinds.count('drop'),
-        'turned': kinds.count('first'), 'choices': choice_rows(naming, plan.choices[:MOST]), 'count': len(plan.choices),
+        'bound': cost_words(plan.bound), 'gap': f'{gap:.1f} %', 'kept': kinds.count(Keep), 'dropped': kinds.count(Drop),
+        'turned': kinds.count(First), 'choices': choice_rows(naming, plan.choices[:MOST]), 'count': len(plan.choices),
         'later': sum(row[5] > 0 for row in moved), 'earlier': sum(row[5] < 0 for row in moved),
         'trains': [[*row[:3], duration(row[3]), duration(row[4]), signed(row[5])] for row in moved[:MOST]],
         'agrees': after.cost == plan.cost,

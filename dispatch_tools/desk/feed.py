@@ -5,8 +5,9 @@ import os
 from itertools import islice
 from typing import Optional, Sequence
 
-from dispatch_tools.formats.runtext import heard, LINES, read_form, Said
+from dispatch_tools.formats.runtext import heard, LINES, read_form
 from dispatch_tools.live.feed_file import append
+from dispatch_tools.model.messages import AskPlan, Said
 
 # What may be entered or asked on the page. The clock and other questions are for other feeds, and a plan is adopted by its line.
 TOLD = ('delay event', 'delay activity', 'pass', 'recall', 'keep', 'drop', 'first', 'plan')
@@ -51,7 +52,7 @@ class Feed:
         """Whether a line behind this one asks for a plan."""
         with open(self.path, encoding='latin-1', newline='\n') as file:
             found = (heard(line.rstrip('\n').removesuffix('\r')) for line in islice(file, behind, None))
-            return any(said is not None and said[0] == 'plan' for said in found)
+            return any(isinstance(said, AskPlan) for said in found)
 
     def said(self, most: int) -> list[Optional[Said]]:
         """What the first lines say."""

@@ -3,9 +3,12 @@ from __future__ import annotations
 
 from typing import Any, Optional
 
-from dispatch_tools.formats.runtext import Answer, Said
+from dispatch_tools.formats.runtext import Answer
+from dispatch_tools.model.messages import (
+    Adopt, AdoptLast, AskCost, AskEntries, AskPlan, AskTime, Decision, DelayActivity, DelayEvent, First, Keep, Message, Now, Pass,
+    Recall, Refusal, Said, Statement, STATEMENTS,
+)
 from dispatch_tools.model.network import Network
-from dispatch_tools.model.railway import Decision, Refusal
 from dispatch_tools.pictures.scene import clock_time, counted
 from dispatch_tools.pictures.view import cost_words
 
@@ -68,58 +71,54 @@ class Naming:
 
     # ---- Lines
 
-    def said(self, said: Optional[Said]) -> str:
+    def said(self, said: Said | Message | None) -> str:
         """A line of a feed, or a message, in words."""
-        if said is None:
-            return 'a line that says nothing'
-        kind, *numbers = said
-        words = {
-            'delay event': self.delay, 'delay activity': self.slow, 'pass': self.passed, 'recall': self.recalled, 'now': self.clock,
-            'keep': self.decision, 'drop': self.decision, 'first': self.decision, 'adopt': self.adopted, 'time': self.asked,
-        }.get(kind)
-        if words is not None:
-            return words(said)
-        if kind == 'plan':
-            return f'a plan of at most {counted(numbers[0], "node", "nodes")}'
-        return {'cost': 'what does the day cost?', 'read': 'how far is the journal?'}[kind]
+        if isinstance(said, STATEMENTS):
+            return self.stated(said)
+        if isinstance(said, Adopt):
+            return f'a plan of {counted(len(said.decisions), "choice", "choices")} is adopted'
+        if isinstance(said, AskTime):
+            return f'{self.event_of(said.event)}: when?'
+        if isinstance(said, AskPlan):
+            return f'a plan of at most {counted(said.budget, "node", "nodes")}'
+        if isinstance(said, AskCost):
+            return 'what does the day cost?'
+        if isinstance(said, AskEntries):
+            return 'how far is the journal?'
+        return 'adopt the plan' if isinstance(said, AdoptLast) else 'a line that says nothing'
 
-    def delay(self, said: Said) -> str:
-        late = f'{duration(said[2])} late' if said[2] else 'not late by itself any more'
-        return f'{self.event_of(said[1])}: {late}'
+    def stated(self, said: Statement) -> str:
+        """What becomes an entry, in words."""
+        if isinstance(said, DelayEvent):
+            return f'{self.event_of(said.event)}: {f"{duration(said.seconds)} late" if said.seconds else "not late by itself any more"}'
+        if isinstance(said, DelayActivity):
+            return f'{self.activity(said.activity)}: {f"{duration(said.seconds)} longer" if said.seconds else "as long as planned again"}'
+        if isinstance(said, Pass):
+            return self.passed(said)
+        if isinstance(said, Recall):
+            return self.recalled(said)
+        return f'it is {clock_time(said.time, True)}' if isinstance(said, Now) else self.decision(said)
 
-    def slow(self, said: Said) -> str:
-        longer = f'{duration(said[2])} longer' if said[2] else 'as long as planned again'
-        return f'{self.activity(said[1])}: {longer}'
+    def passed(self, said: Pass) -> str:
+        place = self.place(said.event)
+        event = f'event {said.event} passed' if place is None else self.event(place, 'left', 'reached')
+        return f'{event} at {clock_time(said.time, True)}'
 
-    def passed(self, said: Said) -> str:
-        place = self.place(said[1])
-        event = f'event {said[1]} passed' if place is None else self.event(place, 'left', 'reached')
-        return f'{event} at {clock_time(said[2], True)}'
-
-    def recalled(self, said: Said) -> str:
-        place = self.place(said[1])
-        return f'event {said[1]} has not passed' if place is None else f'{self.event(place, "has not left", "has not reached")} after all'
-
-    def clock(self, said: Said) -> str:
-        return f'it is {clock_time(said[1], True)}'
-
-    def asked(self, said: Said) -> str:
-        return f'{self.event_of(said[1])}: when?'
-
-    def adopted(self, said: Said) -> str:
-        return f'a plan of {counted(len(said[1]), "choice", "choices")} is adopted' if len(said) > 1 else 'adopt the plan'
+    def recalled(self, said: Recall) -> str:
+        place = self.place(said.event)
+        return f'event {said.event} has not passed' if place is None else f'{self.event(place, "has not left", "has not reached")} after all'
 
     def decision(self, decision: Decision) -> str:
         """A decision in words."""
-        if decision[0] == 'first':
-            one, other = (self.place(event) for event in decision[1:])
+        if isinstance(decision, First):
+            one, other = self.place(decision.event), self.place(decision.other)
             if one is None or other is None:
-                return ' '.join(map(str, decision))
+                return str(decision)
             return f'{self.train(one)} goes before {self.train(other)} at {self.at(one)}'
-        at = self.network.activity_place.get(decision[1])
+        at = self.network.activity_place.get(decision.activity)
         if at is None:
-            return ' '.join(map(str, decision))
-        verb = 'waits' if decision[0] == 'keep' else 'does not wait'
+            return str(decision)
+        verb = 'waits' if isinstance(decision, Keep) else 'does not wait'
         tail, head = self.network.tails[at], self.network.heads[at]
         return f'{self.train(head)} {verb} for {self.train(tail)} in {self.at(head)}'
 
@@ -148,7 +147,7 @@ class Naming:
         return f'{value.mark} plan of {counted(len(value.choices), "choice", "choices")}, {cost_words(value.cost)}'
 
     def refusal(self, refusal: Refusal) -> str:
-        kind, *said = refusal
+        kind, said = refusal.reason, refusal.numbers
         if kind == 'passed':
             return f'{self.event_of(said[0])} has passed at {clock_time(said[1], True)}'
         if kind == 'not-passed':
@@ -156,12 +155,12 @@ class Naming:
         if kind == 'back':
             return f'the clock stands at {clock_time(said[0], True)} and does not go back'
         if kind == 'cycle':
-            return f'trains would wait for each other: {"; ".join(map(self.activity, said[0][:4]))}'
+            return f'trains would wait for each other: {"; ".join(map(self.activity, said[:4]))}'
         words = {'range': 'a number is too large', 'full': 'the journal is full', 'unknown-event': 'no such event',
                  'unknown-activity': 'no such activity', 'unknown-change': 'this is no change', 'unknown-pair': 'these two share no track'}
         return ' '.join([words[kind], *map(str, said)]) if said else words[kind]
 
 
-def raw(said: Optional[Said]) -> str:
+def raw(said: Said | Message | None) -> str:
     """A line as the feed has it."""
-    return '' if said is None else ' '.join(str(part) for part in said if not isinstance(part, tuple))
+    return 'adopt' if isinstance(said, Adopt) else str(said or '')

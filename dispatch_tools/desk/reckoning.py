@@ -10,8 +10,9 @@ from __future__ import annotations
 import heapq
 from typing import Iterable
 
+from dispatch_tools.model.messages import Decision, DelayActivity, DelayEvent, First, Message, Now, Pass, Recall
 from dispatch_tools.model.network import Network
-from dispatch_tools.model.railway import apply, Decision, floor_of, Message, Rows, times_of
+from dispatch_tools.model.railway import apply, decisions_of, floor_of, Rows, times_of
 
 # After so many steps for each event, all times are worked out at once.
 PATIENCE = 4
@@ -73,24 +74,23 @@ class Reckoning:
 
     def touched(self, message: Message, clock: int) -> Iterable[int]:
         """The events whose terms a message has changed."""
-        network, kind = self.network, message[0]
-        if kind == 'now':
+        network = self.network
+        if isinstance(message, Now):
             return [place for place, event in enumerate(network.events)
                     if self.rows.passed[place] is None and event.time + self.rows.event_delays[place] < self.rows.clock > clock]
-        if kind == 'delay activity':
-            return [network.heads[network.activity_place[message[1]]]]
-        if kind == 'delay event':
-            return [network.event_place[message[1]]]
-        if kind in ('pass', 'recall'):
-            place = network.event_place[message[1]]
+        if isinstance(message, DelayActivity):
+            return [network.heads[network.activity_place[message.activity]]]
+        if isinstance(message, DelayEvent):
+            return [network.event_place[message.event]]
+        if isinstance(message, (Pass, Recall)):
+            place = network.event_place[message.event]
             return [place, *(network.heads[activity] for activity in network.out_of[place])]
-        decisions = message[1] if kind == 'adopt' else [message]
-        return [place for decision in decisions for place in self.decided(decision)]
+        return [place for decision in decisions_of(message) for place in self.decided(decision)]
 
     def decided(self, decision: Decision) -> Iterable[int]:
-        if decision[0] == 'first':
-            return [self.network.event_place[event] for event in decision[1:]]
-        return [self.network.heads[self.network.activity_place[decision[1]]]]
+        if isinstance(decision, First):
+            return [self.network.event_place[event] for event in (decision.event, decision.other)]
+        return [self.network.heads[self.network.activity_place[decision.activity]]]
 
     def settle(self, touched: Iterable[int]) -> set[int]:
         """Works out anew what is touched and what stands behind it, the earliest first."""

@@ -21,8 +21,9 @@ from dispatch_tools.desk.undoing import turned_back
 from dispatch_tools.formats.files import BadFile
 from dispatch_tools.formats.journal import Answered, Blocks, journal_of, read_head, Rounds
 from dispatch_tools.formats.runtext import Bad
-from dispatch_tools.model.decide import in_turn, spoken
-from dispatch_tools.model.railway import Decision, decision_refusal, Plan
+from dispatch_tools.model.decide import in_turn
+from dispatch_tools.model.messages import AdoptLast, Decision, DECISIONS
+from dispatch_tools.model.railway import decision_refusal, Plan
 from dispatch_tools.pictures.scene import lines_of
 
 # The seconds between two looks at the journal, between two looks at who is silent, and from one answer of the program to the next question.
@@ -39,7 +40,6 @@ COMPARED = 20_000
 MOST_SAID = 8
 
 # The kinds of lines that decide.
-DECIDED = ('keep', 'drop', 'first', 'adopt')
 
 
 class Refused(Exception):
@@ -159,7 +159,7 @@ class Room:
             if said is not None and item.line <= len(said) and said[item.line - 1] != item.said:
                 self.other_feed(f'Feed {self.day.feed} of the server is another file than the one to which this desk writes. See --feed.')
                 return
-            if said is None and line and ' '.join(map(str, item.said or ())) != line:
+            if said is None and line and str(item.said or '') != line:
                 self.other_feed(f'Line {item.line} of feed {self.day.feed} was written by somebody else. See --feed.')
                 return
 
@@ -260,15 +260,13 @@ class Room:
                 raise Refused('this line cannot be taken back')
             if not told.back:
                 raise Refused('this line changed nothing')
-            back = told.back
-            left: list[str] = []
-            if told.item.said is not None and told.item.said[0] in DECIDED:
-                back, left = self.still_free(told.back)
-            if told.item.said == ('adopt',):
-                back = self.turned(back)
+            free, left = self.still_free([one for one in told.back if isinstance(one, DECISIONS)])
+            if isinstance(told.item.said, AdoptLast):
+                free = self.turned(free)
+            back = [*(one for one in told.back if not isinstance(one, DECISIONS)), *free]
             if not back:
                 raise Refused(f'nothing of it can be taken back: {"; ".join(left)}' if left else 'nothing of it is left to take back')
-            return Undone(self.put(spoken(back)), left)
+            return Undone(self.put([*map(str, back)]), left)
 
     def still_free(self, decisions: Sequence[Decision]) -> tuple[list[Decision], list[str]]:
         """The decisions that can still be made, and in words each other one that differs from the rows, with what refuses it."""
@@ -308,7 +306,7 @@ class Room:
         """Enters one by one the choices of the plan that a line asked for, those that are still free and differ from the rows, in an
         order in which none closes a cycle; the number of the first line. Refused if it is not the last plan."""
         with self.changed:
-            lines = spoken(self.turned(self.still_free(self.looked_at(line).choices)[0]))
+            lines = [*map(str, self.turned(self.still_free(self.looked_at(line).choices)[0]))]
             if not lines:
                 raise Refused('nothing of this plan is left to enter')
             return self.put(lines)

@@ -8,6 +8,8 @@ from typing import TYPE_CHECKING, Any, Optional
 from dispatch_tools.desk.alerts import Alert
 from dispatch_tools.desk.day import Day, SHOWN, Told
 from dispatch_tools.desk.naming import duration, raw
+from dispatch_tools.formats.runtext import heard
+from dispatch_tools.model.messages import First
 from dispatch_tools.pictures.scene import clock_time
 from dispatch_tools.pictures.view import cost_words
 
@@ -53,19 +55,12 @@ def told_rows(room: Room) -> list[list[Any]]:
     """The lines of the desk's feed, the newest first: number, words, line, answer or nothing, whether it is good, whether it can be taken
     back."""
     day, naming = room.day, room.day.naming
-    rows = [[line, naming.said(said_of(text)), text, '', None, False] for line, (text, _) in sorted(room.pending.items(), reverse=True)]
+    rows = [[line, naming.said(heard(text)), text, '', None, False] for line, (text, _) in sorted(room.pending.items(), reverse=True)]
     for told in reversed(day.told):
         item = told.item
         good = item.answer is not None and item.answer.kind not in ('refused', 'range', 'plans', 'noplan', 'old')
         rows.append([item.line, naming.said(item.said), raw(item.said), naming.answer(item.answer), good, can_go_back(told)])
     return rows[:SHOWN]
-
-
-def said_of(line: str) -> tuple[Any, ...]:
-    """What a line that was written here says."""
-    words = line.split()
-    numbers = [int(word) for word in words if word.isdecimal()]
-    return (' '.join(words[:len(words) - len(numbers)]), *numbers)
 
 
 def can_go_back(told: Told) -> bool:
@@ -130,8 +125,8 @@ def pair_row(day: Day, pair: int) -> list[Any]:
     ends, first = day.network.pairs[pair], day.reckoning.rows.first[pair]
     other = ends[0] if ends[1] == first else ends[1]
     events, naming = day.network.events, day.naming
-    return [events[first].id, events[other].id, naming.decision(('first', events[first].id, events[other].id)),
-            naming.decision(('first', events[other].id, events[first].id)),
+    return [events[first].id, events[other].id, naming.decision(First(events[first].id, events[other].id)),
+            naming.decision(First(events[other].id, events[first].id)),
             day.network.activities[day.network.headways[ends][0]].id]
 
 

@@ -12,6 +12,7 @@ from typing import BinaryIO, NamedTuple, Optional, Sequence
 
 from dispatch_tools.formats.files import BadFile
 from dispatch_tools.formats.runtext import Bad, Entry, Item, MOST_FEEDS, NUMBER, read_items, Text
+from dispatch_tools.model.messages import Adopt, AdoptLast, STATEMENTS
 from dispatch_tools.model.railway import Plan
 
 # How the front of a block is spelled: an open gate, and the length of the content.
@@ -93,8 +94,10 @@ class Rounds:
             self.plans[feed] = item.answer.value
         if item.answer.kind != 'ok':
             return Answered(feed, item, None)
-        said = ('adopt', text.sure(self.plans.get(feed)).choices) if item.said == ('adopt',) else item.said
-        return Answered(feed, item, Entry(feed, item.line, said))
+        if isinstance(item.said, STATEMENTS):
+            return Answered(feed, item, Entry(feed, item.line, item.said))
+        text.demand(isinstance(item.said, AdoptLast), 'form')
+        return Answered(feed, item, Entry(feed, item.line, Adopt(text.sure(self.plans.get(feed)).choices)))
 
 
 def journal_of(store: str) -> str:

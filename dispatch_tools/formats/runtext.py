@@ -1,15 +1,20 @@
 """Reads texts of runs: their lines and records, in both versions, and a whole text as one value.
 
 docs/FORMATS.md says how a text is written. This module judges only its form. dispatch-tools judge judges whether it is true, and
-reads by the functions of this module. Messages, decisions, refusals and nodes are tuples of a kind and what it names, as in
-railway.py.
+reads by the functions of this module.
 """
 from __future__ import annotations
 
 import re
-from typing import Any, Iterable, Mapping, NamedTuple, Optional, Sequence, TypeVar
+from dataclasses import dataclass
+from functools import partial
+from typing import Any, Callable, Generic, Iterable, Mapping, NamedTuple, NoReturn, Optional, Sequence, TypeVar
 
-from dispatch_tools.model.railway import choice_of, Decision, Message, MOST_ENTRIES, Node, Path, Plan, Refusal, ways_of
+from dispatch_tools.model.messages import (
+    Adopt, AdoptLast, AskCost, AskEntries, AskPlan, AskTime, BoundLeaf, CycleLeaf, Decision, DelayActivity, DelayEvent, Drop, First, Inner, Keep,
+    Message, Node, Nothing, Now, OpenLeaf, Pass, Path, Recall, Refusal, Said, Statement,
+)
+from dispatch_tools.model.railway import choice_of, MOST_ENTRIES, Plan, ways_of
 
 # The largest ids (and lines and entries), values of feed lines, and other numbers in print.
 ID = 2 ** 32 - 1
@@ -22,35 +27,22 @@ MOST_BOARDS = 64
 STANDARD_PLANS = 16
 MOST_NODES = {1: 4096, 2: 16384}
 
-# What a line of a feed says: a kind and its numbers.
-Said = tuple[Any, ...]
-
-# What a blank line or a comment says.
-NOTHING: Said = ('nothing',)
-
-# Kinds of lines or records, and the largest numbers behind their words; a word, or the largest number that may stand in its place.
-Forms = Mapping[str, Sequence[int]]
+# A word, or the largest number that may stand in its place.
 Pattern = str | int
 
 Value = TypeVar('Value')
-
-# What stands behind the words of each kind.
-DECISIONS: Forms = {'keep': [ID], 'drop': [ID], 'first': [ID, ID]}
-MESSAGES: Forms = {
-    'delay event': [ID, VALUE], 'delay activity': [ID, VALUE], 'pass': [ID, VALUE], 'recall': [ID], 'now': [VALUE], **DECISIONS,
-}
-LINES: Forms = {**MESSAGES, 'time': [ID], 'cost': [], 'read': [], 'plan': [VALUE], 'adopt': []}
-REASONS: Forms = {
-    'range': [NUMBER], 'unknown-event': [ID], 'unknown-activity': [ID], 'unknown-change': [ID], 'unknown-pair': [ID, ID],
-    'passed': [ID, NUMBER], 'not-passed': [ID], 'back': [NUMBER], 'full': [],
-}
-ANSWERS: Forms = {'ok': [], 'read': [], 'old': [], 'time': [NUMBER], 'cost': [NUMBER]}
-ANSWERS_WITHOUT_ENTRY: Forms = {'noplan': [], 'plans': [], 'range': [NUMBER]}
-NODES: Forms = {'cycle': [], 'bound': [NUMBER], 'open': [NUMBER], 'inner change': [ID], 'inner pair': [ID, ID]}
+Made = TypeVar('Made', covariant=True)
 
 
 class Bad(Exception):
     """A record breaks its rule; the arguments are the line and the kind of the verdict."""
+
+
+@dataclass(frozen=True)
+class Form(Generic[Made]):
+    """The largest numbers that may stand behind the words of a kind, and what they make."""
+    largest: Sequence[int]
+    made: Callable[..., Made]
 
 
 class Answer(NamedTuple):
@@ -58,6 +50,40 @@ class Answer(NamedTuple):
     kind: str
     entry: Optional[int] = None
     value: Any = None
+
+
+def refusal(reason: str, *numbers: int) -> Refusal:
+    return Refusal(reason, numbers)
+
+
+def answer(kind: str, *numbers: int) -> Answer:
+    return Answer(kind, None, *numbers)
+
+
+def forms(made: Callable[..., Value], largest: Mapping[str, Sequence[int]]) -> Mapping[str, Form[Value]]:
+    """The forms of kinds that all make the same of the kind and its numbers."""
+    return {kind: Form(numbers, partial(made, kind)) for kind, numbers in largest.items()}
+
+
+# What stands behind the words of each kind.
+DECISIONS: Mapping[str, Form[Decision]] = {'keep': Form([ID], Keep), 'drop': Form([ID], Drop), 'first': Form([ID, ID], First)}
+STATEMENTS: Mapping[str, Form[Statement]] = {
+    'delay event': Form([ID, VALUE], DelayEvent), 'delay activity': Form([ID, VALUE], DelayActivity), 'pass': Form([ID, VALUE], Pass),
+    'recall': Form([ID], Recall), 'now': Form([VALUE], Now), **DECISIONS,
+}
+LINES: Mapping[str, Form[Said]] = {
+    **STATEMENTS, 'time': Form([ID], AskTime), 'cost': Form([], AskCost), 'read': Form([], AskEntries), 'plan': Form([VALUE], AskPlan),
+    'adopt': Form([], AdoptLast),
+}
+REASONS = forms(refusal, {
+    'range': [NUMBER], 'unknown-event': [ID], 'unknown-activity': [ID], 'unknown-change': [ID], 'unknown-pair': [ID, ID],
+    'passed': [ID, NUMBER], 'not-passed': [ID], 'back': [NUMBER], 'full': [],
+})
+ANSWERS = forms(answer, {'ok': [], 'read': [], 'old': [], 'time': [NUMBER], 'cost': [NUMBER]})
+ANSWERS_WITHOUT_ENTRY = forms(answer, {'noplan': [], 'plans': [], 'range': [NUMBER]})
+LEAVES: Mapping[str, Form[CycleLeaf | BoundLeaf | OpenLeaf]] = {
+    'cycle': Form([], CycleLeaf), 'bound': Form([NUMBER], BoundLeaf), 'open': Form([NUMBER], OpenLeaf),
+}
 
 
 class Item(NamedTuple):
@@ -102,13 +128,18 @@ def fits(words: Sequence[str], pattern: Sequence[Pattern]) -> Optional[tuple[int
     return tuple(numbers)
 
 
-def read_form(forms: Forms, words: Sequence[str]) -> Optional[tuple[Any, ...]]:
-    """The kind of the words with its numbers, or None if they are of none of these forms."""
-    for kind, largest in forms.items():
-        numbers = fits(words, [*kind.split(), *largest])
+def read_form(forms: Mapping[str, Form[Value]], words: Sequence[str]) -> Optional[Value]:
+    """What the words make, or None if they are of none of these forms."""
+    for kind, form in forms.items():
+        numbers = fits(words, [*kind.split(), *form.largest])
         if numbers is not None:
-            return (kind, *numbers)
+            return form.made(*numbers)
     return None
+
+
+def read_decision(words: Sequence[str]) -> Optional[Decision]:
+    """The decision that words spell, or None."""
+    return read_form(DECISIONS, words)
 
 
 def read_decisions(words: Sequence[str]) -> Optional[tuple[Decision, ...]]:
@@ -117,7 +148,7 @@ def read_decisions(words: Sequence[str]) -> Optional[tuple[Decision, ...]]:
     place = 0
     while place < len(words):
         end = place + (3 if words[place] == 'first' else 2)
-        decision = read_form(DECISIONS, words[place:end])
+        decision = read_decision(words[place:end])
         if decision is None:
             return None
         decisions.append(decision)
@@ -128,17 +159,17 @@ def read_decisions(words: Sequence[str]) -> Optional[tuple[Decision, ...]]:
 def read_message(words: Sequence[str]) -> Optional[Message]:
     """The message that words spell, or None."""
     if words[:1] != ['adopt']:
-        return read_form(MESSAGES, words)
+        return read_form(STATEMENTS, words)
     decisions = read_decisions(words[1:])
-    return None if decisions is None else ('adopt', decisions)
+    return None if decisions is None else Adopt(decisions)
 
 
 def read_reason(words: Sequence[str]) -> Optional[Refusal]:
-    """The refusal that words spell, or None; that of a cycle is ('cycle', ids)."""
+    """The refusal that words spell, or None."""
     if words[:1] != ['cycle']:
         return read_form(REASONS, words)
     ids = fits(words[1:], [ID] * (len(words) - 1))
-    return ('cycle', ids) if ids else None
+    return Refusal('cycle', ids) if ids else None
 
 
 def read_plan_head(words: Sequence[str], version: int) -> Optional[PlanHead]:
@@ -154,9 +185,9 @@ def read_plan_head(words: Sequence[str], version: int) -> Optional[PlanHead]:
 
 def read_answer(words: Sequence[str], version: int) -> Optional[Answer]:
     """The answer that words spell, or None; of a plan its first line alone."""
-    form = read_form(ANSWERS_WITHOUT_ENTRY, words)
-    if form is not None:
-        return Answer(form[0], None, *form[1:])
+    found = read_form(ANSWERS_WITHOUT_ENTRY, words)
+    if found is not None:
+        return found
     entry = number_of(words[0], ID) if len(words) > 1 else None
     if entry is None:
         return None
@@ -166,8 +197,8 @@ def read_answer(words: Sequence[str], version: int) -> Optional[Answer]:
     if words[1] == 'plan':
         head = read_plan_head(words[1:], version)
         return None if head is None else Answer('plan', entry, head)
-    form = read_form(ANSWERS, words[1:])
-    return None if form is None else Answer(form[0], entry, *form[1:])
+    found = read_form(ANSWERS, words[1:])
+    return None if found is None else found._replace(entry=entry)
 
 
 def read_item(words: Sequence[str], version: int) -> Optional[Item]:
@@ -185,12 +216,12 @@ def read_item(words: Sequence[str], version: int) -> Optional[Item]:
 
 
 def heard(line: str) -> Optional[Said]:
-    """What a line of a feed says, None if it is malformed, or NOTHING if it is blank or a comment."""
+    """What a line of a feed says, or None if it is malformed."""
     if len(line) > LONGEST_LINE:
         return None
     words = [word for word in line.split(' ') if word]
     if not words or words[0].startswith('#'):
-        return NOTHING
+        return Nothing()
     return read_form(LINES, [re.sub('^0+(?=[0-9])', '', word) if word.isdecimal() else word for word in words])
 
 
@@ -198,7 +229,7 @@ def due_items(feed: str) -> list[tuple[int, Optional[Said]]]:
     """The due lines of a feed, each with its number and what it says."""
     *lines, rest = feed.split('\n')
     lines = [line.removesuffix('\r') for line in lines] + ([rest] if rest else [])
-    return [(number, said) for number, line in enumerate(lines, 1) if (said := heard(line)) != NOTHING]
+    return [(number, said) for number, line in enumerate(lines, 1) if not isinstance(said := heard(line), Nothing)]
 
 
 class Text:
@@ -223,14 +254,16 @@ class Text:
 
     def sure(self, value: Optional[Value], kind: str = 'form') -> Value:
         """A value that has been read, or Bad of this kind where there is none."""
-        if value is None:
-            raise Bad(self.number, kind)
-        return value
+        return self.refuse(kind) if value is None else value
+
+    def refuse(self, kind: str = 'form') -> NoReturn:
+        """Bad of this kind at the line read last."""
+        raise Bad(self.number, kind)
 
     def demand(self, holds: bool, kind: str) -> None:
         """Bad of this kind at the line read last unless this holds."""
         if not holds:
-            raise Bad(self.number, kind)
+            self.refuse(kind)
 
     def has_more(self) -> bool:
         """Whether anything stands behind the line read last."""
@@ -242,20 +275,20 @@ class Text:
 
 def read_node(words: Sequence[str]) -> Optional[Node]:
     """The node of a line in version 2, or None."""
-    form = read_form(NODES, words)
-    if form is None or not form[0].startswith('inner'):
-        return form
-    if form[0] == 'inner pair' and form[1] >= form[2]:
-        return None
-    return ('inner', (form[0].split()[1], *form[1:]))
+    change = fits(words, ['inner', 'change', ID])
+    if change is not None:
+        return Inner(('change', change[0]))
+    pair = fits(words, ['inner', 'pair', ID, ID])
+    if pair is not None:
+        return Inner(('pair', pair[0], pair[1])) if pair[0] < pair[1] else None
+    return read_form(LEAVES, words)
 
 
 def read_leaf(words: Sequence[str]) -> Optional[tuple[Node, Path]]:
     """The leaf of a line in version 1, which is a node with its path, or None."""
     size = 2 if words[:2] == ['leaf', 'cycle'] else 3
-    node = read_form({'leaf cycle': [], 'leaf bound': [NUMBER], 'leaf open': [NUMBER]}, words[:size])
-    path = read_decisions(words[size:])
-    return None if node is None or path is None else ((node[0].split()[1], *node[1:]), path)
+    node, path = read_form(LEAVES, words[1:size]), read_decisions(words[size:])
+    return None if words[0] != 'leaf' or node is None or path is None else (node, path)
 
 
 def nodes_of(leaves: Iterable[tuple[Node, Path]]) -> Optional[list[Node]]:
@@ -273,7 +306,7 @@ def nodes_of(leaves: Iterable[tuple[Node, Path]]) -> Optional[list[Node]]:
             first, second = ways_of(choice)
             if first == second or path[length] != first:
                 return None
-            nodes.append(('inner', choice))
+            nodes.append(Inner(choice))
             paths.append(path[:length] + (second,))
         nodes.append(leaf)
     return None if paths else nodes
@@ -286,12 +319,12 @@ def read_plan(text: Text, version: int, answer: Answer) -> Plan:
     for _ in range(head.choices):
         words = text.words()
         text.demand(words[0] == 'choice', 'form')
-        choices.append(text.sure(read_form(DECISIONS, words[1:])))
+        choices.append(read_decision(words[1:]) or text.refuse())
     nodes: Optional[list[Node]]
     if version == 1:
-        nodes = nodes_of([text.sure(read_leaf(text.words())) for _ in range(head.nodes)])
+        nodes = nodes_of([read_leaf(text.words()) or text.refuse() for _ in range(head.nodes)])
     else:
-        nodes = [text.sure(read_node(text.words())) for _ in range(head.nodes)]
+        nodes = [read_node(text.words()) or text.refuse() for _ in range(head.nodes)]
     return Plan(text.sure(answer.entry), tuple(choices), head.cost, head.bound, head.mark, nodes)
 
 
@@ -343,7 +376,7 @@ def read_journal(text: Text) -> tuple[int, int, int, list[Entry]]:
 def read_entry(text: Text) -> Entry:
     words = text.words()
     _, feed, line = text.sure(fits(words[:6], ['entry', ID, 'feed', NUMBER, 'line', ID]))
-    return Entry(feed, line, text.sure(read_message(words[6:])))
+    return Entry(feed, line, read_message(words[6:]) or text.refuse())
 
 
 def read_items(text: Text, version: int, feed: int) -> list[Item]:

@@ -6,8 +6,8 @@ import re
 from typing import NamedTuple, Optional
 
 from dispatch_tools.formats.files import BadFile, text_of
+from dispatch_tools.model.messages import Decision, Drop, First, Keep
 from dispatch_tools.model.network import Choice
-from dispatch_tools.model.railway import Decision
 
 # The words with which a solver says that it has found nothing.
 NOTHING = re.compile(r'infeasible|unbounded|undefined|no integer solution|no solution|no feasible|empty', re.IGNORECASE)
@@ -111,7 +111,7 @@ def decisions_of(name: str, solution: Solution, choices: list[Choice]) -> list[D
     for variable, choice in named.items():
         is_one = solution.values.get(variable, 0) > 0.5
         if choice[0] == 'change':
-            decisions.append(('drop' if is_one else 'keep', choice[1]))
+            decisions.append(Drop(choice[1]) if is_one else Keep(choice[1]))
         else:
-            decisions.append(('first', *(choice[1:] if is_one else choice[:0:-1])))
+            decisions.append(First(*(choice[1:] if is_one else choice[:0:-1])))
     return decisions

@@ -20,11 +20,11 @@ from dispatch_tools.live.feed_file import append
 from dispatch_tools.live.fetching import fetch, SCHEMES
 from dispatch_tools.live.gtfs_rt_out import read_text
 from dispatch_tools.model.network import Network
+from dispatch_tools.model.messages import DelayEvent, Message as Entered, Pass, STATEMENTS
 from dispatch_tools.model.railway import (
-    active_activities, apply, LARGEST_DELAY, LARGEST_PASSED, Message as Entered, push, refusal_at_once, Rows, waits_and_spans,
+    active_activities, apply, LARGEST_DELAY, LARGEST_PASSED, push, refusal_at_once, Rows, waits_and_spans,
 )
 
-QUESTIONS = ('time', 'cost', 'read', 'plan', 'adopt')
 
 # How many seconds a source has for all of its answer.
 TIMEOUT = 30
@@ -273,14 +273,12 @@ class Listener:
         ahead = {place: at for place, at in told.times.items() if place not in past}
         for place, at in self.swept(past, ahead, clock_then, told):
             event = self.network.events[place]
-            kind = 'delay event' if place in ahead else 'pass'
-            message = (kind, event.id, at)
-            line = ' '.join(map(str, message))
+            message: Entered = DelayEvent(event.id, at) if place in ahead else Pass(event.id, at)
             if refusal_at_once(self.network, self.rows, message) is not None:
-                self.said.tell('lines that the program would refuse', line)
+                self.said.tell('lines that the program would refuse', str(message))
                 continue
             apply(self.network, self.rows, message)
-            lines.append(line)
+            lines.append(str(message))
         if clock_then > self.rows.clock:
             self.rows.clock = clock_then
             lines.append(f'now {clock_then}')
@@ -354,8 +352,8 @@ class Known:
         answered = self.answered()
         rows = self.rows.copy()
         behind = text_of(self.feed).split('\n')[answered:-1] if os.path.exists(self.feed) else []
-        said = [said for _, said in due_items(''.join(f'{line}\n' for line in [*behind, *unwritten])) if said is not None]
-        self.enter(rows, [one for one in said if one[0] not in QUESTIONS])
+        lines = due_items(''.join(f'{line}\n' for line in [*behind, *unwritten]))
+        self.enter(rows, [said for _, said in lines if isinstance(said, STATEMENTS)])
         return rows
 
 

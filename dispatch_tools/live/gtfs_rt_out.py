@@ -19,6 +19,8 @@ from dispatch_tools.formats.protobuf import encode, Message
 from dispatch_tools.formats.realtime import descriptor, Named, NO_DATA, read_named, SCHEDULED
 from dispatch_tools.formats.runtext import Bad, read_run, Run
 from dispatch_tools.live.http_server import BoundedHandler, BoundedServer
+from dispatch_tools.model.railway import decisions_of
+from dispatch_tools.model.messages import DelayActivity, DelayEvent, Drop, Keep, Message as Entered, Now, Pass, Recall
 
 VERSION, FULL_DATASET = '2.0', 0
 UNKNOWN_CAUSE, OTHER_EFFECT = 1, 7
@@ -48,10 +50,15 @@ def run_in(name: str, data: bytes, events: int) -> Run:
         raise BadFile(name, line, f'this is no text of a run over the network ({kind})') from error
 
 
+def messages_of(run: Run) -> Iterator[Entered]:
+    """The messages of a journal."""
+    return (entry.message for entry in run.journal)
+
+
 def events_told(net: str, run: Run) -> set[int]:
     """The events of which a delay or a pass was reported; of an activity its head. Only for that the network is read."""
-    told = {entry.message[1] for entry in run.journal if entry.message[0] in ('delay event', 'pass')}
-    delayed = {entry.message[1] for entry in run.journal if entry.message[0] == 'delay activity'}
+    told = {message.event for message in messages_of(run) if isinstance(message, (DelayEvent, Pass))}
+    delayed = {message.activity for message in messages_of(run) if isinstance(message, DelayActivity)}
     if delayed:
         told.update(activity.head for activity in read_network(net).activities if activity.id in delayed)
     return told
@@ -60,23 +67,23 @@ def events_told(net: str, run: Run) -> set[int]:
 def dropped(run: Run) -> set[int]:
     """The changes that are dropped after all entries."""
     found: set[int] = set()
-    for entry in run.journal:
-        for decision in entry.message[1] if entry.message[0] == 'adopt' else [entry.message]:
-            if decision[0] == 'drop':
-                found.add(decision[1])
-            elif decision[0] == 'keep':
-                found.discard(decision[1])
+    for message in messages_of(run):
+        for decision in decisions_of(message):
+            if isinstance(decision, Drop):
+                found.add(decision.activity)
+            elif isinstance(decision, Keep):
+                found.discard(decision.activity)
     return found
 
 
 def passed(run: Run) -> set[int]:
     """The events that have passed after all entries."""
     found: set[int] = set()
-    for entry in run.journal:
-        if entry.message[0] == 'pass':
-            found.add(entry.message[1])
-        elif entry.message[0] == 'recall':
-            found.discard(entry.message[1])
+    for message in messages_of(run):
+        if isinstance(message, Pass):
+            found.add(message.event)
+        elif isinstance(message, Recall):
+            found.discard(message.event)
     return found
 
 
@@ -205,7 +212,7 @@ class Writer:
     def message(self) -> Message:
         run, now = self.run(), self.read.now
         if now is None:
-            clocks = [entry.message[1] for entry in run.journal if entry.message[0] == 'now']
+            clocks = [message.time for message in messages_of(run) if isinstance(message, Now)]
             now = self.named.begin + clocks[-1] if clocks else int(time.time())
         header = {'gtfs_realtime_version': VERSION, 'incrementality': FULL_DATASET, 'timestamp': now}
         entities = [*self.updates(events_told(self.read.net, run), run, now), *self.alerts(run)]

@@ -9,7 +9,8 @@ from typing import Iterator, Optional, Sequence
 
 from dispatch_tools.formats.files import BadFile, in_one_line
 from dispatch_tools.formats.journal import Head, journal_of, read_blocks, read_head
-from dispatch_tools.formats.runtext import Bad, heard, NOTHING
+from dispatch_tools.formats.runtext import Bad, heard
+from dispatch_tools.model.messages import Nothing
 from dispatch_tools.model.railway import MOST_ENTRIES
 
 # The most bytes of a journal and of a feed of a server.
@@ -155,7 +156,7 @@ def behind_line(data: bytes, line: int) -> bytes:
 def due_lines(data: bytes) -> list[int]:
     """The numbers, from 1, of the whole lines that are owed an answer."""
     lines = enumerate(data.split(b'\n')[:-1], 1)
-    return [number for number, line in lines if heard(line.removesuffix(b'\r').decode('latin-1')) != NOTHING]
+    return [number for number, line in lines if not isinstance(heard(line.removesuffix(b'\r').decode('latin-1')), Nothing)]
 
 
 def read_given(name: str, answered: int, now: float) -> Given:

@@ -12,6 +12,7 @@ from dispatch_tools.formats.files import BadFile, text_of
 from dispatch_tools.formats.runtext import heard as heard_in_feed
 from dispatch_tools.live.board import NUMBER, Skipped, times_of, unpacked, whole_lines
 from dispatch_tools.live.feed_file import append
+from dispatch_tools.model.messages import DelayEvent
 from dispatch_tools.model.railway import LARGEST_DELAY
 
 
@@ -115,8 +116,8 @@ class FeedFile:
         """The delays of events that its lines report. Half a line reports none."""
         for line in self.text.split('\n')[:-1]:
             said = heard_in_feed(line.removesuffix('\r'))
-            if said is not None and said[0] == 'delay event' and said[2] <= LARGEST_DELAY:
-                yield said[1], said[2]
+            if isinstance(said, DelayEvent) and said.seconds <= LARGEST_DELAY:
+                yield said.event, said.seconds
 
     def write(self, line: str) -> None:
         append(self.name, (line,))

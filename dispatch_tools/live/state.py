@@ -10,6 +10,7 @@ from dispatch_tools.formats.files import BadFile, in_one_line
 from dispatch_tools.formats.runtext import heard as heard_in_feed
 from dispatch_tools.live.board import LONGEST_LINE
 from dispatch_tools.live.health import Found, judge, Measured
+from dispatch_tools.model.messages import DelayEvent
 from dispatch_tools.model.railway import LARGEST_DELAY
 
 # Numbers of a line, of which nobody needs longer ones.
@@ -82,8 +83,8 @@ class Told:
         self.read += len(whole)
         for line in whole.decode('latin-1').split('\n')[:-1]:
             said = heard_in_feed(line.removesuffix('\r'))
-            if said is not None and said[0] == 'delay event' and said[2] <= LARGEST_DELAY:
-                self.of[said[1]] = said[2]
+            if isinstance(said, DelayEvent) and said.seconds <= LARGEST_DELAY:
+                self.of[said.event] = said.seconds
         return self.of
 
 

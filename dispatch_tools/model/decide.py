@@ -10,10 +10,11 @@ it stays before it all the while.
 from __future__ import annotations
 
 from fractions import Fraction
-from typing import Iterable, Sequence
+from typing import Sequence
 
+from dispatch_tools.model.messages import Decision, First, Keep
 from dispatch_tools.model.network import Network
-from dispatch_tools.model.railway import active_activities, Decision, Rows, with_decisions
+from dispatch_tools.model.railway import active_activities, Rows, with_decisions
 
 # Events stand so far apart, less a part drawn from their place, that no two pairs meet at once.
 APART = 1 << 40
@@ -50,12 +51,12 @@ def in_turn(network: Network, rows: Rows, decisions: Sequence[Decision]) -> list
     keeps: list[Decision] = []
     turns: list[tuple[Decision, int, int]] = []
     for decision in decisions:
-        if decision[0] != 'first':
-            kept = decision[0] == 'keep'
-            if rows.kept[network.activity_place[decision[1]]] != kept:
+        if not isinstance(decision, First):
+            kept = isinstance(decision, Keep)
+            if rows.kept[network.activity_place[decision.activity]] != kept:
                 (keeps if kept else drops).append(decision)
         else:
-            first, second = (network.event_place[event] for event in decision[1:])
+            first, second = network.event_place[decision.event], network.event_place[decision.other]
             if rows.first[network.pair_at(first, second)] != first:
                 if rows.passed[first] is not None or rows.passed[second] is not None:
                     raise ValueError('an event of the pair has passed')
@@ -70,8 +71,3 @@ def in_turn(network: Network, rows: Rows, decisions: Sequence[Decision]) -> list
 
         turns.sort(key=meeting)
     return drops + [decision for decision, _, _ in turns] + keeps
-
-
-def spoken(decisions: Iterable[Decision]) -> list[str]:
-    """Decisions as lines of a feed."""
-    return [' '.join(map(str, decision)) for decision in decisions]

@@ -5,29 +5,21 @@ of all events, costs from all events and activities, and each node of a plan's t
 docs/MODEL.md. A place is a position from 0 in a list of the network. Times are in seconds, weights in thousandths of passengers,
 costs in thousandths of passenger seconds.
 
-Messages, decisions, choices, refusals and nodes are tuples of a kind and what it names, by ids: ('delay event', 1, 60), ('adopt',
-(('drop', 5), ('first', 5, 3))), ('keep', 5), ('change', 5), ('pair', 3, 5), ('passed', 1, 100), ('inner', ('change', 5)),
-('bound', 940000), ('cycle',).
-
 It does not test limits, cycles, or headways without a bound. giv.py reads the files, in the standard order of columns.
 """
 from __future__ import annotations
 
-from typing import Any, Iterable, NamedTuple, Optional, Sequence
+from typing import Iterable, NamedTuple, Optional, Sequence
 
+from dispatch_tools.model.messages import (
+    Adopt, BoundLeaf, CycleLeaf, Decision, DECISIONS, DelayActivity, DelayEvent, Drop, First, Inner, Keep, Message, Node, Now, OpenLeaf, Pass, Path,
+    Recall, Refusal,
+)
 from dispatch_tools.model.network import Choice, Network
 
 MOST_ENTRIES = 1_000_000
 LARGEST_DELAY = 1_000_000
 LARGEST_PASSED = 2_000_000_000
-
-Message = tuple[Any, ...]
-Decision = tuple[Any, ...]
-Refusal = tuple[Any, ...]
-Node = tuple[Any, ...]
-
-# The decisions that lead from the root of a tree to a node.
-Path = tuple[Decision, ...]
 
 
 class Rows:
@@ -57,11 +49,11 @@ class Rows:
         return other
 
     def decide(self, network: Network, decision: Decision) -> None:
-        if decision[0] == 'first':
-            first, second = (network.event_place[event] for event in decision[1:])
-            self.first[network.pair_at(first, second)] = first
+        if isinstance(decision, First):
+            first = network.event_place[decision.event]
+            self.first[network.pair_at(first, network.event_place[decision.other])] = first
         else:
-            self.kept[network.activity_place[decision[1]]] = decision[0] == 'keep'
+            self.kept[network.activity_place[decision.activity]] = isinstance(decision, Keep)
 
 
 # ---- Times and costs
@@ -172,91 +164,97 @@ def cost_of(network: Network, rows: Rows, times: Sequence[int], penalty: int) ->
 def passed_refusal(network: Network, rows: Rows, places: Iterable[int]) -> Optional[Refusal]:
     """The refusal of the first of these events that has passed, or None."""
     for place in places:
-        if rows.passed[place] is not None:
-            return ('passed', network.events[place].id, rows.passed[place])
+        time = rows.passed[place]
+        if time is not None:
+            return Refusal('passed', (network.events[place].id, time))
     return None
 
 
 def decision_refusal(network: Network, rows: Rows, decision: Decision) -> Optional[Refusal]:
     """The first refusal of a decision, or None."""
-    kind, *ids = decision
-    if kind != 'first':
-        if ids[0] not in network.activity_place:
-            return ('unknown-activity', ids[0])
-        place = network.activity_place[ids[0]]
+    if not isinstance(decision, First):
+        if decision.activity not in network.activity_place:
+            return Refusal('unknown-activity', (decision.activity,))
+        place = network.activity_place[decision.activity]
         if network.activities[place].kind != 'change':
-            return ('unknown-change', ids[0])
+            return Refusal('unknown-change', (decision.activity,))
         return passed_refusal(network, rows, [network.heads[place]])
+    ids = decision.event, decision.other
     for event in ids:
         if event not in network.event_place:
-            return ('unknown-event', event)
+            return Refusal('unknown-event', (event,))
     places = [network.event_place[event] for event in ids]
     if network.pair_of(*places) is None:
-        return ('unknown-pair', *ids)
+        return Refusal('unknown-pair', ids)
     return passed_refusal(network, rows, places)
 
 
-def event_refusal(network: Network, rows: Rows, message: Message) -> Optional[Refusal]:
+def event_refusal(network: Network, rows: Rows, message: DelayEvent | Pass | Recall) -> Optional[Refusal]:
     """The first refusal of a delay of an event, of a pass or of a recall, or None."""
-    kind, event = message[:2]
-    if kind != 'recall' and message[2] > (LARGEST_PASSED if kind == 'pass' else LARGEST_DELAY):
-        return ('range', message[2])
-    if event not in network.event_place:
-        return ('unknown-event', event)
-    place = network.event_place[event]
-    if kind != 'recall':
+    if isinstance(message, Pass) and message.time > LARGEST_PASSED:
+        return Refusal('range', (message.time,))
+    if isinstance(message, DelayEvent) and message.seconds > LARGEST_DELAY:
+        return Refusal('range', (message.seconds,))
+    if message.event not in network.event_place:
+        return Refusal('unknown-event', (message.event,))
+    place = network.event_place[message.event]
+    if not isinstance(message, Recall):
         return passed_refusal(network, rows, [place])
-    return ('not-passed', event) if rows.passed[place] is None else None
+    return Refusal('not-passed', (message.event,)) if rows.passed[place] is None else None
 
 
-def activity_refusal(network: Network, rows: Rows, message: Message) -> Optional[Refusal]:
+def activity_refusal(network: Network, rows: Rows, message: DelayActivity) -> Optional[Refusal]:
     """The first refusal of a delay of an activity, or None."""
-    _, activity, delay = message
-    if delay > LARGEST_DELAY:
-        return ('range', delay)
-    if activity not in network.activity_place:
-        return ('unknown-activity', activity)
-    return passed_refusal(network, rows, [network.heads[network.activity_place[activity]]])
+    if message.seconds > LARGEST_DELAY:
+        return Refusal('range', (message.seconds,))
+    if message.activity not in network.activity_place:
+        return Refusal('unknown-activity', (message.activity,))
+    return passed_refusal(network, rows, [network.heads[network.activity_place[message.activity]]])
 
 
-def clock_refusal(rows: Rows, message: Message) -> Optional[Refusal]:
+def clock_refusal(rows: Rows, message: Now) -> Optional[Refusal]:
     """The first refusal of a clock, or None."""
-    if message[1] > LARGEST_PASSED:
-        return ('range', message[1])
-    return ('back', rows.clock) if message[1] < rows.clock else None
+    if message.time > LARGEST_PASSED:
+        return Refusal('range', (message.time,))
+    return Refusal('back', (rows.clock,)) if message.time < rows.clock else None
 
 
 def refusal_at_once(network: Network, rows: Rows, message: Message) -> Optional[Refusal]:
     """The first refusal by numbers, ids, passed events and the clock, or None."""
-    kind = message[0]
-    if kind == 'adopt':
-        refusals = [decision_refusal(network, rows, decision) for decision in message[1]]
+    if isinstance(message, Adopt):
+        refusals = [decision_refusal(network, rows, decision) for decision in message.decisions]
         return next((refusal for refusal in refusals if refusal is not None), None)
-    if kind in ('keep', 'drop', 'first'):
+    if isinstance(message, DECISIONS):
         return decision_refusal(network, rows, message)
-    if kind == 'delay activity':
+    if isinstance(message, DelayActivity):
         return activity_refusal(network, rows, message)
-    if kind == 'now':
+    if isinstance(message, Now):
         return clock_refusal(rows, message)
     return event_refusal(network, rows, message)
 
 
 def apply(network: Network, rows: Rows, message: Message) -> None:
     """Makes in rows the change of a message that nothing refuses at once."""
-    kind = message[0]
-    if kind == 'delay event':
-        rows.event_delays[network.event_place[message[1]]] = message[2]
-    elif kind == 'delay activity':
-        rows.activity_delays[network.activity_place[message[1]]] = message[2]
-    elif kind == 'pass':
-        rows.passed[network.event_place[message[1]]] = message[2]
-    elif kind == 'recall':
-        rows.passed[network.event_place[message[1]]] = None
-    elif kind == 'now':
-        rows.clock = message[1]
+    if isinstance(message, DelayEvent):
+        rows.event_delays[network.event_place[message.event]] = message.seconds
+    elif isinstance(message, DelayActivity):
+        rows.activity_delays[network.activity_place[message.activity]] = message.seconds
+    elif isinstance(message, Pass):
+        rows.passed[network.event_place[message.event]] = message.time
+    elif isinstance(message, Recall):
+        rows.passed[network.event_place[message.event]] = None
+    elif isinstance(message, Now):
+        rows.clock = message.time
     else:
-        for decision in message[1] if kind == 'adopt' else [message]:
+        for decision in decisions_of(message):
             rows.decide(network, decision)
+
+
+def decisions_of(message: Message) -> tuple[Decision, ...]:
+    """The decisions that a message makes, in their order."""
+    if isinstance(message, Adopt):
+        return message.decisions
+    return (message,) if isinstance(message, DECISIONS) else ()
 
 
 def rows_after(network: Network, rows: Rows, message: Message) -> Rows:
@@ -269,15 +267,15 @@ def rows_after(network: Network, rows: Rows, message: Message) -> Rows:
 def admit(network: Network, rows: Rows, count: int, message: Message) -> tuple[Optional[Refusal], Optional[Rows]]:
     """The first refusal of a message at so many entries, or None, and the rows after it, where nothing refuses it at once.
 
-    The refusal of a cycle names none: ('cycle',). `is_cycle` says which lists are cycles of the rows after it.
+    The refusal of a cycle names none. `is_cycle` says which lists are cycles of the rows after it.
     """
     refusal = refusal_at_once(network, rows, message)
     if refusal is not None:
         return refusal, None
     after = rows_after(network, rows, message)
     if times_of(network, after) is None:
-        return ('cycle',), after
-    return ('full',) if count == MOST_ENTRIES else None, after
+        return Refusal('cycle'), after
+    return Refusal('full') if count == MOST_ENTRIES else None, after
 
 
 def is_cycle(network: Network, rows: Rows, activities: Sequence[int]) -> bool:
@@ -323,17 +321,17 @@ def free_choices(network: Network, rows: Rows) -> list[Choice]:
 
 def choice_of(decision: Decision) -> Choice:
     """The choice that a decision decides."""
-    if decision[0] == 'first':
-        return ('pair', min(decision[1:]), max(decision[1:]))
-    return ('change', decision[1])
+    if isinstance(decision, First):
+        return ('pair', min(decision.event, decision.other), max(decision.event, decision.other))
+    return ('change', decision.activity)
 
 
 def ways_of(choice: Choice) -> tuple[Decision, Decision]:
     """The two decisions of a choice, in the order of the trees below it."""
     kind, *ids = choice
     if kind == 'change':
-        return ('keep', *ids), ('drop', *ids)
-    return ('first', *ids), ('first', *reversed(ids))
+        return Keep(*ids), Drop(*ids)
+    return First(*ids), First(*reversed(ids))
 
 
 def with_decisions(network: Network, rows: Rows, decisions: Iterable[Decision]) -> Rows:
@@ -384,11 +382,10 @@ class Problem:
     def differs(self, decision: Decision) -> bool:
         """Whether a decision of a free choice is not what the rows have."""
         network, rows = self.network, self.rows
-        if decision[0] != 'first':
-            keeps: bool = decision[0] == 'keep'
-            return rows.kept[network.activity_place[decision[1]]] != keeps
-        first, second = (network.event_place[event] for event in decision[1:])
-        return rows.first[network.pair_at(first, second)] != first
+        if not isinstance(decision, First):
+            return rows.kept[network.activity_place[decision.activity]] != isinstance(decision, Keep)
+        first = network.event_place[decision.event]
+        return rows.first[network.pair_at(first, network.event_place[decision.other])] != first
 
 
 def are_true_choices(problem: Problem, plan: Plan) -> bool:
@@ -408,16 +405,14 @@ def are_true_choices(problem: Problem, plan: Plan) -> bool:
 
 def is_true_node(problem: Problem, plan: Plan, path: Path, node: Node) -> bool:
     """Whether a node says the truth of the relaxed problem of its path."""
-    kind, *said = node
     relaxed = problem.relaxed(path)
-    if relaxed is None or kind == 'cycle':
-        return relaxed is None and kind == 'cycle'
-    if kind == 'inner':
-        return said[0] in relaxed.violated and relaxed.cost < problem.cost
-    if relaxed.cost != said[0]:
+    if relaxed is None or isinstance(node, CycleLeaf):
+        return relaxed is None and isinstance(node, CycleLeaf)
+    if isinstance(node, Inner):
+        return node.choice in relaxed.violated and relaxed.cost < problem.cost
+    if relaxed.cost != node.cost:
         return False
-    bound: int = said[0]
-    return bound >= plan.cost if kind == 'bound' else bound < plan.cost and bool(relaxed.violated)
+    return node.cost >= plan.cost if isinstance(node, BoundLeaf) else node.cost < plan.cost and bool(relaxed.violated)
 
 
 def is_true_tree(problem: Problem, plan: Plan) -> bool:
@@ -429,8 +424,8 @@ def is_true_tree(problem: Problem, plan: Plan) -> bool:
         if not paths or not is_true_node(problem, plan, paths[-1], node):
             return False
         path = paths.pop()
-        if node[0] == 'inner':
-            first, second = ways_of(node[1])
+        if isinstance(node, Inner):
+            first, second = ways_of(node.choice)
             paths += [path + (second,), path + (first,)]
     return not paths
 
@@ -442,9 +437,9 @@ def is_true_plan(network: Network, rows: Rows, penalty: int, budget: int, plan: 
         return False
     if not are_true_choices(problem, plan) or not is_true_tree(problem, plan):
         return False
-    bounds = [node[1] for node in plan.nodes if node[0] in ('bound', 'open')]
+    bounds = [node.cost for node in plan.nodes if isinstance(node, (BoundLeaf, OpenLeaf))]
     if not bounds or min(bounds) != plan.bound:
         return False
-    if any(node[0] == 'open' for node in plan.nodes):
+    if any(isinstance(node, OpenLeaf) for node in plan.nodes):
         return plan.mark == 'open' and len(plan.nodes) + 2 > budget
     return plan.mark == 'optimal'

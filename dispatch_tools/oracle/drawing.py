@@ -6,12 +6,13 @@ import random
 import re
 import subprocess
 from collections import Counter
-from typing import Callable, Iterable, Optional, Protocol, Sequence
+from typing import Callable, Optional, Protocol, Sequence
 
 from dispatch_tools.formats.giv import ACTIVITIES, activity_record, event_record, EVENTS
 from dispatch_tools.formats.runtext import due_items, Item, read_node
 from dispatch_tools.model.network import Activity, Event, Network
-from dispatch_tools.model.railway import Path, Rows, times_of, ways_of
+from dispatch_tools.model.messages import Inner, Path
+from dispatch_tools.model.railway import Rows, times_of, ways_of
 from dispatch_tools.oracle.judging import Good, Judge, verdict_on
 
 # Changed texts of each number.
@@ -190,10 +191,6 @@ def keeps_rounds(logs: Sequence[HasItems], batch: int) -> bool:
     return True
 
 
-def in_print(words: Iterable[object]) -> str:
-    return ' '.join(map(str, words))
-
-
 def fault_of_run(judge: Judge, feeds: list[str], batch: int, text: bytes) -> Optional[str]:
     """What is wrong with the text of a run of feeds, or None."""
     told = judge.judge(text)
@@ -220,12 +217,12 @@ def by_leaves(text: bytes) -> bytes:
             paths = [()]
         elif node is None:
             lines.append(line)
-        elif node[0] == 'inner':
+        elif isinstance(node, Inner):
             path = paths.pop()
-            first, second = ways_of(node[1])
+            first, second = ways_of(node.choice)
             paths += [path + (second,), path + (first,)]
         else:
-            lines.append(' '.join(['leaf', *map(in_print, [node, *paths.pop()])]))
+            lines.append(' '.join(['leaf', *map(str, [node, *paths.pop()])]))
     return '\n'.join(lines).encode()
 
 

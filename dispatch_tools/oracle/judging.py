@@ -8,12 +8,13 @@ from typing import NamedTuple, Optional, Union
 
 from dispatch_tools.formats.giv import read_network
 from dispatch_tools.formats.runtext import (
-    Answer, Bad, fits, ID, Item, MESSAGES, MOST_BOARDS, MOST_FEEDS, MOST_NODES, NUMBER, read_item, read_message, read_plan,
-    Said, STANDARD_PLANS, Text,
+    Answer, Bad, fits, ID, Item, MOST_BOARDS, MOST_FEEDS, MOST_NODES, NUMBER, read_item, read_message, read_plan,
+    STANDARD_PLANS, Text,
 )
+from dispatch_tools.model.messages import Adopt, AdoptLast, AskPlan, AskTime, Message, Refusal, Said, STATEMENTS
 from dispatch_tools.model.network import Network
 from dispatch_tools.model.railway import (
-    admit, cost_of, is_cycle, is_true_plan, Message, MOST_ENTRIES, Plan, Refusal, Rows, sound_times,
+    admit, cost_of, is_cycle, is_true_plan, MOST_ENTRIES, Plan, Rows, sound_times,
 )
 
 # What replaces each byte where every byte of a text is judged.
@@ -116,7 +117,7 @@ class Judge:
     def read_entry(self, text: Text, feeds: int) -> None:
         words = text.words()
         number, feed, line = text.sure(fits(words[:6], ['entry', ID, 'feed', NUMBER, 'line', ID]))
-        message = text.sure(read_message(words[6:]))
+        message = read_message(words[6:]) or text.refuse()
         count = len(self.history)
         text.demand(number == count + 1 and feed <= feeds and line >= 1, 'entry')
         refusal, after = admit(self.network, self.rows[-1], count, message)
@@ -201,13 +202,12 @@ class Judge:
 
     def is_true_without_entry(self, log: Log, said: Said, answer: Answer) -> bool:
         if answer.kind == 'noplan':
-            return said == ('adopt',) and log.plan is None
-        if said[0] != 'plan':
+            return isinstance(said, AdoptLast) and log.plan is None
+        if not isinstance(said, AskPlan):
             return False
         if answer.kind == 'plans':
-            return self.may_have(said[1]) and log.plans == self.plans
-        nodes: int = said[1]
-        return nodes == answer.value and not self.may_have(nodes)
+            return self.may_have(said.budget) and log.plans == self.plans
+        return said.budget == answer.value and not self.may_have(said.budget)
 
     def is_entered(self, log: Log, at: int, said: Said, entry: int) -> bool:
         """Whether the line became the entry that its answer names."""
@@ -216,44 +216,44 @@ class Judge:
         feed, line, message = self.history[entry - 1]
         if (feed, line) != (log.feed, at):
             return False
-        if said == ('adopt',):
-            return log.plan is not None and message == ('adopt', log.plan.choices) and entry == log.plan.entry + 1
+        if isinstance(said, AdoptLast):
+            return log.plan is not None and message == Adopt(log.plan.choices) and entry == log.plan.entry + 1
         return message == said
 
     def is_told(self, log: Log, said: Said, entry: int, answer: Answer) -> bool:
         """Whether a question is answered as the rows at that entry have it, or an adoption by entries behind those of the plan."""
         if answer.kind == 'old':
-            return said == ('adopt',) and log.plan is not None and entry > log.plan.entry
-        if said[0] != answer.kind:
+            return isinstance(said, AdoptLast) and log.plan is not None and entry > log.plan.entry
+        if said.KIND != answer.kind:
             return False
         if answer.kind == 'cost':
             cost: int = answer.value
             return cost == self.cost_at(entry)
-        if answer.kind == 'time':
-            place = self.network.event_place.get(said[1])
+        if isinstance(said, AskTime):
+            place = self.network.event_place.get(said.event)
             time: int = answer.value
             return place is not None and time == self.times_at(entry)[place]
         return True
 
     def is_refused(self, log: Log, said: Said, entry: int, reason: Refusal) -> bool:
         """Whether a message, a question for a time or an adoption is refused so."""
-        if said == ('adopt',):
+        if isinstance(said, AdoptLast):
             is_last = log.plan is not None and entry == log.plan.entry == MOST_ENTRIES
-            return reason == ('full',) and is_last
-        if said[0] == 'time':
-            return reason == ('unknown-event', said[1]) and said[1] not in self.network.event_place
-        if said[0] not in MESSAGES:
+            return reason == Refusal('full') and is_last
+        if isinstance(said, AskTime):
+            return reason == Refusal('unknown-event', (said.event,)) and said.event not in self.network.event_place
+        if not isinstance(said, STATEMENTS):
             return False
         refusal, after = admit(self.network, self.rows[entry], entry, said)
-        if after is not None and refusal == ('cycle',):
-            return reason[0] == 'cycle' and is_cycle(self.network, after, reason[1])
+        if after is not None and refusal == Refusal('cycle'):
+            return reason.reason == 'cycle' and is_cycle(self.network, after, reason.numbers)
         return reason == refusal
 
     def is_planned(self, log: Log, said: Said, entry: int, plan: Plan) -> bool:
         """Whether a request for a plan may have one, and is answered by one that is true."""
-        if said[0] != 'plan' or not self.may_have(said[1]) or log.plans >= self.plans:
+        if not isinstance(said, AskPlan) or not self.may_have(said.budget) or log.plans >= self.plans:
             return False
-        return is_true_plan(self.network, self.rows[entry], self.penalty, said[1], plan)
+        return is_true_plan(self.network, self.rows[entry], self.penalty, said.budget, plan)
 
 
 def verdict_on(network: Network, start: Rows, penalty: int, text: bytes, plans: int = STANDARD_PLANS) -> Verdict:

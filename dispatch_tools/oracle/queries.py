@@ -29,10 +29,11 @@ import tempfile
 from collections import Counter
 from typing import Callable, NamedTuple, Optional, Sequence, Union
 
-from dispatch_tools.formats.runtext import Answer, Bad, read_plan, read_plan_head, Text
+from dispatch_tools.formats.runtext import Answer, Bad, read_decision, read_plan, read_plan_head, Text
+from dispatch_tools.model.messages import Decision
 from dispatch_tools.model.network import Choice, Network
 from dispatch_tools.model.railway import (
-    choice_of, cost_of, Decision, free_choices, is_cycle, is_met, is_true_plan, Plan, Rows, sound_times, span_of, times_of,
+    choice_of, cost_of, free_choices, is_cycle, is_met, is_true_plan, Plan, Rows, sound_times, span_of, times_of,
     ways_of, with_decisions,
 )
 from dispatch_tools.oracle.drawing import changed, drawn_feed, drawn_network, front, write_network
@@ -68,10 +69,6 @@ def journal_of(network: Network, penalty: int, text: bytes) -> Journal:
 
 def lines_of(*lines: str) -> str:
     return ''.join(f'{line}\n' for line in lines)
-
-
-def spelled(decision: Decision) -> str:
-    return ' '.join(map(str, decision))
 
 
 def bad_text(bad: tuple[int, str]) -> Answered:
@@ -281,11 +278,13 @@ def read_kept(lines: Sequence[str]) -> Optional[list[tuple[Decision, Optional[in
     """The choices in lines `choice DECISION saves S` or `.. needed`, with what each saves, or None."""
     kept: list[tuple[Decision, Optional[int]]] = []
     for line in lines:
-        word, *decision = line.split()
-        worth = None if decision[-1] == 'needed' else int(decision.pop())
-        if word != 'choice' or decision.pop() != ('needed' if worth is None else 'saves'):
+        word, *words = line.split()
+        worth = None if words[-1] == 'needed' else int(words.pop())
+        is_choice = word == 'choice' and words.pop() == ('needed' if worth is None else 'saves')
+        decision = read_decision(words) if is_choice else None
+        if decision is None:
             return None
-        kept.append(((decision[0], *map(int, decision[1:])), worth))
+        kept.append((decision, worth))
     return kept
 
 
@@ -304,7 +303,7 @@ def fault_of_minimal(network: Network, penalty: int, rows: Rows, plan: Plan, mos
         without = cost_with(network, penalty, rows, [other for other in choices if other != choice])
         saved = None if without is None else without - cost
         if worth != saved or (without is not None and without <= plan.cost + most):
-            return f'{spelled(choice)} can be left out, or saves something else'
+            return f'{choice} can be left out, or saves something else'
     return None
 
 
@@ -314,7 +313,7 @@ def fault_of_carried(network: Network, penalty: int, rows: Rows, entries: int, c
     free = set(free_choices(network, rows))
     barred = next((choice for choice in choices if choice_of(choice) not in free), None)
     if barred is not None:
-        due = [f'rebased {entries} refused not-free {spelled(barred)}']
+        due = [f'rebased {entries} refused not-free {barred}']
         return None if lines == due else f'due {due}'
     kept = [choice for choice in choices if with_decisions(network, rows, [choice]).__dict__ != rows.__dict__]
     decided = with_decisions(network, rows, kept)
@@ -324,7 +323,7 @@ def fault_of_carried(network: Network, penalty: int, rows: Rows, entries: int, c
         is_shown = words[:4] == ['rebased', str(entries), 'refused', 'cycle'] and is_cycle(network, decided, tuple(map(int, words[4:])))
         return None if is_shown and len(lines) == 1 else 'the cycle'
     cost = cost_of(network, decided, times, penalty)
-    due = [f'rebased {entries} cost {cost} choices {len(kept)}', *(f'choice {spelled(choice)}' for choice in kept)]
+    due = [f'rebased {entries} cost {cost} choices {len(kept)}', *(f'choice {choice}' for choice in kept)]
     return None if lines == due else f'due {due}'
 
 

@@ -15,6 +15,7 @@ from typing import Callable, Iterable, Iterator, NamedTuple, Sequence
 
 from dispatch_tools.formats.files import BadFile, write_all
 from dispatch_tools.formats.runtext import Run
+from dispatch_tools.model.messages import Adopt
 from dispatch_tools.pictures.scene import clock_time, read_scene, read_text, rows_of, Scene
 
 WAITS = range(0, 901, 30)
@@ -260,7 +261,7 @@ def adopted(study: Study, scene: Scene, feed: str) -> tuple[Run, str]:
             file.write(told)
         run = read_text(name, scene.network)
     before = rows_of(scene.network, scene.start, run._replace(journal=run.journal[:-1]), feed)
-    if run.journal[-1].message[0] != 'adopt' or vars(before) != vars(scene.rows):
+    if not isinstance(run.journal[-1].message, Adopt) or vars(before) != vars(scene.rows):
         raise BadFile(study.text, None, 'its rows cannot be brought back one message after the other')
     return run, command
 

@@ -3,12 +3,14 @@ from __future__ import annotations
 
 import os
 from collections import Counter
+from dataclasses import dataclass
 from typing import Any, Iterable, Optional, Sequence
 
 from dispatch_tools.formats.markup import escaped, in_script, policy
 from dispatch_tools.formats.runtext import Answer, Item
+from dispatch_tools.model.messages import Inner, Node
 from dispatch_tools.model.network import Choice
-from dispatch_tools.model.railway import Decision, Message, Node, Plan
+from dispatch_tools.model.railway import Plan
 from dispatch_tools.pictures.diagram import drawing, style, trains_on
 from dispatch_tools.pictures.scene import clock_time, cost_parts, counted, lateness_class, lines_of, Scene
 
@@ -30,27 +32,12 @@ def cost_words(cost: int) -> str:
     return f'{cost / 60_000:,.1f} passenger minutes'
 
 
-def decision_words(decision: Decision) -> str:
-    return ' '.join(map(str, decision))
-
-
-def message_words(message: Message) -> str:
-    if message[0] == 'adopt' and len(message) > 1:
-        return ' '.join(['adopt', *map(decision_words, message[1])])
-    return ' '.join(map(str, message))
-
-
 def answer_words(answer: Answer) -> str:
     """An answer as it is printed; of a plan its first line."""
     if answer.kind == 'plan':
         plan = answer.value
         return f'{answer.entry} plan {plan.mark} cost {plan.cost} bound {plan.bound}'
-    value = answer.value
-    if answer.kind == 'refused' and value[0] == 'cycle':
-        value = ' '.join(['cycle', *map(str, value[1])])
-    elif isinstance(value, tuple):
-        value = ' '.join(map(str, value))
-    parts = [answer.entry, answer.kind, value]
+    parts = [answer.entry, answer.kind, answer.value]
     return ' '.join(str(part) for part in parts if part is not None)
 
 
@@ -67,7 +54,7 @@ def cost_part(scene: Scene) -> str:
 
 def item_words(item: Item) -> tuple[str, str]:
     """What an item of a log says, and what was answered."""
-    return 'malformed' if item.said is None else message_words(item.said), '' if item.answer is None else answer_words(item.answer)
+    return 'malformed' if item.said is None else str(item.said), '' if item.answer is None else answer_words(item.answer)
 
 
 def log_rows(items: Sequence[Item]) -> str:
@@ -105,36 +92,43 @@ def depths_of(nodes: Sequence[Node]) -> list[int]:
     depths, waiting = [], [0]
     for node in nodes:
         depths.append(waiting.pop())
-        if node[0] == 'inner':
+        if isinstance(node, Inner):
             waiting += [depths[-1] + 1] * 2
     return depths
 
 
-def upper_part(nodes: Sequence[Node], most: int) -> list[Node]:
-    """The nodes of a tree, in preorder, down to the depth to which there are at most so many; one with nodes below that are left out
-    is ('cut', its choice, how many these are)."""
+@dataclass(frozen=True)
+class Cut:
+    """A node that branches on a choice, and how many nodes below it are left out."""
+
+    choice: Choice
+    below: int
+
+
+def upper_part(nodes: Sequence[Node], most: int) -> list[Node | Cut]:
+    """The nodes of a tree, in preorder, down to the depth to which there are at most so many."""
     depths = depths_of(nodes)
     counts, depth, whole = Counter(depths), 0, 1
     while depth < MOST_DEPTH and depth + 1 in counts and whole + counts[depth + 1] <= most:
         depth += 1
         whole += counts[depth]
-    shown = []
+    shown: list[Node | Cut] = []
     for node, at in zip(nodes, depths):
-        if at < depth or at == depth and node[0] != 'inner':
-            shown.append(node)
-        elif at == depth:
-            shown.append(('cut', node[1], 0))
+        last = shown[-1] if shown else None
+        if at > depth and isinstance(last, Cut):
+            shown[-1] = Cut(last.choice, last.below + 1)
+        elif at == depth and isinstance(node, Inner):
+            shown.append(Cut(node.choice, 0))
         else:
-            shown[-1] = (*shown[-1][:2], shown[-1][2] + 1)
+            shown.append(node)
     return shown
 
 
-def node_words(node: Node) -> str:
-    kind, *said = node
-    if kind not in ('inner', 'cut'):
-        return ' '.join(map(str, node))
-    words = f'branches on {" ".join(map(str, said[0]))}'
-    return words if kind == 'inner' else f'{words}, {said[1]:,} nodes below'
+def node_words(node: Node | Cut) -> str:
+    if not isinstance(node, (Inner, Cut)):
+        return str(node)
+    words = f'branches on {" ".join(map(str, node.choice))}'
+    return f'{words}, {node.below:,} nodes below' if isinstance(node, Cut) else words
 
 
 def ways(choice: Choice) -> tuple[str, str]:
@@ -145,7 +139,7 @@ def ways(choice: Choice) -> tuple[str, str]:
     return f'first {ids[0]} {ids[1]}', f'first {ids[1]} {ids[0]}'
 
 
-def tree_part(nodes: Sequence[Node]) -> str:
+def tree_part(nodes: Sequence[Node | Cut]) -> str:
     """The tree as lists that fold, from its nodes in preorder; `waiting` has the ways to come, and None where a list ends."""
     out = ['<ul class="tree">']
     waiting: list[Optional[str]] = ['']
@@ -155,9 +149,9 @@ def tree_part(nodes: Sequence[Node]) -> str:
             out.append('</ul></details></li>')
         way = waiting.pop()
         said = f'<b>{way}</b>: ' if way else ''
-        if node[0] == 'inner':
+        if isinstance(node, Inner):
             out.append(f'<li><details open=""><summary>{said}{node_words(node)}</summary><ul>')
-            waiting += [None, *reversed(ways(node[1]))]
+            waiting += [None, *reversed(ways(node.choice))]
         else:
             out.append(f'<li>{said}<span>{node_words(node)}</span></li>')
     return ''.join([*out, '</ul></details></li>' * len(waiting), '</ul>'])
@@ -166,7 +160,7 @@ def tree_part(nodes: Sequence[Node]) -> str:
 def plan_part(feed: int, line: int, plan: Plan, most: int) -> str:
     """A plan with its choices and its tree, of which at most so many nodes are shown."""
     nodes = plan.nodes or []
-    choices = ''.join(f'<li>{decision_words(choice)}</li>' for choice in plan.choices) or '<li>none: the rows are as good as any</li>'
+    choices = ''.join(f'<li>{choice}</li>' for choice in plan.choices) or '<li>none: the rows are as good as any</li>'
     gap = 0 if plan.cost == 0 else 100 * (plan.cost - plan.bound) / plan.cost
     shown = upper_part(nodes, most)
     left = f'<p class="note">The {len(shown):,} nodes nearest to the root are shown.</p>' if len(shown) < len(nodes) else ''

@@ -24,13 +24,13 @@ HERE = os.path.dirname(os.path.abspath(__file__))
 TOP = os.path.join(HERE, '..', '..')
 sys.path.insert(0, os.path.join(os.path.dirname(os.path.abspath(__file__)), '..', '..'))
 
-from dispatch_tools.model.decide import spoken  # noqa: E402
 from dispatch_tools.formats.files import BadFile  # noqa: E402
 from dispatch_tools.formats.giv import read_network  # noqa: E402
 from dispatch_tools.formats.journal import Journal  # noqa: E402
+from dispatch_tools.model.messages import Decision, DelayActivity, DelayEvent, Drop, First, Keep, Message, Now  # noqa: E402
 from dispatch_tools.model.network import Network  # noqa: E402
 from dispatch_tools.days.playing import Played  # noqa: E402
-from dispatch_tools.model.railway import Message, Rows, apply, sound_times  # noqa: E402
+from dispatch_tools.model.railway import apply, Rows, sound_times  # noqa: E402
 from dispatch_tools.formats.runtext import heard  # noqa: E402
 from dispatch_tools.live.serving import Server  # noqa: E402
 from dispatch_tools.here import words_of  # noqa: E402
@@ -39,20 +39,22 @@ from dispatch_tools.words import add_program, command_line, whole_between  # noq
 # The day begins at 6:00. A room reports at most one thing in APART seconds, and a delay is known AHEAD seconds before the train leaves.
 BEGIN, APART, AHEAD = 21_600, 120, 60
 
+# What the rooms report beside trains that leave and arrive.
+Told = DelayEvent | DelayActivity | Decision
 
-def time_of(network: Network, message: Message) -> int:
+
+def time_of(network: Network, message: Told) -> int:
     """The scheduled time of the event that a message names, or of the one from which its activity leads."""
-    kind, number = message[:2]
-    if kind in ('delay event', 'first'):
-        return network.events[network.event_place[number]].time
-    return network.events[network.tails[network.activity_place[number]]].time
+    if isinstance(message, (DelayEvent, First)):
+        return network.events[network.event_place[message.event]].time
+    return network.events[network.tails[network.activity_place[message.activity]]].time
 
 
-def told_by(network: Network, name: str) -> list[tuple[int, Message]]:
+def told_by(network: Network, name: str) -> list[tuple[int, Told]]:
     """The delays and decisions of a room's file, each with the time at which it is reported. All other lines are left out."""
     with open(os.path.join(HERE, name), encoding='ascii') as file:
         said = [heard(line.rstrip('\n')) for line in file]
-    told = [one for one in said if one is not None and one[0] in ('delay event', 'delay activity', 'keep', 'drop', 'first')]
+    told = [one for one in said if isinstance(one, (DelayEvent, DelayActivity, Keep, Drop, First))]
     return [(max(BEGIN, min(BEGIN + APART * turn, time_of(network, one) - AHEAD)), one) for turn, one in enumerate(told)]
 
 
@@ -71,7 +73,7 @@ class Tracks:
     def happened(self, now: int) -> list[Message]:
         """What has left and arrived by now and was not reported yet, and the clock."""
         times = sound_times(self.network, self.rows)
-        return [*Played(self.network, self.rows).passing(now, times, 0), ('now', now)]
+        return [*Played(self.network, self.rows).passing(now, times, 0), Now(now)]
 
     def is_over(self) -> bool:
         return all(time is not None for time in self.rows.passed)
@@ -85,8 +87,8 @@ def fill(network: Network, server: Server, pace: int) -> None:
     while not tracks.is_over():
         tracks.read()
         for feed, messages in enumerate(told):
-            server.append(feed, spoken(message for at, message in messages if now - 60 < at <= now))
-        server.append(0, spoken(tracks.happened(now)))
+            server.append(feed, [str(message) for at, message in messages if now - 60 < at <= now])
+        server.append(0, [*map(str, tracks.happened(now))])
         time.sleep(60 / pace)
         now += 60
 

@@ -30,9 +30,10 @@ from dispatch_tools.days.delays import Told  # noqa: E402
 from dispatch_tools.formats.files import BadFile  # noqa: E402
 from dispatch_tools.formats.giv import read_network  # noqa: E402
 from dispatch_tools.formats.journal import Journal  # noqa: E402
+from dispatch_tools.model.messages import Adopt, DelayActivity, DelayEvent, Now, Pass  # noqa: E402
 from dispatch_tools.model.network import Network  # noqa: E402
 from dispatch_tools.days.playing import Played  # noqa: E402
-from dispatch_tools.model.railway import Message, Rows, sound_times  # noqa: E402
+from dispatch_tools.model.railway import Rows, sound_times  # noqa: E402
 from dispatch_tools.formats.runtext import due_items, heard, read_run  # noqa: E402
 from dispatch_tools.pictures.scene import clock_time  # noqa: E402
 from dispatch_tools.live.serving import Server, read  # noqa: E402
@@ -45,10 +46,9 @@ LAST_STOP_OF_NORTH = 44
 NODES = 4096
 
 
-def event_of(network: Network, message: Message) -> int:
+def event_of(network: Network, message: DelayEvent | DelayActivity) -> int:
     """The place of the event that a delay names, or of the one from which its activity leads."""
-    kind, number = message[:2]
-    return network.event_place[number] if kind == 'delay event' else network.tails[network.activity_place[number]]
+    return network.event_place[message.event] if isinstance(message, DelayEvent) else network.tails[network.activity_place[message.activity]]
 
 
 def delays_told(network: Network) -> list[Told]:
@@ -57,7 +57,7 @@ def delays_told(network: Network) -> list[Told]:
     for room in ROOMS[:2]:
         for line in read(os.path.join(DAY, room)).decode().splitlines():
             message = heard(line)
-            if message and message[0].startswith('delay'):
+            if isinstance(message, (DelayEvent, DelayActivity)):
                 told.append(Told(network.events[event_of(network, message)].time, message))
     return sorted(told, key=lambda one: one.time)
 
@@ -80,11 +80,11 @@ class Morning:
     def room_of(self, line: str) -> int:
         """Which room reports a line: the one that has the event's stop. The north has the clock."""
         message = heard(line)
-        assert message is not None, line
-        if message[0] == 'now':
+        if isinstance(message, Now):
             return NORTH
-        event = message[1] if message[0] == 'pass' else self.network.events[event_of(self.network, message)].id
-        return NORTH if self.network.events[self.network.event_place[event]].stop <= LAST_STOP_OF_NORTH else SOUTH
+        assert isinstance(message, (DelayEvent, DelayActivity, Pass)), line
+        place = self.network.event_place[message.event] if isinstance(message, Pass) else event_of(self.network, message)
+        return NORTH if self.network.events[place].stop <= LAST_STOP_OF_NORTH else SOUTH
 
     def told(self, now: int) -> list[list[str]]:
         """The lines that are reported or asked at a time, for each feed."""
@@ -107,7 +107,7 @@ class Morning:
         self.took.append(time.perf_counter() - begun)
         before = [len(log) for log in self.journal.logs] or [0, 0, 0]
         for entry in self.journal.read():
-            for decision in entry.message[1] if entry.message[0] == 'adopt' else ():
+            for decision in entry.message.decisions if isinstance(entry.message, Adopt) else ():
                 self.played.rows.decide(self.network, decision)
         self.show(now, before)
 
@@ -115,10 +115,10 @@ class Morning:
         """Prints the answers behind so many of each feed, but for those to `pass` and `now`."""
         for room, log, count in zip(ROOMS, self.journal.logs, before):
             for item in log[count:]:
-                if item.said and item.answer and item.said[0] not in ('pass', 'now'):
+                if item.said and item.answer and not isinstance(item.said, (Pass, Now)):
                     plan = item.answer.value if item.answer.kind == 'plan' else None
                     value = f' {plan.mark} cost {plan.cost} bound {plan.bound}' if plan else f' {item.answer.value or ""}'.rstrip()
-                    print(f'{clock_time(now)} {room}: {" ".join(map(str, item.said))} -> {item.answer.kind}{value}', flush=True)
+                    print(f'{clock_time(now)} {room}: {item.said} -> {item.answer.kind}{value}', flush=True)
 
     def restart(self, now: int) -> None:
         """Kills the server, and starts it again."""
