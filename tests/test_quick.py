@@ -15,6 +15,7 @@ from pathlib import Path
 
 from dispatch_tools.dev import quick
 from dispatch_tools.dev.program import Repository
+from tests.patience import comes_to_be, PATIENCE
 from tests.samples import TOP
 
 RUN = 'late_first_train'
@@ -33,6 +34,14 @@ def replace(path: Path, old: str, new: str) -> None:
     text = path.read_text(encoding='utf-8')
     assert old in text, f'{old} in {path}'
     path.write_text(text.replace(old, new, 1), encoding='utf-8')
+
+
+def is_running(process: int) -> bool:
+    """Whether a process is there, and is more than what its parent has not heard of."""
+    try:
+        return Path(f'/proc/{process}/stat').read_text(encoding='ascii').rpartition(') ')[2][0] != 'Z'
+    except FileNotFoundError:
+        return False
 
 
 class Quick(unittest.TestCase):
@@ -133,6 +142,17 @@ class Quick(unittest.TestCase):
         self.program.write_text('#!/bin/sh\nexec sleep 600\n', encoding='utf-8')
         with unittest.mock.patch.object(quick, 'SECONDS', 0.2):
             self.assert_comes_to(0, [f'run {RUN}: status -1, and 0 is due: did not end within 0.2 seconds', 'run of the crate dispatcher: not as stored'], 'runs')
+
+    def test_what_does_not_end_in_time_is_ended_with_all_that_it_started(self) -> None:
+        """A page's block is in a session of its own below that of the page."""
+        started = self.top / 'started'
+        self.write('examples/small/README.md', f'```sh\nsleep 600 & echo $! > {started}.new; mv {started}.new {started}; wait\n```\n')
+        seconds = 2.0
+        while not started.exists() and seconds < PATIENCE:
+            with unittest.mock.patch.object(quick, 'SECONDS', seconds):
+                self.assert_comes_to(0, [f'example small: did not end within {seconds} seconds'], 'examples')
+            seconds *= 2
+        self.assertTrue(comes_to_be(lambda: not is_running(int(started.read_text(encoding='utf-8')))))
 
     def test_changed_text_of_a_page(self) -> None:
         replace(self.top / 'examples/small/README.md', '```\none', '```\ntwo')

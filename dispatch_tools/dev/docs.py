@@ -20,6 +20,7 @@ from dataclasses import dataclass, field
 from pathlib import Path
 from typing import Iterator, Sequence
 
+from dispatch_tools.dev.running import end_by_exit, run_whole
 from dispatch_tools.words import command_line
 
 REPOSITORY = Path(__file__).resolve().parents[2]
@@ -61,9 +62,9 @@ class Session:
         script = "\n".join([*lines, "status=$?", f"pwd > {told}", "exit $status"])
         environment = dict(os.environ, PATH=f"{self.root}:{os.environ['PATH']}")
         try:
-            ran = subprocess.run(
-                ["bash", "-c", script.replace("DISPATCHER", f"{self.root}/crates/dispatcher/out/dispatcher")],
-                cwd=self.folder, env=environment, capture_output=True, text=True, timeout=SECONDS,
+            ran = run_whole(
+                ["bash", "-c", script.replace("DISPATCHER", f"{self.root}/crates/dispatcher/out/dispatcher")], SECONDS,
+                cwd=self.folder, env=environment, stdout=subprocess.PIPE, stderr=subprocess.PIPE, text=True,
             )
         except subprocess.TimeoutExpired:
             return f"did not end within {SECONDS} seconds"
@@ -167,6 +168,7 @@ def main(argv: Sequence[str] | None = None) -> int:
     parser.add_argument("--without", action="append", default=[], metavar="COMMAND", help="leave out lines that begin with this command")
     parser.add_argument("--top", type=Path, default=REPOSITORY, help="the top of the repository (this one)")
     asked = parser.parse_args(argv)
+    end_by_exit()
     examples = sorted(str(path.relative_to(asked.top)) for path in asked.top.glob("examples/*/README.md"))
     pages = asked.pages or [page for page in [*PAGES, *examples] if (asked.top / page).is_file()]
     faults = [fault for page in pages for fault in judged(asked.dispatcher.resolve(), page, asked.top, tuple(asked.without))]

@@ -15,6 +15,7 @@ from collections.abc import Callable, Sequence
 from dataclasses import dataclass
 from pathlib import Path
 
+from dispatch_tools.dev.running import run_whole
 from dispatch_tools.here import TOP, words_of
 from dispatch_tools.words import command_line, whole_path
 
@@ -65,7 +66,7 @@ def turn(words: list[str], seconds: float, log: Path) -> int | None:
     """The status of a script that ends in time, or nothing. What it prints is added to a file."""
     with open(log, 'ab') as file:
         try:
-            return subprocess.run(words, cwd=TOP, stdin=subprocess.DEVNULL, stdout=file, stderr=subprocess.STDOUT, timeout=seconds, check=False).returncode
+            return run_whole(words, seconds, cwd=TOP, stdin=subprocess.DEVNULL, stdout=file, stderr=subprocess.STDOUT).returncode
         except subprocess.TimeoutExpired:
             return None
 

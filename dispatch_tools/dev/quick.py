@@ -25,6 +25,7 @@ from pathlib import Path
 from typing import NamedTuple
 
 from dispatch_tools.dev.program import TOP, NotBuilt, Repository
+from dispatch_tools.dev.running import run_whole
 from dispatch_tools.here import words_of
 
 PARTS = ['tests', 'runs', 'verdicts', 'examples']
@@ -39,7 +40,7 @@ LONG_COMMANDS = ['dispatch-tools figures']
 SECONDS = 1800
 
 # The test files make way for the build, which takes longer than all of them.
-MAKES_WAY = ['nice', '-n', '10']
+MAKES_WAY = ['nice', '-n', '5']
 
 
 @dataclass
@@ -79,7 +80,7 @@ class Begun(NamedTuple):
 def ran(words: Sequence[str | Path], folder: Path) -> tuple[int, str, str]:
     """The status of a command, and what it wrote on its two streams; status -1 where it does not end in time."""
     try:
-        done = subprocess.run(words, cwd=folder, stdin=subprocess.DEVNULL, capture_output=True, text=True, errors='replace', timeout=SECONDS, check=False)
+        done = run_whole(words, SECONDS, cwd=folder, stdin=subprocess.DEVNULL, stdout=subprocess.PIPE, stderr=subprocess.PIPE, text=True, errors='replace')
     except subprocess.TimeoutExpired:
         return -1, '', f'did not end within {SECONDS} seconds'
     return done.returncode, done.stdout, done.stderr
@@ -87,10 +88,10 @@ def ran(words: Sequence[str | Path], folder: Path) -> tuple[int, str, str]:
 
 # ---- The tests of the tools
 
-def test_file(path: Path) -> Tally:
+def test_file(path: Path, makes_way: bool = True) -> Tally:
     """Runs a file of tests in a process of its own."""
     # What is closed late is said when memory is cleared, at any moment, among what a test compares.
-    words = [*MAKES_WAY, sys.executable, '-B', '-W', 'ignore::ResourceWarning', '-m', 'unittest', 'discover', '-s', path.parent.name, '-t', '.', '-p', path.name]
+    words = [*(MAKES_WAY if makes_way else []), sys.executable, '-B', '-W', 'ignore::ResourceWarning', '-m', 'unittest', 'discover', '-s', path.parent.name, '-t', '.', '-p', path.name]
     status, _, told = ran(words, path.parents[1])
     return counted(path.name, status, told)
 
@@ -248,7 +249,7 @@ def tests_again(paths: list[Path]) -> Tally:
     """The files that failed beside others, each by itself."""
     total = Tally()
     for path in paths:
-        total.add(test_file(path))
+        total.add(test_file(path, makes_way=False))
     return total
 
 
