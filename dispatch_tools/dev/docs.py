@@ -6,7 +6,7 @@ DISPATCHER is the built program. Each page has a copy of the repository of its o
 in one working directory, with the script at the top as `dispatcher`, and the program as crates/dispatcher/out/dispatcher. The
 lines of every other block must stand, in their order, in what the page's commands printed or wrote so far, or in a file that the
 page names. Or the paragraph above the block names one file that does not exist: then the block is written into it. If a text
-depends on how two feeds come out, the page is tried again, up to five times. Blocks that prove or build, that serve until
+depends on how two feeds come out, the page is tried again, up to five times. Blocks that prove, build or install, that serve until
 somebody ends them, or that name a place to fill in, are left out, and so are lines that begin with a command named by --without.
 The status is 1 if something differs.
 """
@@ -25,8 +25,8 @@ from dispatch_tools.words import command_line
 
 REPOSITORY = Path(__file__).resolve().parents[2]
 PAGES = ["README.md", "docs/OPERATING.md", "docs/TUTORIAL.md", "docs/GTFS.md", "docs/REALTIME.md"]
-STARTS = {"docs/TUTORIAL.md": "crates/dispatcher"}
-LEFT_OUT = re.compile(r"\brt \w|\.ci/run|dispatcher test\b|examples/day/play|\b(FOLDER|FILE|DIR|DM_SPEED|URL)\b")
+STARTS = {"docs/TUTORIAL.md": "crates/dispatcher", "docs/STUDIES.md": "examples/connection"}
+LEFT_OUT = re.compile(r"\brt \w|apt-get |\.ci/run|dispatcher test\b|examples/day/play|\b(FOLDER|FILE|DIR|DM_SPEED|URL)\b")
 TRIES = 5
 
 # No command of a page reads these, and they are many.
