@@ -22,6 +22,7 @@ from dispatch_tools.live.health import CRITICAL, UNKNOWN, WARNING, WELL
 from dispatch_tools.live.state import Fed, State, state_of, Told
 from dispatch_tools.oracle.journals import at_rest
 from tests.folders import InFolder
+from tests.patience import PATIENCE
 from tests.test_live import DELAYED, HEAD, InStore
 
 # Event 9 of region 2, due at 1000, follows events 1 and 2 of region 1 by 60 and 30 seconds; event 10 of region 2, due at 1000,
@@ -168,7 +169,7 @@ class Served(unittest.TestCase):
         self.addCleanup(self.server.shutdown)
 
     def get(self, path: str, host: Optional[str] = None, **headers: str) -> tuple[int, str, str]:
-        line = http.client.HTTPConnection('127.0.0.1', self.server.server_port, timeout=20)
+        line = http.client.HTTPConnection('127.0.0.1', self.server.server_port, timeout=PATIENCE)
         self.addCleanup(line.close)
         line.request('GET', path, headers={'Host': host or f'127.0.0.1:{self.server.server_port}', **headers})
         came = line.getresponse()

@@ -87,7 +87,7 @@ class Repository:
             return self.unproved
         if shutil.which('rt') is None:
             raise NotBuilt('the program is not built here, and there is no `rt` to build or try it with. `rt` comes with the toolchain that '
-                           'README.md names; it is not in this repository, nor for download. docs/CHANGING.md says what works without it')
+                           'docs/GUARANTEES.md names; it is not in this repository, nor for download. docs/CHANGING.md says what works without it')
         say('the proved program is not built here; its sources are built once without proofs, in one to three minutes')
         total = self.sum_of_sources()
         self.out.mkdir(exist_ok=True)
