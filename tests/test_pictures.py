@@ -17,6 +17,7 @@ from dispatch_tools.formats.giv import read_network
 from dispatch_tools.formats.markup import in_script
 from dispatch_tools.here import words_of
 from dispatch_tools.model.messages import BoundLeaf, CycleLeaf, Inner, Message, Node, Now, OpenLeaf
+from dispatch_tools.model.network import Change, Pair
 from dispatch_tools.model.network import Activity, Event, Network
 from dispatch_tools.pictures.diagram import drawing, frame_of
 from dispatch_tools.pictures.scene import (
@@ -142,16 +143,16 @@ class Pages(unittest.TestCase):
         self.assertEqual(in_script('<!--</script>&\u2028\u2029'), '"\\u003c!--\\u003c/script\\u003e\\u0026\\u2028\\u2029"')
 
     def test_tree_of_two_levels(self) -> None:
-        nodes: list[Node | Cut] = [Inner(('change', 5)), Inner(('pair', 3, 5)), BoundLeaf(1), CycleLeaf(), OpenLeaf(2)]
+        nodes: list[Node | Cut] = [Inner(Change(5)), Inner(Pair(3, 5)), BoundLeaf(1), CycleLeaf(), OpenLeaf(2)]
         tree = xml.fromstring(tree_part(nodes))
         self.assertEqual([mark.text for mark in tree.iter('b')], ['keep 5', 'first 3 5', 'first 5 3', 'drop 5'])
         self.assertEqual([leaf.text for leaf in tree.iter('span')], ['bound 1', 'cycle', 'open 2'])
 
     def test_upper_part_of_a_tree(self) -> None:
-        nodes: list[Node] = [Inner(('change', 5)), Inner(('pair', 3, 5)), BoundLeaf(1), CycleLeaf(), OpenLeaf(2)]
+        nodes: list[Node] = [Inner(Change(5)), Inner(Pair(3, 5)), BoundLeaf(1), CycleLeaf(), OpenLeaf(2)]
         self.assertEqual(upper_part(nodes, 5), nodes)
-        self.assertEqual(upper_part(nodes, 4), [nodes[0], Cut(('pair', 3, 5), 2), OpenLeaf(2)])
-        self.assertEqual(upper_part(nodes, 2), [Cut(('change', 5), 4)])
+        self.assertEqual(upper_part(nodes, 4), [nodes[0], Cut(Pair(3, 5), 2), OpenLeaf(2)])
+        self.assertEqual(upper_part(nodes, 2), [Cut(Change(5), 4)])
         self.assertIn('branches on pair 3 5, 2 nodes below', tree_part(upper_part(nodes, 4)))
 
     def test_cost_and_replies_stand_there(self) -> None:

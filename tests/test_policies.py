@@ -17,6 +17,7 @@ from dispatch_tools.formats.giv import read_network
 from dispatch_tools.days.playing import Played
 from dispatch_tools.days.policies import DaySoFar, day_so_far, decided, play_by, policy_of
 from dispatch_tools.model.messages import DelayEvent, Drop
+from dispatch_tools.model.network import Change, Pair
 from dispatch_tools.model.railway import Rows
 
 # Train 1 runs from stop 1 (100) by stop 2 (200 to 220) to stop 3; train 5 leaves stop 2 for stop 4 at 230. Their departures share
@@ -37,12 +38,12 @@ class Days(unittest.TestCase):
         # Train 1 left at 160 and arrives at 250. Train 5 waits for it until 270, and takes 95 to stop 4.
         self.assertEqual(known.times, [160, 250, 260, 340, 270, 365])
         self.assertEqual((known.rows.passed, known.rows.clock), ([160, None, None, None, None, None], 200))
-        self.assertEqual(known.free, [('change', 5), ('pair', 3, 5)])
+        self.assertEqual(known.free, [Change(5), Pair(3, 5)])
         self.assertEqual(known.times_without('change'), [160, 250, 260, 340, 268, 363])
         self.assertEqual(known.times_without('pair'), [160, 250, 260, 340, 270, 365])
         self.assertEqual(known.times_without('change', 'pair'), [160, 250, 260, 340, 230, 330])
         self.assertEqual(day(200).times, [100, 200, 220, 300, 230, 330])
-        self.assertEqual(day(225).free, [('change', 5)])
+        self.assertEqual(day(225).free, [Change(5)])
 
     def test_what_a_policy_may_say(self) -> None:
         known = day(260, LATE)
@@ -90,7 +91,7 @@ class Playing(InFolder):
         net = read_network(network('turnaround'))
         self.assertTrue(net.pairs)
         with open(os.path.join(self.folder, 'all_turned.py'), 'w', encoding='ascii') as file:
-            file.write("def decide(day):\n    return [f'first {ids[1]} {ids[0]}' for kind, *ids in day.free if kind == 'pair']\n")
+            file.write("def decide(day):\n    return [f'first {one.second} {one.first}' for one in day.free if one.KIND == 'pair']\n")
         self.addCleanup(lambda: sys.modules.pop('all_turned', None))
         with self.assertRaises(BadFile) as caught:
             play_by('all_turned:decide', Played(net, Rows(net)), 0, 0, 60, 0)

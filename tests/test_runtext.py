@@ -7,6 +7,7 @@ from dispatch_tools.formats.files import BadFile
 from dispatch_tools.formats.giv import read_network
 from dispatch_tools.formats.runtext import Bad, read_run
 from dispatch_tools.model.messages import Adopt, BoundLeaf, DelayEvent, Drop, First, Inner
+from dispatch_tools.model.network import Change
 from dispatch_tools.pictures.scene import read_scene
 from tests.samples import network, text
 
@@ -26,7 +27,7 @@ class WholeTexts(unittest.TestCase):
         assert answer is not None
         plan = answer.value
         self.assertEqual((plan.mark, plan.cost, plan.bound), ('optimal', 940000, 940000))
-        self.assertEqual(plan.nodes, [Inner(('change', 5)), BoundLeaf(1075000), BoundLeaf(940000)])
+        self.assertEqual(plan.nodes, [Inner(Change(5)), BoundLeaf(1075000), BoundLeaf(940000)])
         self.assertEqual(run.times, {1: 160, 2: 250, 3: 260, 4: 340, 5: 230, 6: 330})
         self.assertEqual(run.cost, 940000)
 

@@ -36,7 +36,7 @@ class DaySoFar:
 
     `rows` are the delays that are known, the decisions so far, what has happened (passed, each at its time), and the clock, which
     is `now`. `times` are the times of all events by place, as they are with these rows. `free` are the choices that are still open:
-    ('change', A) and ('pair', E, F), by ids.
+    Change(activity) and Pair(first, second), by ids.
     """
     network: Network
     now: int
@@ -46,7 +46,7 @@ class DaySoFar:
 
     def times_without(self, *kinds: str) -> list[int]:
         """The times if no open choice of these kinds ('change', 'pair') held anything."""
-        left_out = {choice for choice in self.free if choice[0] in kinds}
+        left_out = {choice for choice in self.free if choice.KIND in kinds}
         held = [holds and self.network.choice_of_activity(place) not in left_out
                 for place, holds in enumerate(active_activities(self.network, self.rows))]
         times = least_times(self.network, self.rows, held)

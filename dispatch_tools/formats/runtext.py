@@ -14,6 +14,7 @@ from dispatch_tools.model.messages import (
     Adopt, AdoptLast, AskCost, AskEntries, AskPlan, AskTime, BoundLeaf, CycleLeaf, Decision, DelayActivity, DelayEvent, Drop, First, Inner, Keep,
     Message, Node, Nothing, Now, OpenLeaf, Pass, Path, Recall, Refusal, Said, Statement,
 )
+from dispatch_tools.model.network import Change, Pair
 from dispatch_tools.model.railway import choice_of, MOST_ENTRIES, Plan, ways_of
 
 # The largest ids (and lines and entries), values of feed lines, and other numbers in print.
@@ -277,10 +278,10 @@ def read_node(words: Sequence[str]) -> Optional[Node]:
     """The node of a line in version 2, or None."""
     change = fits(words, ['inner', 'change', ID])
     if change is not None:
-        return Inner(('change', change[0]))
+        return Inner(Change(*change))
     pair = fits(words, ['inner', 'pair', ID, ID])
     if pair is not None:
-        return Inner(('pair', pair[0], pair[1])) if pair[0] < pair[1] else None
+        return Inner(Pair(*pair)) if pair[0] < pair[1] else None
     return read_form(LEAVES, words)
 
 

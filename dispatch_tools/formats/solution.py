@@ -7,7 +7,7 @@ from typing import NamedTuple, Optional
 
 from dispatch_tools.formats.files import BadFile, text_of
 from dispatch_tools.model.messages import Decision, Drop, First, Keep
-from dispatch_tools.model.network import Choice
+from dispatch_tools.model.network import Change, Choice
 
 # The words with which a solver says that it has found nothing.
 NOTHING = re.compile(r'infeasible|unbounded|undefined|no integer solution|no solution|no feasible|empty', re.IGNORECASE)
@@ -101,17 +101,22 @@ def read_solution(name: str) -> Solution:
     return solution
 
 
+def variable_of(choice: Choice) -> str:
+    """The variable of a choice in a programme."""
+    return f'drop_{choice.activity}' if isinstance(choice, Change) else f'first_{choice.first}_{choice.second}'
+
+
 def decisions_of(name: str, solution: Solution, choices: list[Choice]) -> list[Decision]:
     """The decision of each choice of a programme; BadFile if the solution is of another one. What it leaves out is 0."""
-    named = {'_'.join(map(str, ('drop' if choice[0] == 'change' else 'first', *choice[1:]))): choice for choice in choices}
+    named = {variable_of(choice): choice for choice in choices}
     for variable in solution.values:
         if not OURS.fullmatch(variable) or variable.startswith(('drop', 'first')) and variable not in named:
             raise BadFile(name, None, f'{variable} is no choice of these rows')
     decisions: list[Decision] = []
     for variable, choice in named.items():
         is_one = solution.values.get(variable, 0) > 0.5
-        if choice[0] == 'change':
-            decisions.append(Drop(choice[1]) if is_one else Keep(choice[1]))
+        if isinstance(choice, Change):
+            decisions.append(Drop(choice.activity) if is_one else Keep(choice.activity))
         else:
-            decisions.append(First(*(choice[1:] if is_one else choice[:0:-1])))
+            decisions.append(First(choice.first, choice.second) if is_one else First(choice.second, choice.first))
     return decisions

@@ -200,7 +200,7 @@ class Inner:
     choice: Choice
 
     def __str__(self) -> str:
-        return ' '.join(['inner', *map(str, self.choice)])
+        return f'inner {self.choice}'
 
 
 @dataclass(frozen=True, slots=True)

@@ -1,12 +1,36 @@
 """Networks: events, and activities between them, by place and by id."""
 from __future__ import annotations
 
-from typing import Iterable, NamedTuple, Optional, Union
+from dataclasses import dataclass
+from typing import ClassVar, Iterable, NamedTuple, Optional
 
 KINDS = ('drive', 'wait', 'turnaround', 'change', 'headway')
 
-# A choice of a network, a change or a pair, with ids: ('change', 5), ('pair', 3, 5).
-Choice = Union[tuple[str, int], tuple[str, int, int]]
+
+@dataclass(frozen=True, slots=True)
+class Change:
+    """The choice whether a train waits for another, by the id of the change."""
+
+    KIND: ClassVar[str] = 'change'
+    activity: int
+
+    def __str__(self) -> str:
+        return f'change {self.activity}'
+
+
+@dataclass(frozen=True, slots=True)
+class Pair:
+    """The choice which of two events goes first, by their ids, the smaller one first."""
+
+    KIND: ClassVar[str] = 'pair'
+    first: int
+    second: int
+
+    def __str__(self) -> str:
+        return f'pair {self.first} {self.second}'
+
+
+Choice = Change | Pair
 
 
 class Event(NamedTuple):
@@ -62,11 +86,11 @@ class Network:
     def pair_choice(self, pair: int) -> Choice:
         """The choice of a pair."""
         first, second = self.pairs[pair]
-        return ('pair', self.events[first].id, self.events[second].id)
+        return Pair(self.events[first].id, self.events[second].id)
 
     def choice_of_activity(self, place: int) -> Optional[Choice]:
         """The choice that an activity hangs on, or None."""
         if self.activities[place].kind == 'change':
-            return ('change', self.activities[place].id)
+            return Change(self.activities[place].id)
         pair = self.pair_by_activity[place]
         return None if pair is None else self.pair_choice(pair)

@@ -17,7 +17,7 @@ import math
 from dataclasses import dataclass
 from typing import Callable, Iterable, NamedTuple, Optional
 
-from dispatch_tools.model.network import Choice, Network
+from dispatch_tools.model.network import Change, Choice, Network
 from dispatch_tools.model.railway import (
     active_activities, cost_charging, floor_of, free_choices, least_times, Problem, Rows, span_of,
 )
@@ -64,9 +64,9 @@ def choices_in(network: Network, rows: Rows, window: Optional[Window]) -> list[C
         return free
 
     def ends(choice: Choice) -> list[int]:
-        if choice[0] == 'change':
-            return [network.heads[network.activity_place[choice[1]]]]
-        return [network.event_place[event] for event in choice[1:]]
+        if isinstance(choice, Change):
+            return [network.heads[network.activity_place[choice.activity]]]
+        return [network.event_place[choice.first], network.event_place[choice.second]]
 
     return [choice for choice in free if all(window.start <= network.events[end].time <= window.end for end in ends(choice))]
 
@@ -88,12 +88,12 @@ class Posed(Problem):
         self.changes: dict[int, Way] = {}
         self.pairs: dict[tuple[int, int], tuple[Way, Way]] = {}
         for choice in self.free:
-            if choice[0] == 'change':
-                place = network.activity_place[choice[1]]
+            if isinstance(choice, Change):
+                place = network.activity_place[choice.activity]
                 self.changes[place] = self.way([place])
                 self.held[place] = self.charged[place] = False
             else:
-                first, second = (network.event_place[event] for event in choice[1:])
+                first, second = network.event_place[choice.first], network.event_place[choice.second]
                 ways = [network.headways[ends] for ends in ((first, second), (second, first))]
                 self.pairs[first, second] = (self.way(ways[0]), self.way(ways[1]))
                 for place in ways[0] + ways[1]:

@@ -15,7 +15,7 @@ from dispatch_tools.model.messages import (
     Adopt, BoundLeaf, CycleLeaf, Decision, DECISIONS, DelayActivity, DelayEvent, Drop, First, Inner, Keep, Message, Node, Now, OpenLeaf, Pass, Path,
     Recall, Refusal,
 )
-from dispatch_tools.model.network import Choice, Network
+from dispatch_tools.model.network import Change, Choice, Network, Pair
 
 MOST_ENTRIES = 1_000_000
 LARGEST_DELAY = 1_000_000
@@ -309,7 +309,7 @@ class Relaxed(NamedTuple):
 def free_choices(network: Network, rows: Rows) -> list[Choice]:
     """The changes whose heads have not passed, and then the pairs of which neither event has."""
     changes: list[Choice] = [
-        ('change', activity.id) for place, activity in enumerate(network.activities)
+        Change(activity.id) for place, activity in enumerate(network.activities)
         if activity.kind == 'change' and rows.passed[network.heads[place]] is None
     ]
     pairs = [
@@ -322,16 +322,15 @@ def free_choices(network: Network, rows: Rows) -> list[Choice]:
 def choice_of(decision: Decision) -> Choice:
     """The choice that a decision decides."""
     if isinstance(decision, First):
-        return ('pair', min(decision.event, decision.other), max(decision.event, decision.other))
-    return ('change', decision.activity)
+        return Pair(min(decision.event, decision.other), max(decision.event, decision.other))
+    return Change(decision.activity)
 
 
 def ways_of(choice: Choice) -> tuple[Decision, Decision]:
     """The two decisions of a choice, in the order of the trees below it."""
-    kind, *ids = choice
-    if kind == 'change':
-        return Keep(*ids), Drop(*ids)
-    return First(*ids), First(*reversed(ids))
+    if isinstance(choice, Change):
+        return Keep(choice.activity), Drop(choice.activity)
+    return First(choice.first, choice.second), First(choice.second, choice.first)
 
 
 def with_decisions(network: Network, rows: Rows, decisions: Iterable[Decision]) -> Rows:
@@ -355,9 +354,9 @@ class Problem:
     def is_violated(self, rows: Rows, times: Sequence[int], choice: Choice) -> bool:
         """Whether times do not keep a choice: a change is not met, or in neither direction of a pair all headways are."""
         network = self.network
-        if choice[0] == 'change':
-            return not is_met(network, rows, times, network.activity_place[choice[1]])
-        one, other = (network.event_place[event] for event in choice[1:])
+        if isinstance(choice, Change):
+            return not is_met(network, rows, times, network.activity_place[choice.activity])
+        one, other = network.event_place[choice.first], network.event_place[choice.second]
         return not any(
             all(is_met(network, rows, times, place) for place in network.headways[direction])
             for direction in ((one, other), (other, one))

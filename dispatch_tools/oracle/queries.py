@@ -31,7 +31,7 @@ from typing import Callable, NamedTuple, Optional, Sequence, Union
 
 from dispatch_tools.formats.runtext import Answer, Bad, read_decision, read_plan, read_plan_head, Text
 from dispatch_tools.model.messages import Decision
-from dispatch_tools.model.network import Choice, Network
+from dispatch_tools.model.network import Change, Choice, Network
 from dispatch_tools.model.railway import (
     choice_of, cost_of, free_choices, is_cycle, is_met, is_true_plan, Plan, Rows, sound_times, span_of, times_of,
     ways_of, with_decisions,
@@ -176,7 +176,7 @@ def fault_of_journeys(travel: Travel, text: str) -> Optional[str]:
 
 def ruled(network: Network, rows: Rows, limit: Optional[int]) -> Rows:
     """The rows as a rule has them: no train more than `limit` seconds later for a change, or None if any time will do."""
-    free = [network.activity_place[choice[1]] for choice in free_choices(network, rows) if choice[0] == 'change']
+    free = [network.activity_place[choice.activity] for choice in free_choices(network, rows) if isinstance(choice, Change)]
     free.sort(key=lambda place: (network.events[network.heads[place]].time, network.activities[place].head, network.activities[place].id))
     now = rows.copy()
     for place in free:
@@ -257,8 +257,10 @@ class Window(NamedTuple):
         """Whether a choice's change has its head, or its pair both events, in the window, and it is not held."""
         if choice in [choice_named(network, held) for held in self.held]:
             return False
-        is_change = choice[0] == 'change'
-        events = [network.activities[network.activity_place[choice[1]]].head] if is_change else choice[1:]
+        if isinstance(choice, Change):
+            events = [network.activities[network.activity_place[choice.activity]].head]
+        else:
+            events = [choice.first, choice.second]
         return all(self.begin <= network.events[network.event_place[event]].time <= self.end for event in events)
 
 

@@ -10,7 +10,7 @@ from dispatch_tools.formats.markup import escaped, in_script, policy
 from dispatch_tools.formats.runtext import Answer, Item
 from dispatch_tools.model.messages import Inner, Node
 from dispatch_tools.model.network import Choice
-from dispatch_tools.model.railway import Plan
+from dispatch_tools.model.railway import Plan, ways_of
 from dispatch_tools.pictures.diagram import drawing, style, trains_on
 from dispatch_tools.pictures.scene import clock_time, cost_parts, counted, lateness_class, lines_of, Scene
 
@@ -127,16 +127,14 @@ def upper_part(nodes: Sequence[Node], most: int) -> list[Node | Cut]:
 def node_words(node: Node | Cut) -> str:
     if not isinstance(node, (Inner, Cut)):
         return str(node)
-    words = f'branches on {" ".join(map(str, node.choice))}'
+    words = f'branches on {node.choice}'
     return f'{words}, {node.below:,} nodes below' if isinstance(node, Cut) else words
 
 
 def ways(choice: Choice) -> tuple[str, str]:
     """The words of the two decisions of a choice."""
-    kind, *ids = choice
-    if kind == 'change':
-        return f'keep {ids[0]}', f'drop {ids[0]}'
-    return f'first {ids[0]} {ids[1]}', f'first {ids[1]} {ids[0]}'
+    first, second = ways_of(choice)
+    return str(first), str(second)
 
 
 def tree_part(nodes: Sequence[Node | Cut]) -> str:

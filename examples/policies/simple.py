@@ -3,6 +3,8 @@ from __future__ import annotations
 
 from typing import TYPE_CHECKING, Iterator
 
+from dispatch_tools.model.network import Change, Pair
+
 if TYPE_CHECKING:
     from dispatch_tools.days.policies import DaySoFar
 
@@ -15,9 +17,9 @@ def scheduled_order(day: DaySoFar) -> Iterator[str]:
 def wait_at_most(day: DaySoFar, seconds: int) -> Iterator[str]:
     """A train waits for a change if that holds it up by at most so many seconds, beside times in which no open change holds one."""
     times = day.times_without('change')
-    for kind, *ids in day.free:
-        if kind == 'change':
-            place = day.network.activity_place[ids[0]]
+    for choice in day.free:
+        if isinstance(choice, Change):
+            place = day.network.activity_place[choice.activity]
             change = day.network.activities[place]
             ready = day.at(times, change.tail) + change.lower + day.rows.activity_delays[place]
             yield f'{"keep" if ready - day.at(times, change.head) <= seconds else "drop"} {change.id}'
@@ -31,9 +33,9 @@ def never_wait(day: DaySoFar) -> Iterator[str]:
 def first_come_first_served(day: DaySoFar) -> Iterator[str]:
     """Of two trains that share a track, the one goes first that is there first, beside times in which no open order holds a train."""
     times = day.times_without('pair')
-    for kind, *ids in day.free:
-        if kind == 'pair' and day.at(times, ids[0]) != day.at(times, ids[1]):
-            first, second = sorted(ids, key=lambda event: day.at(times, event))
+    for choice in day.free:
+        if isinstance(choice, Pair) and day.at(times, choice.first) != day.at(times, choice.second):
+            first, second = sorted((choice.first, choice.second), key=lambda event: day.at(times, event))
             yield f'first {first} {second}'
 
 
