@@ -1,5 +1,5 @@
 -- Books that grow, and lives one after the other.
-use Rattle.std.proofs.Common.{◌≡◌, ℕ, List, [], ◌∷◌, ◌++◌, length, map, get_or, refl, sym, ap, subst, ◌∙◌, arith, append_assoc, append-nil, inl, inr}
+use Rattle.std.proofs.Common.{◌≡◌, ℕ, List, [], ◌∷◌, ◌++◌, length, map, get_or, refl, sym, ap, subst, ◌∙◌, arith, append-nil, inl, inr}
 use Rattle.std.specs.Prelude.{All}
 use Rattle.std.specs.List.{flat_map}
 use Rattle.std.proofs.lemmas.List.Concat.{flat_map-append}
@@ -8,26 +8,16 @@ use mathlib.Core.List.{IsPrefix}
 use Rattle.dm_cert.specs.declared.replies.LogItem.{LogItem}
 use Rattle.dm_cert.specs.Answers.{Setting}
 use Rattle.dm_cert.specs.RunTexts.{item_text}
-use Rattle.dm_store.specs.Calls.{Image}
+use Rattle.dm_store.specs.Calls.{AreFronts, Image}
+use Rattle.dm_store.specs.Fronts.{front_of_front, fronts_of_fronts}
 use Rattle.dm_tape.specs.Laws.{IsKeptPart}
 use Rattle.dm_tape.specs.Rounds.{round_text}
 use Rattle.dm_tape.proofs.OwnTexts.{rounds_have_own_texts}
-use Rattle.dm_book.specs.Books.{AreFronts, AreRecorded, Book, IsBookIn, IsFrontBook, logs_after, reply_text}
+use Rattle.dm_book.specs.Books.{AreRecorded, Book, IsBookIn, IsFrontBook, logs_after, reply_text}
 use Rattle.dm_book.specs.Lives.{Crashed, IsLife, LivesAreOne, ShowsFronts, ShowsStill}
 use Rattle.dm_book.proofs.OneBook.{books_are_one}
 
 -- ---- fronts
-
-front_of_front : {A : Type 0} (xs ys zs : List A) → IsPrefix xs ys → IsPrefix ys zs → IsPrefix xs zs
-front_of_front xs ys zs p q = (p.0 ++ q.0, sym (append_assoc xs p.0 q.0) ∙ (ap (λ w. w ++ q.0) p.1 ∙ q.1))
-
-fronts_of_fronts : {X : Type 0} (one more most : List (List X)) → AreFronts one more → AreFronts more most → AreFronts one most
-fronts_of_fronts [] [] [] p q = tt
-fronts_of_fronts [] [] (z ∷ zs) p q = absurd q
-fronts_of_fronts [] (y ∷ ys) zs p q = absurd p
-fronts_of_fronts (x ∷ xs) [] zs p q = absurd p
-fronts_of_fronts (x ∷ xs) (y ∷ ys) [] p q = absurd q
-fronts_of_fronts (x ∷ xs) (y ∷ ys) (z ∷ zs) p q = (front_of_front x y z p.0 q.0, fronts_of_fronts xs ys zs p.1 q.1)
 
 as_many : {X : Type 0} (one more : List (List X)) → AreFronts one more → length one ≡ length more
 as_many [] [] p = refl

@@ -16,7 +16,7 @@ use Rattle.dm_cert.specs.Logs.{AreTrueLogs}
 use Rattle.dm_cert.specs.PlanTexts.{line_end}
 use Rattle.dm_cert.specs.RunTexts.{item_text}
 use Rattle.dm_store.specs.Blocks.{Stands}
-use Rattle.dm_store.specs.Calls.{Image}
+use Rattle.dm_store.specs.Calls.{AreFronts, Image}
 use Rattle.dm_store.specs.Journals.{HasCrashEnd}
 use Rattle.dm_tape.specs.Laws.{IsKeptPart}
 use Rattle.dm_tape.specs.Rounds.{round_text}
@@ -36,13 +36,6 @@ pub record IsTrueBook (s : Setting) (book : Book) : Type 0 where
   pub logs : AreTrueLogs s book.history (map log_of book.logs)
 
 -- ---- a book that grows
-
--- for as many feeds, each list is a front of the other's
-abbrev pub AreFronts : {X : Type 0} → List (List X) → List (List X) → Type 0
-AreFronts [] [] = Unit {0}
-AreFronts [] (more ∷ others) = ⊥
-AreFronts (items ∷ lists) [] = ⊥
-AreFronts (items ∷ lists) (more ∷ others) = IsPrefix items more × AreFronts lists others
 
 -- the other book has as many feeds, and this book's history and logs are fronts of its own
 pub record IsFrontBook (book other : Book) : Type 0 where

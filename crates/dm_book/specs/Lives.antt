@@ -1,8 +1,8 @@
 -- Lives of a server over one store: each begins with what the one before left.
 use Rattle.std.specs.Prelude.{◌≡◌, List, [], ◌∷◌, length, map, All}
 use Rattle.dm_cert.specs.Answers.{Setting}
-use Rattle.dm_store.specs.Calls.{Image}
-use Rattle.dm_book.specs.Books.{AreFronts, Book, IsBookIn, IsFrontBook, IsSafe, IsTrueBook, reply_text}
+use Rattle.dm_store.specs.Calls.{AreFronts, Image}
+use Rattle.dm_book.specs.Books.{Book, IsBookIn, IsFrontBook, IsSafe, IsTrueBook, reply_text}
 
 -- a true book has no other beside it with the same logs
 abbrev pub BooksAreOne : Type 0

@@ -1,14 +1,14 @@
 -- What a crash leaves of a life is taken up by the next.
-use Rattle.std.proofs.Common.{ℕ, List, length, map, sym, subst}
+use Rattle.std.proofs.Common.{◌≡◌, ◌≤◌, ℕ, List, length, map, get_or, sym, subst}
 use Rattle.dm_cert.specs.Answers.{Setting}
 use Rattle.dm_store.specs.Blocks.{Stands}
-use Rattle.dm_store.specs.Calls.{Image}
+use Rattle.dm_store.specs.Calls.{AreFronts, Image}
 use Rattle.dm_store.specs.Journals.{HasCrashEnd}
 use Rattle.dm_book.specs.Books.{Book, IsSafe, reply_text}
 use Rattle.dm_serve.proofs.Answering.{as_many}
-use Rattle.dm_serve.proofs.Gone.{fronts_of_fronts}
+use Rattle.dm_store.specs.Fronts.{fronts_of_fronts}
 use Rattle.dm_serve.specs.Lives.{IsTakenUp}
-use Rattle.dm_lives.specs.Laws.{Holds, IsTakenUpAgain}
+use Rattle.dm_lives.specs.Laws.{Holds, IsCrashedLife, IsTakenUpAgain}
 
 -- what a crash left is taken up with the book there
 pub taken_from : {S : Type 0} (tells : S → Type 0) (seen : S → List ℕ) (shown : S → List (List ℕ)) (may_leave : S → Image → Type 0) (s : Setting) (first last : Book) (image : Image) (store : S)
@@ -27,3 +27,21 @@ taken_up_again tells seen shown may_leave = λ s first last image store safe hol
   taken = taken_from tells seen shown may_leave s first last image store safe holds;
   grows = safe.above;
 }
+
+-- what a crash leaves of a life
+pub crashed_life : {S : Type 0} (tells : S → Type 0) (shown : S → List (List ℕ)) (may_leave : S → Image → Type 0) (moment : S → ℕ) (left_since : S → ℕ → Image → Type 0)
+    → ((store : S) (image : Image) → tells store → may_leave store image → image.shown ≡ shown store)
+    → ((store : S) (t : ℕ) (image : Image) → tells store → t ≤ moment store → may_leave store image → left_since store t image)
+    → IsCrashedLife tells shown may_leave moment left_since
+crashed_life tells shown may_leave moment left_since shows_now counts_now = λ s first sources old new life told crashed earlier left found feeds is_in is_true.
+    let now = shows_now new crashed.image told left in
+    let safe = life.leaves.each crashed.image (counts_now new (moment old) crashed.image told life.leaves.later left) in
+    record {
+      last = life.last;
+      all_safe = λ k d low. life.leaves.each (get_or crashed.earlier k d) (earlier k d low);
+      still = λ k d low. subst (AreFronts (get_or crashed.earlier k d).shown) (sym now) (life.shows.each (get_or crashed.earlier k d) (earlier k d low));
+      safe = safe;
+      feeds = feeds;
+      is_in = is_in safe.contents safe.stands;
+      is_true = is_true;
+    }

@@ -10,6 +10,7 @@ use Rattle.dm_feed.proofs.Ahead.{due_items, same_items}
 use Rattle.dm_feed.proofs.Joining.{items_joined, lines_joined}
 use Rattle.dm_cert.specs.declared.replies.LogItem.{LogItem}
 use Rattle.dm_cert.specs.Logs.{due_of}
+use Rattle.dm_store.specs.Fronts.{front_of_front}
 use Rattle.dm_tail.specs.Sources.{AnswersFront}
 use Rattle.dm_catch_up.specs.Feeds.{HasNoLine, DiffersAt, IsOtherLine}
 use Rattle.dm_lives.specs.Growth.{HasNotGrown}
@@ -24,9 +25,6 @@ tails_same e = cc
 
 not_none : {X : Type 0} {x : X} {xs : List X} → x ∷ xs ≡ [] → ⊥
 not_none e = cc
-
-front_of_front : {X : Type 0} (xs ys zs : List X) → IsPrefix xs ys → IsPrefix ys zs → IsPrefix xs zs
-front_of_front xs ys zs p q = (p.0 ++ q.0, sym (append_assoc xs p.0 q.0) ∙ (ap (λ l. l ++ q.0) p.1 ∙ q.1))
 
 one_more : {X : Type 0} (x w y : X) (xs ys : List X) → x ≡ w → y ≡ w → IsPrefix xs ys → IsPrefix (x ∷ xs) (y ∷ ys)
 one_more x w y xs ys e f p = (p.0, (let same : x ≡ y = e ∙ sym f in let more : xs ++ p.0 ≡ ys = p.1 in cc))

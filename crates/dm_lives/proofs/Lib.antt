@@ -10,6 +10,8 @@ pub mod Complete
 pub mod Texts
 -- What a store in which nothing was served holds.
 pub mod New
+-- A start over what was not synced yet.
+pub mod Synced
 -- What run lives are.
 pub mod Runs
 -- What the first items of a log answer.

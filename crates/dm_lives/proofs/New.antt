@@ -10,9 +10,9 @@ use Rattle.dm_cert.specs.Answers.{Setting}
 use Rattle.dm_cert.specs.Logs.{IsTrueLog}
 use Rattle.dm_rounds.proofs.Places.{mapped_at}
 use Rattle.dm_store.specs.Blocks.{Stands, block, is_crash_end}
-use Rattle.dm_store.specs.Calls.{Image}
+use Rattle.dm_store.specs.Calls.{AreFronts, Image}
 use Rattle.dm_store.specs.Journals.{HasCrashEnd}
-use Rattle.dm_book.specs.Books.{AreFronts, IsTrueBook, log_of, reply_text}
+use Rattle.dm_book.specs.Books.{IsTrueBook, log_of, reply_text}
 use Rattle.dm_lives.specs.Laws.{IsNewTakenUp, empty_book}
 
 no_block : (content rest : List ℕ) → [] ≡ block content ++ rest → ⊥

@@ -10,11 +10,11 @@ use Rattle.dm_cert.specs.declared.limits.TheConstants.{PLANS}
 use Rattle.dm_cert.specs.declared.replies.LogItem.{LogItem}
 use Rattle.dm_cert.specs.Answers.{Setting}
 use Rattle.dm_store.specs.Blocks.{is_crash_end, is_new, refusal, version}
-use Rattle.dm_store.specs.Calls.{Image}
+use Rattle.dm_store.specs.Calls.{AreFronts, Image}
 use Rattle.dm_store.specs.declared.faults.StoreError.{StoreError}
 use Rattle.dm_store.specs.declared.faults.StoreError.TheVariants.{Broken, NoJournal, OtherVersion}
 use Rattle.dm_store.specs.declared.journal.Journal.{Journal}
-use Rattle.dm_book.specs.Books.{AreFronts, Book, IsBookIn, head_text, reply_text}
+use Rattle.dm_book.specs.Books.{Book, IsBookIn, head_text, reply_text}
 use Rattle.dm_tail.specs.declared.tail.Tail.{Tail}
 use Rattle.dm_store_text.specs.Lines.{refusal_line, store_line}
 use Rattle.dm_store_text.proofs.Complete.{true_books_are_not_refused}

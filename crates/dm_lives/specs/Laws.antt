@@ -1,17 +1,19 @@
 -- What one life of a server leaves to the next.
-use Rattle.std.specs.Prelude.{ℕ, ◌≡◌, ◌⊎◌, ◌≤◌, List, [], length, codes, Option}
+use Rattle.std.specs.Prelude.{ℕ, ◌≡◌, ◌⊎◌, ◌≤◌, List, [], length, codes, All, Option}
 use Rattle.std.proofs.Math.ListN.{replicate}
 use Rattle.dm_base.specs.declared.limits.TheConstants.{FEEDS, PENALTY}
 use Rattle.dm_cert.specs.declared.limits.TheConstants.{PLANS}
 use Rattle.dm_cert.specs.Answers.{Setting}
-use Rattle.dm_store.specs.Calls.{Image, LeavesJournal}
+use Rattle.dm_store.specs.Blocks.{Stands}
+use Rattle.dm_store.specs.Calls.{AreFronts, Image, LeavesJournal}
 use Rattle.dm_store.specs.declared.journal.Journal.{Journal}
-use Rattle.dm_book.specs.Books.{AreFronts, Book, IsFrontBook, IsSafe}
+use Rattle.dm_book.specs.Books.{Book, IsBookIn, IsFrontBook, IsSafe, IsTrueBook}
+use Rattle.dm_book.specs.Lives.{Crashed, IsLife}
 use Rattle.dm_tail.specs.declared.tail.Tail.{Tail}
 use Rattle.dm_store_text.specs.Lines.{store_line}
 use Rattle.dm_store_text.specs.declared.status.Status.TheVariants.{Refused}
 use Rattle.dm_serve.specs.Ends.{IsDueOver, IsFeedRefusal}
-use Rattle.dm_serve.specs.Lives.{IsTakenUp}
+use Rattle.dm_serve.specs.Lives.{IsTakenUp, LivesOn}
 
 -- The store holds what a crash left, all of it on the disk. A reply file may show less than it did: what was not synced is lost.
 pub record Holds {S : Type 0} (tells : S → Type 0) (seen : S → List ℕ) (shown : S → List (List ℕ))
@@ -34,6 +36,17 @@ abbrev pub IsTakenUpAgain : {S : Type 0} → (S → Type 0) → (S → List ℕ)
 IsTakenUpAgain {S} tells seen shown may_leave =
     (s : Setting) (first last : Book) (image : Image) (store : S) → IsSafe s first last image → Holds tells seen shown may_leave image store
     → GoesOnAgain tells seen shown may_leave s first store
+
+-- What a crash leaves of a life now, with what crashes at earlier moments of it might have left, is that of a life that was crashed: what
+-- was shown earlier is still shown. A later life may begin with the book that is found there.
+abbrev pub IsCrashedLife : {S : Type 0} → (S → Type 0) → (S → List (List ℕ)) → (S → Image → Type 0) → (S → ℕ) → (S → ℕ → Image → Type 0)
+    → Type 0
+IsCrashedLife {S} tells shown may_leave moment left_since =
+    (s : Setting) (first : Book) (sources : List (Option (List ℕ))) (old new : S) → LivesOn shown moment left_since s first sources old new
+    → tells new → (crashed : Crashed) → All (left_since new (moment old)) crashed.earlier → may_leave new crashed.image
+    → (found : Book) → length found.logs ≡ length first.logs
+    → ((contents : List (List ℕ)) → Stands contents crashed.image.journal → IsBookIn s contents found) → IsTrueBook s found
+    → IsLife s first crashed found
 
 -- ---- a store in which nothing was served yet
 

@@ -1,7 +1,8 @@
 //! What holds of all stores. A law has no code: it is proved as the contract of an empty function.
 ghost use Rattle.dm_lives.specs.Growth.{FrontsAnswer, IsComplete, RoundsAnswer};
-ghost use Rattle.dm_lives.specs.Laws.{IsNewTakenUp, IsRefusedSo, IsTakenUpAgain};
+ghost use Rattle.dm_lives.specs.Laws.{IsCrashedLife, IsNewTakenUp, IsRefusedSo, IsTakenUpAgain};
 ghost use Rattle.dm_lives.specs.Runs.{LivesAreARun};
+ghost use Rattle.dm_lives.specs.Starts.{StartsSafely};
 ghost use Rattle.dm_lives.specs.Texts.{IsTextRefusedSo};
 
 use dm_outside::Shelf;
@@ -13,9 +14,19 @@ pub fn left_is_taken_up<S: Store>()
     ensures { IsTakenUpAgain S.tells S.seen S.shown S.may_leave }
 {}
 
+/// What a crash leaves of a life is that of a life that was crashed, as `lives_are_one` of dm_book speaks of it.
+pub fn crashes_are_of_a_life<S: Store>()
+    ensures { IsCrashedLife S.tells S.shown S.may_leave S.moment S.left_since }
+{}
+
 /// A store in which nothing was served yet is taken up, with a book in which there is nothing.
 pub fn new_is_taken_up<S: Store>()
     ensures { IsNewTakenUp S.tells S.seen S.shown S.may_leave }
+{}
+
+/// Where a store is synced before a life begins over it, what a crash leaves is safe from the start of the sync on.
+pub fn synced_starts_are_safe<S: Store>()
+    ensures { StartsSafely S.shown S.moment S.left_since }
 {}
 
 /// A store that is taken up is refused for want of room or for a feed alone.

@@ -11,6 +11,14 @@
 //! [`left_is_taken_up`]: a store that holds what a crash left of a life is found as one that was taken up. Its book goes on from
 //! the first book of that life. A reply file may hold less than it showed, as what was not synced is lost.
 //!
+//! [`crashes_are_of_a_life`]: what a crash leaves of a life, with what it might have left at earlier moments, is that of a life that
+//! was crashed, in the sense of `lives_are_one`. What was shown at the earlier moments is still shown.
+//!
+//! [`sync_first`] is for a start that reads what a killed process wrote and had not synced. Suppose that what is read holds a true
+//! book, and that each image which a crash may leave is safe between an earlier book and this one. At `Ok` the store is found as one
+//! that was taken up, with the book that was read. Until then a crash leaves what is safe between the two. So it is through the life
+//! after that, between the earlier book and the last one ([`synced_starts_are_safe`]).
+//!
 //! [`lives_are_a_run`]: the book after any lives over a store in which nothing was served before is that of a true run.
 //!
 //! [`refused_for_room_or_feeds`]: a store that was found so is refused only for want of room, or for a feed that has another line
@@ -32,8 +40,11 @@
 #![tactic(auto)]
 
 mod laws;
+mod starts;
 
 pub use laws::{
-    fronts_answer_feeds, grown_feeds_are_not_refused, left_is_taken_up, lives_are_a_run,
-    new_is_taken_up, refused_for_room_or_feeds, rounds_answer_feeds, texts_are_refused_for_room,
+    crashes_are_of_a_life, fronts_answer_feeds, grown_feeds_are_not_refused, left_is_taken_up,
+    lives_are_a_run, new_is_taken_up, refused_for_room_or_feeds, rounds_answer_feeds,
+    synced_starts_are_safe, texts_are_refused_for_room,
 };
+pub use starts::sync_first;

@@ -11,9 +11,9 @@ use mathlib.Core.List.{IsPrefix}
 use Rattle.dm_cert.specs.declared.replies.LogItem.{LogItem}
 use Rattle.dm_cert.specs.Answers.{Setting}
 use Rattle.dm_store.specs.Blocks.{at_rest}
-use Rattle.dm_store.specs.Calls.{After, GoesShowing, Image, LeavesOnly, OnShown, ShowsText}
+use Rattle.dm_store.specs.Calls.{AreFronts, After, GoesShowing, Image, LeavesOnly, OnShown, ShowsText}
 use Rattle.dm_store.proofs.Moments.{goes_on}
-use Rattle.dm_book.specs.Books.{AreFronts, Book, IsSafe, reply_text}
+use Rattle.dm_book.specs.Books.{Book, IsSafe, reply_text}
 use Rattle.dm_tail.specs.declared.watched.Watched.{Watched}
 use Rattle.dm_watch.specs.Settled.{all_items}
 use Rattle.dm_serve.specs.Inside.Replies.{IsKeptIn, IsStarting, PutsOne, log_text}
@@ -44,7 +44,7 @@ module _ {S : Type 0} (tells : S → Type 0) (seen : S → List ℕ) (shown : S 
   within = omega (arith, here, ap length is, length-append first (was ∷ rest))
 
   module _ (bytes : List ℕ) (text_is : bytes ≡ text) (shows : (image : Image) → may_leave old image → image.shown ≡ shown old)
-      (goes : GoesShowing tells seen moment left_since may_leave (ShowsText place bytes) old new) where
+      (goes : GoesShowing seen moment left_since may_leave (ShowsText place bytes) old new) where
     anew : (texts : List (List ℕ)) → texts ≡ first ++ was ∷ rest → slice_set texts place bytes ≡ first ++ text ∷ rest
     anew texts same = one_anew first rest was bytes place texts same here ∙ ap (λ (l : List ℕ). first ++ l ∷ rest) text_is
 
@@ -62,11 +62,11 @@ module _ {S : Type 0} (tells : S → Type 0) (seen : S → List ℕ) (shown : S 
     pub one_leaves : LeavesOnly moment left_since start new (IsSafe s book book)
     one_leaves = goes_on moment left_since start old new (IsSafe s book book) (After (OnShown (ShowsText place bytes)) (may_leave old)) so_far.leaves goes.time meanwhile
 
-    pub one_put : shown new ≡ slice_set (shown old) place bytes → IsStarting tells seen shown may_leave moment left_since s contents book start new × (shown new ≡ first ++ text ∷ rest)
-    one_put set_is =
+    pub one_put : tells new → shown new ≡ slice_set (shown old) place bytes → IsStarting tells seen shown may_leave moment left_since s contents book start new × (shown new ≡ first ++ text ∷ rest)
+    one_put told set_is =
         let now : shown new ≡ first ++ text ∷ rest = set_is ∙ anew (shown old) is in (
           record {
-            told = goes.told;
+            told = told;
             file = goes.same ∙ so_far.file;
             durable = λ image left. let a = goes.crash image left in a.stepped.same ∙ (so_far.durable a.from a.was ∙ sym goes.same);
             fronts = subst (λ (l : List (List ℕ)). AreFronts l (map reply_text book.logs)) (sym now) fronts;
@@ -149,14 +149,14 @@ module _ {S T : Type 0} (tells : S → Type 0) (seen : S → List ℕ) (shown : 
 
   -- one feed more is put anew
   pub renewed_one : {E : Type 0} (new : S) (result : Result (Unit {0}) E) → PutsOne tells seen shown may_leave moment left_since watched place mid new result → IsKeptIn s contents book
-      → LeavesOnly moment left_since start new (IsSafe s book book)
+      → LeavesOnly moment left_since start new (IsSafe s book book) × tells new
       × OnOk result (IsStarting tells seen shown may_leave moment left_since s contents book start new × (shown new ≡ map log_text (take (place + 1) feeds) ++ drop (place + 1) (shown old)))
   renewed_one new (Ok u) puts kept =
       let step = puts s contents book start (map log_text (take place feeds)) (drop (place + 1) (shown old)) (get_or (shown old) place []) here split longer fronts kept now in
-      (step.0, (step.1.0, step.1.1 ∙ texts))
+      (step.0, step.1, (step.2.0, step.2.1 ∙ texts))
   renewed_one new (Err e) puts kept =
       let step = puts s contents book start (map log_text (take place feeds)) (drop (place + 1) (shown old)) (get_or (shown old) place []) here split longer fronts kept now in
-      (step.0, tt)
+      (step.0, step.1, tt)
 
 pub all_renewed : {T : Type 0} (feeds : List (Watched T)) (many : ℕ) (logs : List (List LogItem)) (old now : List (List ℕ)) → length feeds ≤ many → logs ≡ map all_items feeds → AreFronts old (map reply_text logs)
     → now ≡ map log_text (take many feeds) ++ drop many old → now ≡ map reply_text logs

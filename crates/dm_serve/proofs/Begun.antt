@@ -8,13 +8,13 @@ use Rattle.dm_outside.proofs.Printing.{risen_since}
 use Rattle.dm_cert.specs.declared.replies.LogItem.{LogItem}
 use Rattle.dm_cert.specs.Answers.{Setting}
 use Rattle.dm_store.specs.Blocks.{is_crash_end, is_new, refusal}
-use Rattle.dm_store.specs.Calls.{Image, IsOfStore, LeavesOnly}
+use Rattle.dm_store.specs.Calls.{AreFronts, Image, IsOfStore, LeavesOnly}
 use Rattle.dm_store.specs.Journals.{IsAtRest, IsBeforeOrAfter, IsFound, IsJudged, IsOfCommit, Keeps, StillKeeps}
 use Rattle.dm_store.specs.declared.faults.StoreError.{StoreError}
 use Rattle.dm_store.specs.declared.faults.StoreError.TheVariants as error
 use Rattle.dm_store.specs.declared.journal.Journal.{Journal}
 use Rattle.dm_store.proofs.Moments.{and_then, weaker}
-use Rattle.dm_book.specs.Books.{AreFronts, AreRecorded, Book, IsBookIn, IsFrontBook, IsSafe, head_text, reply_text}
+use Rattle.dm_book.specs.Books.{AreRecorded, Book, IsBookIn, IsFrontBook, IsSafe, head_text, reply_text}
 use Rattle.dm_restore.specs.declared.heads.Head.{Head}
 use Rattle.dm_restore.specs.declared.stops.RestoreStop.TheVariants as why
 use Rattle.dm_watch.specs.Rounds.{book_in}

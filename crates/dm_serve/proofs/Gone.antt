@@ -1,13 +1,13 @@
 -- Rounds, one after another: a book grows, and a crash leaves one that goes on from the first.
-use Rattle.std.proofs.Common.{◌≡◌, ℕ, ◌≤◌, inl, inr, Bool, List, [], ◌∷◌, ◌++◌, length, map, Option, Result, Ok, sym, ap, subst, ◌∙◌, arith, append_assoc, All}
+use Rattle.std.proofs.Common.{◌≡◌, ℕ, ◌≤◌, inl, inr, Bool, List, length, map, Option, Result, Ok, sym, ap, subst, ◌∙◌, arith, All}
 use Rattle.std.proofs.lemmas.List.{length-append}
-use mathlib.Core.List.{IsPrefix}
 use Rattle.dm_outside.specs.Faults.{HasRisen}
 use Rattle.dm_cert.specs.Answers.{Setting}
 use Rattle.dm_store.specs.Calls.{Image, LeavesOnly}
+use Rattle.dm_store.specs.Fronts.{front_of_front, fronts_of_fronts}
 use Rattle.dm_store.specs.declared.journal.Journal.{Journal}
 use Rattle.dm_store.proofs.Moments.{and_then, weaker}
-use Rattle.dm_book.specs.Books.{AreFronts, Book, IsFrontBook, IsSafe}
+use Rattle.dm_book.specs.Books.{Book, IsFrontBook, IsSafe}
 use Rattle.dm_network.specs.Net.{Net}
 use Rattle.dm_table.specs.Value.{TableValue}
 use Rattle.dm_table_desk.specs.Tables.{setting_of}
@@ -23,19 +23,9 @@ use Rattle.dm_watch.specs.declared.stops.RoundStop.TheVariants as round
 use Rattle.dm_serve.specs.Ends.{IsFullOf}
 use Rattle.dm_serve.specs.Lives.{LivesOn}
 use Rattle.dm_serve.specs.Inside.Stages.{HasGone, IsGoing, StopsGoing}
+use Rattle.dm_serve.proofs.Stays.{ShowsOn, shown_stays}
 
 -- ---- books that grow
-
-front_of_front : {A : Type 0} (xs ys zs : List A) → IsPrefix xs ys → IsPrefix ys zs → IsPrefix xs zs
-front_of_front xs ys zs p q = (p.0 ++ q.0, sym (append_assoc xs p.0 q.0) ∙ (ap (λ (w : List _). w ++ q.0) p.1 ∙ q.1))
-
-pub fronts_of_fronts : {X : Type 0} (one more most : List (List X)) → AreFronts one more → AreFronts more most → AreFronts one most
-fronts_of_fronts [] [] [] p q = tt
-fronts_of_fronts [] [] (z ∷ zs) p q = absurd q
-fronts_of_fronts [] (y ∷ ys) zs p q = absurd p
-fronts_of_fronts (x ∷ xs) [] zs p q = absurd p
-fronts_of_fronts (x ∷ xs) (y ∷ ys) [] p q = absurd q
-fronts_of_fronts (x ∷ xs) (y ∷ ys) (z ∷ zs) p q = (front_of_front x y z p.0 q.0, fronts_of_fronts xs ys zs p.1 q.1)
 
 pub grows_on : (one more most : Book) → IsFrontBook one more → IsFrontBook more most → IsFrontBook one most
 grows_on one more most p q = record {
@@ -91,8 +81,17 @@ module _ {S T : Type 0} (tells : S → Type 0) (seen : S → List ℕ) (shown : 
       (weaker moment left_since start old.store (IsSafe s first (book_in watch)) (IsSafe s first r.after) gone.leaves (safe_on s first (book_in watch) r.after r.grows))
       (weaker moment left_since old.store new.store (IsSafe s (book_in watch) r.after) (IsSafe s first r.after) r.leaves (safe_more s first (book_in watch) r.after gone.grows))
 
-  pub round_lives : (sources : List (Option (List ℕ))) (result : Result (Watch T × Bool) RoundStop) → Rounds tells seen shown may_leave moment left_since s sources (book_in watch) old new result → LivesOn moment left_since s first sources start new.store
-  round_lives sources result r = record { last = r.after; leaves = round_leaves sources result r; answers = inr r.answers }
+  pub round_lives : (sources : List (Option (List ℕ))) (result : Result (Watch T × Bool) RoundStop) → Rounds tells seen shown may_leave moment left_since s sources (book_in watch) old new result → (tells old.store → tells new.store) → ShowsOn tells shown moment left_since
+      → LivesOn shown moment left_since s first sources start new.store
+  round_lives sources result r tell on =
+      let leaves = round_leaves sources result r in
+      record {
+        last = r.after;
+        grows = grows_on first (book_in watch) r.after gone.grows r.grows;
+        leaves = leaves;
+        shows = shown_stays tells shown moment left_since on start new.store leaves.later (tell gone.settled.settled.rest.told);
+        answers = inr r.answers;
+      }
 
   -- where it was finished
   pub round_gone : (sources : List (Option (List ℕ))) (now : Watch T) (is_new : Bool) → Rounds tells seen shown may_leave moment left_since s sources (book_in watch) old new (Ok (now, is_new)) → HasGone tells seen shown may_leave moment left_since s first now start new
@@ -136,13 +135,13 @@ module _ {S T : Type 0} (tells : S → Type 0) (seen : S → List ℕ) (shown : 
       (contents : List (List ℕ)) → AreSettled tells seen shown may_leave (setting_of watch.desk.plans watch.desk.table) contents (map all_items watch.feeds.items) old
       → Rounds tells seen shown may_leave moment left_since (setting_of watch.desk.plans watch.desk.table) sources (book_in watch) old new result
 
-  pub once_lives : (sources : List (Option (List ℕ))) (result : Result (Watch T × Bool) RoundStop) → RoundsOf sources result → (s : Setting) (first : Book) (start : S) → setting_of watch.desk.plans watch.desk.table ≡ s → GoneOver s first start watch old
-      → LivesOn moment left_since s first sources start new.store
-  once_lives sources result rounds s first start is gone =
+  pub once_lives : (sources : List (Option (List ℕ))) (result : Result (Watch T × Bool) RoundStop) → RoundsOf sources result → (tells old.store → tells new.store) → ShowsOn tells shown moment left_since → (s : Setting) (first : Book) (start : S)
+      → setting_of watch.desk.plans watch.desk.table ≡ s → GoneOver s first start watch old → LivesOn shown moment left_since s first sources start new.store
+  once_lives sources result rounds tell on s first start is gone =
       let s0 : Setting = setting_of watch.desk.plans watch.desk.table in
       let here : GoneOver s0 first start watch old = subst (λ (x : Setting). GoneOver x first start watch old) (sym is) gone in
-      subst (λ (x : Setting). LivesOn moment left_since x first sources start new.store) is
-      (round_lives tells seen shown may_leave moment left_since s0 first start watch old new here sources result (rounds here.settled.contents here.settled.settled))
+      subst (λ (x : Setting). LivesOn shown moment left_since x first sources start new.store) is
+      (round_lives tells seen shown may_leave moment left_since s0 first start watch old new here sources result (rounds here.settled.contents here.settled.settled) tell on)
 
   pub once_gone : (sources : List (Option (List ℕ))) (now : Watch T) (is_new : Bool) → RoundsOf sources (Ok (now, is_new)) → (s : Setting) (first : Book) (start : S) → setting_of watch.desk.plans watch.desk.table ≡ s → GoneOver s first start watch old
       → GoneOver s first start now new

@@ -1,5 +1,7 @@
 -- What a crash leaves at a start.
 pub mod Safe
+-- What was shown stays.
+pub mod Stays
 -- A store that is only looked at.
 pub mod Looked
 -- What a store holds, read back.

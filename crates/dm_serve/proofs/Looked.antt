@@ -28,16 +28,16 @@ module _ {S : Type 0} (tells : S → Type 0) (seen : S → List ℕ) (shown : S 
         (found_leaves tells seen shown may_leave moment left_since s feeds store contents first t (λ image left. shows store image t.found.told left) (λ image left. only store image t.found.told left), t),
   )
 
-  pub looks_once : Shows → Only → (old new : S) → (tells old → seen new ≡ seen old) → (tells old → AddsNone (may_leave old) (may_leave new)) → (tells old → Goes tells shown moment left_since may_leave old new)
+  pub looks_once : Shows → Only → (old new : S) → (tells old → tells new) → (tells old → seen new ≡ seen old) → (tells old → AddsNone (may_leave old) (may_leave new)) → (tells old → Goes shown moment left_since may_leave old new)
       → Looks tells seen shown may_leave moment left_since old new
-  looks_once shows only old new same none goes = (
-    λ told. ((goes told).told, record { journal = same told; replies = (goes told).same; none = none told }),
+  looks_once shows only old new tell same none goes = (
+    λ told. (tell told, record { journal = same told; replies = (goes told).same; none = none told }),
     λ s feeds contents first t.
         let told = t.found.told in (
           looked tells seen shown may_leave moment left_since s old new (none told) (goes told) old (IsSafe s first first)
               (found_leaves tells seen shown may_leave moment left_since s feeds old contents first t (λ image left. shows old image told left) (λ image left. only old image told left))
               (safe_found tells seen shown may_leave moment left_since s feeds old contents first t (λ image left. shows old image told left)),
-          found_still tells seen shown may_leave moment left_since s old new (none told) (goes told) (same told) feeds contents first t,
+          found_still tells seen shown may_leave moment left_since s old new (none told) (goes told) (tell told) (same told) feeds contents first t,
         ),
   )
 

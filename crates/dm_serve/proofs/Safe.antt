@@ -2,10 +2,10 @@
 use Rattle.std.proofs.Common.{◌≡◌, ℕ, List, map, refl, sym, subst, ◌∙◌, inr}
 use Rattle.dm_cert.specs.Answers.{Setting}
 use Rattle.dm_store.specs.Blocks.{Stands, at_rest}
-use Rattle.dm_store.specs.Calls.{AddsNone, Goes, Image, LeavesOnly}
+use Rattle.dm_store.specs.Calls.{AreFronts, AddsNone, Goes, Image, LeavesOnly}
 use Rattle.dm_store.specs.Journals.{HasCrashEnd}
 use Rattle.dm_store.proofs.Moments.{goes_on, started}
-use Rattle.dm_book.specs.Books.{AreFronts, Book, IsBookIn, IsSafe, IsTrueBook, reply_text}
+use Rattle.dm_book.specs.Books.{Book, IsBookIn, IsSafe, IsTrueBook, reply_text}
 use Rattle.dm_watch.proofs.Fronts.{book_of_itself}
 use Rattle.dm_watch.proofs.Safe.{rest_keeps}
 use Rattle.dm_serve.specs.Lives.{IsTakenUp}
@@ -48,15 +48,15 @@ module _ {S : Type 0} (tells : S → Type 0) (seen : S → List ℕ) (shown : S 
 
   -- ---- a call that changes nothing
 
-  module _ (old new : S) (none : AddsNone (may_leave old) (may_leave new)) (goes : Goes tells shown moment left_since may_leave old new) where
+  module _ (old new : S) (none : AddsNone (may_leave old) (may_leave new)) (goes : Goes shown moment left_since may_leave old new) where
     pub looked : (start : S) (P : Image → Type 0) → LeavesOnly moment left_since start old P → ((image : Image) → may_leave old image → P image) → LeavesOnly moment left_since start new P
     looked start P leaves here = goes_on moment left_since start old new P (may_leave new) leaves goes.time (λ image left. here image (none image left))
 
-    module _ (same : seen new ≡ seen old) where
+    module _ (told : tells new) (same : seen new ≡ seen old) where
       pub found_still : (feeds : ℕ) (contents : List (List ℕ)) (first : Book) → IsTakenUp tells seen shown may_leave s feeds old contents first → IsTakenUp tells seen shown may_leave s feeds new contents first
       found_still feeds contents first t = record {
         found = record {
-          told = goes.told;
+          told = told;
           stands = subst (Stands contents) (sym same) t.found.stands;
           durable = λ image left. t.found.durable image (none image left) ∙ sym same;
         };
@@ -68,7 +68,7 @@ module _ {S : Type 0} (tells : S → Type 0) (seen : S → List ℕ) (shown : S 
       pub starting_still : (contents : List (List ℕ)) (book : Book) (start : S) → IsKeptIn s contents book → ((image : Image) → may_leave old image → image.shown ≡ shown old)
           → IsStarting tells seen shown may_leave moment left_since s contents book start old → IsStarting tells seen shown may_leave moment left_since s contents book start new
       starting_still contents book start kept shows now = record {
-        told = goes.told;
+        told = told;
         file = same ∙ now.file;
         durable = λ image left. now.durable image (none image left) ∙ sym same;
         fronts = subst (λ (l : List (List ℕ)). AreFronts l (map reply_text book.logs)) (sym goes.same) now.fronts;

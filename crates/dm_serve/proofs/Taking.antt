@@ -23,6 +23,8 @@ use Rattle.dm_serve.specs.Inside.Replies.{Looks}
 use Rattle.dm_serve.specs.Inside.Stages.{AllGoOn, HasGoneSince, IsReadBack, TakesUp}
 use Rattle.dm_serve.proofs.Begun.{gone_since}
 use Rattle.dm_serve.proofs.Standing.{same_logs}
+use Rattle.dm_watch.proofs.Fronts.{book_of_itself}
+use Rattle.dm_serve.proofs.Stays.{ShowsOn, shown_stays}
 
 -- the logs of a watch have spellings
 pub spelled_feeds : {T : Type 0} (given : T → Option (List ℕ)) (desk : DeskValue) (feeds : List (Watched T)) → IsWatching given desk feeds → All (λ (w : Watched T). All IsSpelledItem w.log.items) feeds
@@ -41,8 +43,16 @@ spelled_logs logs spelled = λ place d low.
 
 module _ {S : Type 0} (tells : S → Type 0) (seen : S → List ℕ) (shown : S → List (List ℕ)) (may_leave : S → Image → Type 0) (moment : S → ℕ) (left_since : S → ℕ → Image → Type 0) (s : Setting) (n : ℕ) where
   -- a store that was only looked at
-  pub looked_keeps : (sources : List (Option (List ℕ))) (old new : S) → Looks tells seen shown may_leave moment left_since old new → KeepsBooks tells seen shown may_leave moment left_since s n sources old new
-  looked_keeps sources old new looks = λ contents first t. record { last = first; leaves = (looks.1 s n contents first t).0; answers = inl refl }
+  pub looked_keeps : ShowsOn tells shown moment left_since → (sources : List (Option (List ℕ))) (old new : S) → Looks tells seen shown may_leave moment left_since old new → KeepsBooks tells seen shown may_leave moment left_since s n sources old new
+  looked_keeps on sources old new looks = λ contents first t.
+      let leaves = (looks.1 s n contents first t).0 in
+      record {
+        last = first;
+        grows = book_of_itself first;
+        leaves = leaves;
+        shows = shown_stays tells shown moment left_since on old new leaves.later (looks.0 t.found.told).0;
+        answers = inl refl;
+      }
 
   -- by another name of the book
   pub read_back_as : (book other : Book) (is_new : Bool) (start mid : S) → book ≡ other → IsReadBack tells seen shown may_leave moment left_since s n book is_new start mid → IsReadBack tells seen shown may_leave moment left_since s n other is_new start mid
@@ -51,23 +61,28 @@ module _ {S : Type 0} (tells : S → Type 0) (seen : S → List ℕ) (shown : S 
   module _ {T : Type 0} (E : Type 0) (faults : S → ℕ) (head : Head) (is_new : Bool) (watch : Watch T) (start : S) (old new : Journal S) (penalty : s.penalty ≡ head.penalty) (plans : s.plans ≡ head.plans) (feeds : head.feeds ≡ n)
       (back : IsReadBack tells seen shown may_leave moment left_since s n (book_in watch) is_new start old.store) where
     taken_at : (result : Result (Unit {0}) E) → TakesUp tells seen shown may_leave moment left_since head is_new watch.feeds.items old new result → (contents : List (List ℕ)) (first : Book)
-        → IsTakenUp tells seen shown may_leave s n start contents first → LeavesOnly moment left_since old.store new.store (IsSafe s first first) × OnOk result (HaveSettled tells seen shown may_leave s first.logs new)
+        → IsTakenUp tells seen shown may_leave s n start contents first → LeavesOnly moment left_since old.store new.store (IsSafe s first first) × tells new.store × OnOk result (HaveSettled tells seen shown may_leave s first.logs new)
     taken_at result takes contents first t =
         let f = back.finds contents first t in
         let l = back.looks.1 s n contents first t in
         takes s contents first penalty plans f.1 (sym (ap (λ (b : Book). b.logs) f.0)) (subst (λ (m : ℕ). IsTakenUp tells seen shown may_leave s m old.store contents first) (sym feeds) l.1)
 
     -- whether it was taken up or not
-    pub taken_keeps : (result : Result (Unit {0}) E) → TakesUp tells seen shown may_leave moment left_since head is_new watch.feeds.items old new result → (sources : List (Option (List ℕ)))
+    pub taken_keeps : ShowsOn tells shown moment left_since → (result : Result (Unit {0}) E) → TakesUp tells seen shown may_leave moment left_since head is_new watch.feeds.items old new result → (sources : List (Option (List ℕ)))
         → KeepsBooks tells seen shown may_leave moment left_since s n sources start new.store
-    taken_keeps result takes sources = λ contents first t. record {
-      last = first;
-      leaves = and_then moment left_since start old.store new.store (IsSafe s first first) (back.looks.1 s n contents first t).0 (taken_at result takes contents first t).0;
-      answers = inl refl;
-    }
+    taken_keeps on result takes sources = λ contents first t.
+        let taken = taken_at result takes contents first t in
+        let leaves = and_then moment left_since start old.store new.store (IsSafe s first first) (back.looks.1 s n contents first t).0 taken.0 in
+        record {
+          last = first;
+          grows = book_of_itself first;
+          leaves = leaves;
+          shows = shown_stays tells shown moment left_since on start new.store leaves.later taken.1;
+          answers = inl refl;
+        }
 
     -- where it was
     pub taken_since : TakesUp {E = E} tells seen shown may_leave moment left_since head is_new watch.feeds.items old new (Ok tt) → HasGoneSince tells seen shown may_leave moment left_since s n watch start new
     taken_since takes = λ contents first t.
         let h = taken_at (Ok tt) takes contents first t in
-        gone_since tells seen shown may_leave moment left_since faults s first start old.store watch new (back.looks.1 s n contents first t).0 h.0 (back.finds contents first t).0 h.1
+        gone_since tells seen shown may_leave moment left_since faults s first start old.store watch new (back.looks.1 s n contents first t).0 h.0 (back.finds contents first t).0 h.2

@@ -3,10 +3,10 @@ use Rattle.std.specs.Prelude.{ℕ, ◌≡◌, ◌⊎◌, List, [], length, map, 
 use Rattle.dm_cert.specs.Answers.{Setting}
 use Rattle.dm_input.specs.Input.{Opening, OpeningAnswer, Told}
 use Rattle.dm_words.specs.Serving.{ServerAsked}
-use Rattle.dm_store.specs.Calls.{AddsNone, Image, LeavesOnly}
+use Rattle.dm_store.specs.Calls.{AreFronts, AddsNone, Image, LeavesOnly}
 use Rattle.dm_store.specs.Journals.{HasCrashEnd, IsFound}
 use Rattle.dm_store.specs.declared.journal.Journal.{Journal}
-use Rattle.dm_book.specs.Books.{AreFronts, Book, IsSafe, reply_text}
+use Rattle.dm_book.specs.Books.{Book, IsFrontBook, IsSafe, reply_text}
 use Rattle.dm_tail.specs.Sources.{AnswerFronts}
 use Rattle.dm_tail.specs.declared.tail.Tail.{Tail}
 use Rattle.dm_restore.specs.Restoring.{IsRestored}
@@ -48,12 +48,15 @@ AreFeedsOf source sources tails = (tails ≡ []) ⊎ (map (tail_source source) t
 
 -- ---- one life
 
--- Whatever a crash left at any moment of a life is safe between the first book and one last book, which is the same for all moments.
--- Nothing was answered in that life, or each log of the last book answers a front of its own feed's source.
-pub record LivesOn {S : Type 0} (moment : S → ℕ) (left_since : S → ℕ → Image → Type 0) (s : Setting) (first : Book)
-    (sources : List (Option (List ℕ))) (old new : S) : Type 0 where
+-- Whatever a crash left at any moment of a life is safe between the first book and one last book, which is the same for all moments and
+-- goes on from the first. What was shown then is a front of what is shown at the end. Nothing was answered in that life, or each log
+-- of the last book answers a front of its own feed's source.
+pub record LivesOn {S : Type 0} (shown : S → List (List ℕ)) (moment : S → ℕ) (left_since : S → ℕ → Image → Type 0) (s : Setting)
+    (first : Book) (sources : List (Option (List ℕ))) (old new : S) : Type 0 where
   pub last : Book
+  pub grows : IsFrontBook first last
   pub leaves : LeavesOnly moment left_since old new (IsSafe s first last)
+  pub shows : LeavesOnly moment left_since old new (λ image. AreFronts image.shown (shown new))
   pub answers : (last ≡ first) ⊎ AnswerFronts sources last.logs
 
 -- Whatever true book was found, the life goes on from it.
@@ -61,7 +64,7 @@ abbrev pub KeepsBooks : {S : Type 0} → (S → Type 0) → (S → List ℕ) →
     (S → ℕ → Image → Type 0) → Setting → ℕ → List (Option (List ℕ)) → S → S → Type 0
 KeepsBooks tells seen shown may_leave moment left_since s feeds sources old new =
     (contents : List (List ℕ)) (first : Book) → IsTakenUp tells seen shown may_leave s feeds old contents first →
-    LivesOn moment left_since s first sources old new
+    LivesOn shown moment left_since s first sources old new
 
 -- The files under the names of the words determine a network and start rows, over which books are kept.
 pub record KeepsBooksOver {S : Type 0} (tells : S → Type 0) (seen : S → List ℕ) (shown : S → List (List ℕ))

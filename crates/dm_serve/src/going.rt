@@ -100,7 +100,7 @@ fn go_once<'n, T: Growing + Drop, S: Store, P: Fn(&Snapshot, u64) -> Result<Plan
     ensures leaves { (s : Setting) (first : Book) (start : S)
         → setting_of watch.entry.desk.plans watch.entry.desk.table ≡ s
         → HasGone S.tells S.seen S.shown S.may_leave S.moment S.left_since s first watch.entry start journal.old
-        → LivesOn S.moment S.left_since s first (map (source_in T.source) watch.entry.feeds.items) start journal.new.store }
+        → LivesOn S.shown S.moment S.left_since s first (map (source_in T.source) watch.entry.feeds.items) start journal.new.store }
     ensures sources { IfOk result (λ r. map (source_in T.source) r.0.feeds.items ≡ map (source_in T.source) watch.entry.feeds.items) }
     ensures none_left { IfOk result (λ r. r.1 ≡ false → 0 < watch.entry.batch → All HasNoneLeft r.0.feeds.items) }
     ensures batch { IfOk result (λ r. r.0.batch ≡ watch.entry.batch) }

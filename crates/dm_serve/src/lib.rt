@@ -13,8 +13,8 @@
 //!
 //! - `any_moment`, over a store that tells what a crash may leave: a crash at any moment leaves a journal with a true book
 //!   between the one that was found and one last book, the same for all moments. Whatever a reply file showed by then is a front
-//!   of that book's logs. Each log of the last book answers a front of its own feed's source, unless nothing was answered
-//!   (`LivesSafely`).
+//!   of that book's logs, and of what it shows at the end. Each log of the last book answers a front of its own feed's source,
+//!   unless nothing was answered (`LivesSafely`).
 //! - `headline`, at status Ok: the text is that of a true run in version 2 that goes on from what was found, and is the last book
 //!   of the life. All of it is in the journal and in the reply files. Each log answers the due lines of all lines that end of its
 //!   feed, each once and in order. The boards are up with the run's times (`IsDayOf`).

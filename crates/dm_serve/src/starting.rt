@@ -116,6 +116,7 @@ fn put_right<S: Store>(
     journal: &mut Journal<S>,
 ) -> Result<(), StartStop>
     ensures right { PutsRight S.tells S.seen S.shown S.may_leave S.moment S.left_since head is_new journal.old journal.new result }
+    ensures told { S.tells journal.old.store → S.tells journal.new.store }
     ensures stops { IfErr result (StopsPutting S.tells S.seen S.shown S.may_leave S.faults journal.old.store journal.new.store) }
     ensures later { S.faults journal.old.store ≤ S.faults journal.new.store }
 {

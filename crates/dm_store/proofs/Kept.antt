@@ -2,13 +2,13 @@
 use Rattle.std.proofs.Common.{◌≡◌, ◌⊎◌, inl, inr, ℕ, ◌+◌, ◌<◌, ◌≤◌, List, [], ◌∷◌, ◌++◌, length, take, get_or, Vec, refl, sym, ◌∙◌, ap, subst, arith, length-append, length-set, slice_set}
 use Rattle.std.proofs.lemmas.Bool.{cases_lt}
 use Rattle.std.proofs.lemmas.List.{take_all, take_more, take-append-le}
-use Rattle.dm_store.specs.Calls.{Image, After, OnJournal, OnShown, Torn, Cut, Follows, Elapses, ShowsFront, ShowsText, written}
+use Rattle.dm_store.specs.Calls.{Image, After, GoesOnAs, OnJournal, OnShown, Torn, Cut, Follows, Elapses, ShowsFront, ShowsText, written}
 use Rattle.std.specs.declared.alloc.Global.{Global}
 use Rattle.dm_store.proofs.Tearing.{torn_front, cut_front}
 use Rattle.dm_store.specs.declared.memory.Done.{Done}
 use Rattle.dm_store.specs.declared.memory.Done.TheVariants.{Wrote, CutTo, Synced, Showed, Renewed}
 use Rattle.dm_store.specs.declared.memory.MemStore.{MemStore}
-use Rattle.dm_store.specs.Memory.{LeftSince, outcomes, step_of, first_image, shown_then, shown_after, seen_of, shown_of, was_shown_of, left_of, tells_of}
+use Rattle.dm_store.specs.Memory.{GoesOnIn, HasGoneOn, LeftSince, outcomes, step_of, first_image, shown_then, shown_after, seen_of, shown_of, was_shown_of, left_of, tells_of}
 
 last_back : (before : Image → Type 0) (calls : List Done) (call : Done) (image : Image) → outcomes before (calls ++ call ∷ []) image → After (step_of call) (outcomes before calls) image
 last_back before [] call image left = left
@@ -46,6 +46,10 @@ pub one_more : (before : Image → Type 0) (calls : List Done) (i : ℕ) (call :
 one_more before calls i call from image low is was step =
     subst (λ (cs : List Done). outcomes before cs image) (ap (λ (c : Done). take i calls ++ c ∷ []) is ∙ sym (take_more calls i call low))
     (last_there before (take i calls) call image (record { from = from; was = was; stepped = step }))
+
+gone_on_last : (shown : List (List ℕ)) (calls : List Done) (call : Done) → HasGoneOn shown calls → GoesOnIn call (shown_after shown calls) → HasGoneOn shown (calls ++ call ∷ [])
+gone_on_last shown [] call on here = (here, tt)
+gone_on_last shown (c ∷ calls) call on here = (on.0, gone_on_last (shown_then c shown) calls call on.1 here)
 
 module _ (m : MemStore) where
   abbrev first : Image → Type 0
@@ -96,36 +100,39 @@ module _ (m : MemStore) where
           left = subst (λ (cs : List Done). outcomes first cs image) (sym (front past.count past.to)) past.left;
         }
 
-    -- what a read returns may be left still
+    -- the store tells on, where a read returns this then
+    abbrev Tells : List ℕ → Type 0
+    Tells seen = outcomes first more (record { journal = seen; shown = shown_after (was_shown_of m) more }) × HasGoneOn (was_shown_of m) more
+
     told_more : (seen : List ℕ) → tells_of m → step_of call (record { journal = seen_of m; shown = shown_of m }) (record { journal = seen; shown = shown_then call (shown_of m) }) →
-        outcomes first more (record { journal = seen; shown = shown_after (was_shown_of m) more })
-    told_more seen told step =
-        subst (λ (cs : List Done). outcomes first cs (record { journal = seen; shown = shown_after (was_shown_of m) more })) (sym is)
-        (subst (λ (s : List (List ℕ)). outcomes first (calls ++ call ∷ []) (record { journal = seen; shown = s })) (sym shown_more)
-        (last_there first calls call (record { journal = seen; shown = shown_then call (shown_of m) })
-        (record { from = record { journal = seen_of m; shown = shown_of m }; was = told; stepped = step })))
+        GoesOnIn call (shown_of m) → Tells seen
+    told_more seen told step on = (
+      subst (λ (cs : List Done). outcomes first cs (record { journal = seen; shown = shown_after (was_shown_of m) more })) (sym is)
+          (subst (λ (s : List (List ℕ)). outcomes first (calls ++ call ∷ []) (record { journal = seen; shown = s })) (sym shown_more)
+          (last_there first calls call (record { journal = seen; shown = shown_then call (shown_of m) })
+          (record { from = record { journal = seen_of m; shown = shown_of m }; was = told.0; stepped = step }))),
+      subst (HasGoneOn (was_shown_of m)) (sym is) (gone_on_last (was_shown_of m) calls call told.1 on),
+    )
 
   -- ---- each kind of call
 
   module _ (at : ℕ) (copy : Vec ℕ Global) (more : List Done) (is : more ≡ calls ++ Wrote at copy ∷ []) (bytes : List ℕ) (same : copy.items ≡ bytes) where
-    pub told_written : (new : List ℕ) → at ≤ length (seen_of m) → new ≡ written (seen_of m) at bytes → tells_of m →
-        outcomes first more (record { journal = new; shown = shown_after (was_shown_of m) more })
+    pub told_written : (new : List ℕ) → at ≤ length (seen_of m) → new ≡ written (seen_of m) at bytes → tells_of m → Tells (Wrote at copy) more is new
     told_written new fits wrote told =
         told_more (Wrote at copy) more is new told
-        (record { journal = subst (Torn at (length copy.items) (seen_of m)) (sym wrote) (torn_front (seen_of m) bytes at (length copy.items) fits (omega (arith, ap length same))); same = refl })
+        (record { journal = subst (Torn at (length copy.items) (seen_of m)) (sym wrote) (torn_front (seen_of m) bytes at (length copy.items) fits (omega (arith, ap length same))); same = refl }) tt
 
     pub written_follows : Follows (OnJournal (Torn at (length bytes))) (left_of m) (outcomes first more)
     written_follows = λ image left. subst (λ (xs : List ℕ). After (OnJournal (Torn at (length xs))) (left_of m) image) same (outcome_back (Wrote at copy) more is image left)
 
   module _ (len : ℕ) (more : List Done) (is : more ≡ calls ++ CutTo len ∷ []) where
-    pub told_cut : (new : List ℕ) → len ≤ length (seen_of m) → new ≡ take len (seen_of m) → tells_of m →
-        outcomes first more (record { journal = new; shown = shown_after (was_shown_of m) more })
+    pub told_cut : (new : List ℕ) → len ≤ length (seen_of m) → new ≡ take len (seen_of m) → tells_of m → Tells (CutTo len) more is new
     told_cut new fits cut told =
-        told_more (CutTo len) more is new told (record { journal = subst (Cut len (seen_of m)) (sym cut) (cut_front (seen_of m) len len (omega arith) fits); same = refl })
+        told_more (CutTo len) more is new told (record { journal = subst (Cut len (seen_of m)) (sym cut) (cut_front (seen_of m) len len (omega arith) fits); same = refl }) tt
 
   module _ (copy : Vec ℕ Global) (more : List Done) (is : more ≡ calls ++ Synced copy ∷ []) (same : copy.items ≡ seen_of m) where
-    pub told_synced : tells_of m → outcomes first more (record { journal = seen_of m; shown = shown_after (was_shown_of m) more })
-    told_synced told = told_more (Synced copy) more is (seen_of m) told (refl, sym same)
+    pub told_synced : tells_of m → Tells (Synced copy) more is (seen_of m)
+    told_synced told = told_more (Synced copy) more is (seen_of m) told (refl, sym same) tt
 
     pub synced_journal : (image : Image) → outcomes first more image → image.journal ≡ seen_of m
     synced_journal image left =
@@ -138,8 +145,8 @@ module _ (m : MemStore) where
         subst (left_of m) (sym after.stepped.0) after.was
 
   module _ (feed : ℕ) (copy : Vec ℕ Global) (more : List Done) (is : more ≡ calls ++ Showed feed copy ∷ []) (bytes rest : List ℕ) (is_front : copy.items ++ rest ≡ bytes) where
-    pub told_showed : tells_of m → outcomes first more (record { journal = seen_of m; shown = shown_after (was_shown_of m) more })
-    told_showed told = told_more (Showed feed copy) more is (seen_of m) told (record { showing = refl; same = refl })
+    pub told_showed : tells_of m → Tells (Showed feed copy) more is (seen_of m)
+    told_showed told = told_more (Showed feed copy) more is (seen_of m) told (record { showing = refl; same = refl }) tt
 
     pub front_shown : ShowsFront feed bytes (shown_of m) (shown_after (was_shown_of m) more)
     front_shown = record { front = copy.items; rest = rest; is_front = is_front; behind = shown_more (Showed feed copy) more is }
@@ -157,8 +164,9 @@ module _ (m : MemStore) where
         }
 
   module _ (feed : ℕ) (copy : Vec ℕ Global) (more : List Done) (is : more ≡ calls ++ Renewed feed copy ∷ []) (text : List ℕ) (is_text : copy.items ≡ text) where
-    pub told_renewed : tells_of m → outcomes first more (record { journal = seen_of m; shown = shown_after (was_shown_of m) more })
-    told_renewed told = told_more (Renewed feed copy) more is (seen_of m) told (record { showing = refl; same = refl })
+    pub told_renewed : tells_of m → GoesOnAs feed (shown_of m) text → Tells (Renewed feed copy) more is (seen_of m)
+    told_renewed told on =
+        told_more (Renewed feed copy) more is (seen_of m) told (record { showing = refl; same = refl }) (subst (GoesOnAs feed (shown_of m)) (sym is_text) on)
 
     pub text_shown : shown_after (was_shown_of m) more ≡ slice_set (shown_of m) feed text
     text_shown = shown_more (Renewed feed copy) more is ∙ ap (slice_set (shown_of m) feed) is_text

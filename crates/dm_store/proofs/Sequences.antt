@@ -62,7 +62,7 @@ module _ {S : Type 0} (tells : S → Type 0) (seen : S → List ℕ) (shown : S 
     Kept old = StillKeeps contents rest (shown old)
 
     pub read_leaves : (old mid : S) → ((image : Image) → left_since old (moment old) image → may_leave old image) → ((image : Image) → may_leave old image → image.shown ≡ shown old) →
-        LeavesJournal file (may_leave old) → AddsNone (may_leave old) (may_leave mid) → Goes tells shown moment left_since may_leave old mid → Leaves old mid (Kept old)
+        LeavesJournal file (may_leave old) → AddsNone (may_leave old) (may_leave mid) → Goes shown moment left_since may_leave old mid → Leaves old mid (Kept old)
     read_leaves old mid now shows durable none goes =
         let here : (image : Image) → may_leave old image → Kept old image = λ image left. unchanged contents file rest split ends end is_there (shown old) image (durable image left) (shows image left) in
         goes_on moment left_since old old mid (Kept old) (may_leave mid) (started moment left_since old (Kept old) (λ image left. here image (now image left))) goes.time
@@ -84,12 +84,12 @@ module _ {S : Type 0} (tells : S → Type 0) (seen : S → List ℕ) (shown : S 
 
   pub read_stage : (contents : List (List ℕ)) (old new : S) (found : IsFound tells seen may_leave contents old) →
       ((image : Image) → left_since old (moment old) image → may_leave old image) → ((image : Image) → may_leave old image → image.shown ≡ shown old) →
-      seen new ≡ seen old → AddsNone (may_leave old) (may_leave new) → Goes tells shown moment left_since may_leave old new →
+      tells new → seen new ≡ seen old → AddsNone (may_leave old) (may_leave new) → Goes shown moment left_since may_leave old new →
       (result : Result (Vec ℕ Global × ℕ) StoreError) → ReadsBlocks contents found.stands.end (seen old) result →
       IsRead tells seen shown may_leave moment left_since contents found.stands.end old new result
-  read_stage contents old new found only shows same none goes result judged = record {
+  read_stage contents old new found only shows told same none goes result judged = record {
     same = goes.same;
-    settled = record { told = goes.told; reads = same; durable = λ image left. found.durable image (none image left) };
+    settled = record { told = told; reads = same; durable = λ image left. found.durable image (none image left) };
     leaves = read_leaves contents (seen old) found.stands.end found.stands.split found.stands.is_end (length (flat_map block contents)) refl old new only shows found.durable none goes;
     none = none;
     judged = judged;

@@ -1,6 +1,6 @@
 -- What the calls of a store do, and what a crash at any moment may leave. A store is seen through functions that its trait
 -- names: what a read returns, what was shown, what a crash may leave, the moment, and the faults.
-use Rattle.std.specs.Prelude.{◌≡◌, ◌⊎◌, ℕ, ◌+◌, ◌≤◌, min, max, List, [], ◌++◌, length, take, drop, Result, IsErrOf, IfErr, ⊤, slice_set, slice_index_or}
+use Rattle.std.specs.Prelude.{◌≡◌, ◌⊎◌, ℕ, ◌+◌, ◌≤◌, min, max, List, [], ◌∷◌, ◌++◌, length, take, drop, Result, IsErrOf, IfErr, ⊤, slice_set, slice_index_or}
 use mathlib.Core.List.{IsPrefix}
 use Rattle.dm_outside.specs.Faults.{HasRisen}
 use Rattle.dm_store.specs.declared.faults.StoreError.{StoreError}
@@ -68,21 +68,26 @@ pub record LeavesOnly {S : Type 0} (moment : S → ℕ) (left_since : S → ℕ 
   -- for a run that began earlier
   pub before : (t : ℕ) (image : Image) → t ≤ moment old → left_since new t image → left_since old t image ⊎ P image
 
--- A call on the journal: the store tells as before and shows the same, and time goes on.
-pub record Goes {S : Type 0} (tells : S → Type 0) (shown : S → List (List ℕ)) (moment : S → ℕ) (left_since : S → ℕ → Image → Type 0)
+-- A call on the journal: the store shows the same, and time goes on.
+pub record Goes {S : Type 0} (shown : S → List (List ℕ)) (moment : S → ℕ) (left_since : S → ℕ → Image → Type 0)
     (may_leave : S → Image → Type 0) (old new : S) : Type 0 where
-  pub told : tells new
   pub same : shown new ≡ shown old
   pub time : Elapses (moment old) (moment new) (left_since old) (left_since new) (may_leave new)
 
--- A call on a reply file: the store tells as before, the journal stays, and time goes on. A crash leaves what it might have
--- left before, with what is shown after this step.
-pub record GoesShowing {S : Type 0} (tells : S → Type 0) (seen : S → List ℕ) (moment : S → ℕ) (left_since : S → ℕ → Image → Type 0)
+-- A call on a reply file: the journal stays, and time goes on. A crash leaves what it might have left before, with what is shown
+-- after this step.
+pub record GoesShowing {S : Type 0} (seen : S → List ℕ) (moment : S → ℕ) (left_since : S → ℕ → Image → Type 0)
     (may_leave : S → Image → Type 0) (step : List (List ℕ) → List (List ℕ) → Type 0) (old new : S) : Type 0 where
-  pub told : tells new
   pub same : seen new ≡ seen old
   pub crash : Follows (OnShown step) (may_leave old) (may_leave new)
   pub time : Elapses (moment old) (moment new) (left_since old) (left_since new) (After (OnShown step) (may_leave old))
+
+-- for as many feeds, each list is a front of the other's
+abbrev pub AreFronts : {X : Type 0} → List (List X) → List (List X) → Type 0
+AreFronts [] [] = Unit {0}
+AreFronts [] (more ∷ others) = ⊥
+AreFronts (items ∷ lists) [] = ⊥
+AreFronts (items ∷ lists) (more ∷ others) = IsPrefix items more × AreFronts lists others
 
 -- what is shown, with these bytes behind what the reply file of the feed has shown
 abbrev pub shown_behind : List (List ℕ) → ℕ → List ℕ → List (List ℕ)

@@ -1,5 +1,6 @@
 pub mod Blocks
 pub mod Calls
+pub mod Fronts
 pub mod Inside
 pub mod Journals
 pub mod Laws

@@ -1,10 +1,11 @@
 -- What a store in memory was given, and what a crash may leave of it. It keeps every call from its first moment on.
-use Rattle.std.specs.Prelude.{◌≡◌, ◌≤◌, ℕ, List, [], ◌∷◌, length, take, map, Vec, slice_set}
+use Rattle.std.specs.Prelude.{◌≡◌, ◌≤◌, ℕ, zero, suc, List, [], ◌∷◌, length, take, map, Vec, slice_set, ⊤}
 use Rattle.std.specs.declared.alloc.Global.{Global}
-use Rattle.std.proofs.Common.{subst, sym, ◌∙◌, ap}
+use Rattle.std.proofs.Common.{refl, subst, sym, ◌∙◌, ap}
 use Rattle.std.proofs.lemmas.List.{take_all}
 use Rattle.std.proofs.Math.Nat.{le_refl}
-use Rattle.dm_store.specs.Calls.{Image, After, OnJournal, OnShown, Torn, Cut, shown_behind}
+use Rattle.dm_store.specs.Calls.{Image, After, AreFronts, GoesOnAs, OnJournal, OnShown, Torn, Cut, shown_behind}
+use Rattle.dm_store.specs.Fronts.{front_anew, fronts_of_fronts, fronts_of_themselves}
 use Rattle.dm_store.specs.declared.memory.Done.{Done}
 use Rattle.dm_store.specs.declared.memory.Done.TheVariants.{Wrote, CutTo, Synced, Showed, Renewed}
 use Rattle.dm_store.specs.declared.memory.MemStore.{MemStore}
@@ -42,6 +43,19 @@ shown_then (Renewed feed text) shown = slice_set shown feed text.items
 abbrev pub shown_after : List (List ℕ) → List Done → List (List ℕ)
 shown_after shown [] = shown
 shown_after shown (call ∷ calls) = shown_after (shown_then call shown) calls
+
+-- what is shown goes on in a call: a text that is put anew begins with what the reply file showed
+abbrev pub GoesOnIn : Done → List (List ℕ) → Type 0
+GoesOnIn (Wrote at bytes) shown = ⊤
+GoesOnIn (CutTo len) shown = ⊤
+GoesOnIn (Synced journal) shown = ⊤
+GoesOnIn (Showed feed bytes) shown = ⊤
+GoesOnIn (Renewed feed text) shown = GoesOnAs feed shown text.items
+
+-- so it was in each of the calls
+abbrev pub HasGoneOn : List (List ℕ) → List Done → Type 0
+HasGoneOn shown [] = ⊤
+HasGoneOn shown (call ∷ calls) = GoesOnIn call shown × HasGoneOn (shown_then call shown) calls
 
 -- a crash after so many of the calls, and no fewer than t, might have left it
 pub record LeftSince (journal : List ℕ) (shown : List (List ℕ)) (calls : List Done) (t : ℕ) (image : Image) : Type 0 where
@@ -88,6 +102,31 @@ pub all_show : (journal : List ℕ) (shown : List (List ℕ)) (calls : List Done
     outcomes (first_image journal shown) calls image → image.shown ≡ shown_after shown calls
 all_show journal shown calls image left = all_shows calls (first_image journal shown) shown (λ image is. is.1) image left
 
+-- ---- what was shown stays
+
+grows_then : (call : Done) (shown : List (List ℕ)) → GoesOnIn call shown → AreFronts shown (shown_then call shown)
+grows_then (Wrote at bytes) shown on = fronts_of_themselves shown
+grows_then (CutTo len) shown on = fronts_of_themselves shown
+grows_then (Synced journal) shown on = fronts_of_themselves shown
+grows_then (Showed feed bytes) shown on = front_anew shown feed _ (bytes.items, refl)
+grows_then (Renewed feed text) shown on = front_anew shown feed text.items on
+
+grows_after : (shown : List (List ℕ)) (calls : List Done) → HasGoneOn shown calls → AreFronts shown (shown_after shown calls)
+grows_after shown [] on = fronts_of_themselves shown
+grows_after shown (call ∷ calls) on =
+    fronts_of_fronts shown (shown_then call shown) (shown_after (shown_then call shown) calls) (grows_then call shown on.0) (grows_after (shown_then call shown) calls on.1)
+
+grows_from : (shown : List (List ℕ)) (calls : List Done) (count : ℕ) → HasGoneOn shown calls → AreFronts (shown_after shown (take count calls)) (shown_after shown calls)
+grows_from shown calls zero on = grows_after shown calls on
+grows_from shown [] (suc count) on = fronts_of_themselves shown
+grows_from shown (call ∷ calls) (suc count) on = grows_from (shown_then call shown) calls count on.1
+
+pub grown_since : (journal : List ℕ) (shown : List (List ℕ)) (calls : List Done) (t : ℕ) (image : Image) → HasGoneOn shown calls →
+    LeftSince journal shown calls t image → AreFronts image.shown (shown_after shown calls)
+grown_since journal shown calls t image on left =
+    subst (λ (l : List (List ℕ)). AreFronts l (shown_after shown calls)) (sym (all_show journal shown (take left.count calls) image left.left))
+    (grows_from shown calls left.count on)
+
 -- ---- what contracts see of it
 
 abbrev pub seen_of : MemStore → List ℕ
@@ -103,6 +142,15 @@ shown_of store = shown_after (was_shown_of store) store.done.items
 abbrev pub left_of : MemStore → Image → Type 0
 left_of store = outcomes (first_image store.first.items (was_shown_of store)) store.done.items
 
--- It tells as long as a crash may leave what a read returns and what is shown: some image is left, and clauses speak of it.
+-- how many calls were done, and what a crash after so many of them or more might have left
+abbrev pub moment_of : MemStore → ℕ
+moment_of store = length store.done.items
+
+abbrev pub left_since_of : MemStore → ℕ → Image → Type 0
+left_since_of store = LeftSince store.first.items (was_shown_of store) store.done.items
+
+-- It tells as long as a crash may leave what a read returns and what is shown, and each text that was put anew went on from what was
+-- shown: some image is left, and clauses speak of it.
 abbrev pub tells_of : MemStore → Type 0
-tells_of store = left_of store (record { journal = seen_of store; shown = shown_of store })
+tells_of store =
+    left_of store (record { journal = seen_of store; shown = shown_of store }) × HasGoneOn (was_shown_of store) store.done.items

@@ -282,6 +282,8 @@ impl<R: Files<File = File> + Drop> Store for FileStore<R> {
 
     ghost only_now = { λ store image told left. absurd told };
 
+    ghost shows_on = { λ store t image told left. absurd told };
+
     ghost leaves_now = { λ store told. absurd told };
 
     fn read(&mut self, alloc: Global) -> Result<Vec<u8>, StoreError> {

@@ -27,6 +27,7 @@ pub struct Journal<S: Store> {
 fn write_synced<S: Store>(store: &mut S, at: usize, bytes: &[u8]) -> Result<(), StoreError>
     ensures written { (file : List ℕ)
         → IsWritten S.tells S.seen S.shown S.may_leave S.moment S.left_since file at bytes.now store.old store.new result }
+    ensures told { S.tells store.old → S.tells store.new }
     ensures cause { HasCause (S.faults store.old) (S.faults store.new) result }
 {
     store.write_at(at, bytes)?;
@@ -37,6 +38,7 @@ fn write_synced<S: Store>(store: &mut S, at: usize, bytes: &[u8]) -> Result<(), 
 fn cut_synced<S: Store>(store: &mut S, len: usize) -> Result<(), StoreError>
     ensures cut { (file : List ℕ)
         → IsCut S.tells S.seen S.shown S.may_leave S.moment S.left_since file len store.old store.new result }
+    ensures told { S.tells store.old → S.tells store.new }
     ensures cause { HasCause (S.faults store.old) (S.faults store.new) result }
 {
     store.cut(len)?;
@@ -62,6 +64,7 @@ fn read_judged<S: Store>(store: &mut S, alloc: Global) -> Result<(Vec<u8>, usize
     ensures read { (contents : List (List ℕ)) (found : IsFound S.tells S.seen S.may_leave contents store.old)
         → IsRead S.tells S.seen S.shown S.may_leave S.moment S.left_since contents found.stands.end store.old store.new result }
     ensures within { IfOk result (λ p. p.1 ≤ length p.0.items) }
+    ensures told { S.tells store.old → S.tells store.new }
     ensures read_well { IsErrOf result StoreError.Failed → ⊥ }
     ensures unread { IsErrOf result StoreError.Unread → HasRisen (S.faults store.old) (S.faults store.new) }
     ensures later { S.faults store.old ≤ S.faults store.new }
@@ -96,6 +99,7 @@ impl<S: Store> Journal<S> {
             (StillKeeps contents found.stands.end (S.shown self.old.store)) }
         ensures shown { (contents : List (List ℕ)) → IsFound S.tells S.seen S.may_leave contents self.old.store
             → S.shown self.new.store ≡ S.shown self.old.store }
+        ensures told { S.tells self.old.store → S.tells self.new.store }
 
         // What is refused is left as it stands.
         ensures judged { (contents : List (List ℕ)) (found : IsFound S.tells S.seen S.may_leave contents self.old.store)
@@ -132,6 +136,7 @@ impl<S: Store> Journal<S> {
             (IsBeforeOrAfter contents content.now (S.shown self.old.store)) }
         ensures shown { (contents : List (List ℕ)) → IsAtRest S.tells S.seen S.may_leave contents self.old
             → S.shown self.new.store ≡ S.shown self.old.store }
+        ensures told { S.tells self.old.store → S.tells self.new.store }
 
         // It does not fail by itself, and is full exactly where the journal would be too long.
         ensures failed { IsErrOf result StoreError.Failed → HasRisen (S.faults self.old.store) (S.faults self.new.store) }

@@ -8,7 +8,8 @@
 //!
 //! # What is promised
 //!
-//! Of a [`Store`] that tells, this is promised.
+//! Of a [`Store`] that tells, this is promised. It tells on, unless a reply file is put anew with a text that does not go on from
+//! what the file showed.
 //!
 //! At `Ok` of [`Journal::commit`] every later crash leaves the block. A crash at any moment of the call leaves the blocks from
 //! before, or one more. [`Journal::recover`] gives exactly the whole blocks and repairs the end behind them. A crash at any
@@ -29,7 +30,8 @@
 //! were worked out by hand; and at each moment of the life of a store in memory a crash left some image.
 //!
 //! [`MemStore`] is a store in memory that tells. Some image is always left of a store that tells: what a read returns, with what is
-//! shown. A new one tells, and has its journal on the disk: it is found (`IsFound`) with the blocks that stand there.
+//! shown. What was shown is never taken back: at whatever moment a crash comes, each reply file shows a front of what it shows
+//! now (`shows_on`). A new one tells, and has its journal on the disk: it is found (`IsFound`) with the blocks that stand there.
 //! [`MemStore::after_crash`] gives a store that a crash at this moment may leave, torn as asked. `dm_store_cases` tries that calls
 //! fail where they are listed.
 //!

@@ -375,7 +375,8 @@ fn take_step(
 }
 
 impl Store for MemStore {
-    ghost use Rattle.dm_store.specs.Memory.{tells_of, seen_of, shown_of, was_shown_of, left_of, LeftSince, counted_now, since_now, all_show};
+    ghost use Rattle.dm_store.specs.Memory.{tells_of, seen_of, shown_of, was_shown_of, left_of, moment_of, left_since_of};
+    ghost use Rattle.dm_store.specs.Memory.{counted_now, since_now, all_show, grown_since};
 
     ghost tells = { tells_of };
 
@@ -385,9 +386,9 @@ impl Store for MemStore {
 
     ghost may_leave = { left_of };
 
-    ghost moment = { λ m. length m.done.items };
+    ghost moment = { moment_of };
 
-    ghost left_since = { λ m. LeftSince m.first.items (was_shown_of m) m.done.items };
+    ghost left_since = { left_since_of };
 
     ghost faults = { λ m. m.calls.faults };
 
@@ -397,7 +398,9 @@ impl Store for MemStore {
 
     ghost only_now = { λ m image told left. since_now m.first.items (was_shown_of m) m.done.items image left };
 
-    ghost leaves_now = { λ m told. told };
+    ghost shows_on = { λ m t image told left. grown_since m.first.items (was_shown_of m) m.done.items t image told.1 left };
+
+    ghost leaves_now = { λ m told. told.0 };
 
     fn read(&mut self, alloc: Global) -> Result<Vec<u8>, StoreError> {
         if self.calls.is_listed(&self.fails) {

@@ -1,6 +1,6 @@
 //! A disk with a clock, and files that are shown to people.
 ghost use Rattle.std.specs.Prelude.{◌≡◌, ◌<◌, ◌≤◌, ℕ, List, [], length, take, IfOk, OnOk, slice_set, slice_index_or};
-ghost use Rattle.dm_store.specs.Calls.{Image, Torn, Cut, OnJournal, Follows, AddsNone, LeavesJournal, Goes, GoesShowing, HasCause};
+ghost use Rattle.dm_store.specs.Calls.{AreFronts, Image, Torn, Cut, OnJournal, Follows, AddsNone, LeavesJournal, Goes, GoesShowing, HasCause};
 ghost use Rattle.dm_store.specs.Calls.{written, shown_behind, GoesOnAs, ShowsFront, ShowsText};
 
 use crate::StoreError;
@@ -35,7 +35,8 @@ pub trait Store {
         ensures bytes { tells self.old → IfOk result (λ bytes. bytes.items ≡ seen self.old) }
         ensures seen { tells self.old → seen self.new ≡ seen self.old }
         ensures crash { tells self.old → AddsNone (may_leave self.old) (may_leave self.new) }
-        ensures goes { tells self.old → Goes tells shown moment left_since may_leave self.old self.new }
+        ensures goes { tells self.old → Goes shown moment left_since may_leave self.old self.new }
+        ensures told { tells self.old → tells self.new }
         ensures cause { HasCause (faults self.old) (faults self.new) result };
 
     /// Writes over what is there, and past the end. Until a sync, a crash may leave any bytes in the range.
@@ -44,7 +45,8 @@ pub trait Store {
             → OnOk result (seen self.new ≡ written (seen self.old) at bytes.now) }
         ensures crash { tells self.old → at ≤ length (seen self.old)
             → Follows (OnJournal (Torn at (length bytes.now))) (may_leave self.old) (may_leave self.new) }
-        ensures goes { tells self.old → at ≤ length (seen self.old) → Goes tells shown moment left_since may_leave self.old self.new }
+        ensures goes { tells self.old → at ≤ length (seen self.old) → Goes shown moment left_since may_leave self.old self.new }
+        ensures told { tells self.old → tells self.new }
         ensures cause { HasCause (faults self.old) (faults self.new) result };
 
     /// Cuts the journal to a length.
@@ -53,7 +55,8 @@ pub trait Store {
         ensures crash { tells self.old → len ≤ length (seen self.old)
             → Follows (OnJournal (Cut len)) (may_leave self.old) (may_leave self.new) }
         ensures goes { tells self.old → len ≤ length (seen self.old)
-            → Goes tells shown moment left_since may_leave self.old self.new }
+            → Goes shown moment left_since may_leave self.old self.new }
+        ensures told { tells self.old → tells self.new }
         ensures cause { HasCause (faults self.old) (faults self.new) result };
 
     /// After it a crash leaves of the journal what a read returns.
@@ -61,7 +64,8 @@ pub trait Store {
         ensures durable { tells self.old → OnOk result (LeavesJournal (seen self.old) (may_leave self.new)) }
         ensures seen { tells self.old → seen self.new ≡ seen self.old }
         ensures crash { tells self.old → AddsNone (may_leave self.old) (may_leave self.new) }
-        ensures goes { tells self.old → Goes tells shown moment left_since may_leave self.old self.new }
+        ensures goes { tells self.old → Goes shown moment left_since may_leave self.old self.new }
+        ensures told { tells self.old → tells self.new }
         ensures cause { HasCause (faults self.old) (faults self.new) result };
 
     /// All that the reply file of the feed has shown; feeds count from 0.
@@ -70,7 +74,8 @@ pub trait Store {
             → IfOk result (λ bytes. bytes.items ≡ slice_index_or (shown self.old) feed []) }
         ensures seen { tells self.old → seen self.new ≡ seen self.old }
         ensures crash { tells self.old → AddsNone (may_leave self.old) (may_leave self.new) }
-        ensures goes { tells self.old → Goes tells shown moment left_since may_leave self.old self.new }
+        ensures goes { tells self.old → Goes shown moment left_since may_leave self.old self.new }
+        ensures told { tells self.old → tells self.new }
         ensures cause { HasCause (faults self.old) (faults self.new) result };
 
     /// Shows the bytes behind what the reply file of the feed has shown; feeds count from 0. At `Err` a front of them may
@@ -80,7 +85,8 @@ pub trait Store {
             → OnOk result (shown self.new ≡ shown_behind (shown self.old) feed bytes.now) }
         ensures front { tells self.old → feed < length (shown self.old) → ShowsFront feed bytes.now (shown self.old) (shown self.new) }
         ensures goes { tells self.old → feed < length (shown self.old)
-            → GoesShowing tells seen moment left_since may_leave (ShowsFront feed bytes.now) self.old self.new }
+            → GoesShowing seen moment left_since may_leave (ShowsFront feed bytes.now) self.old self.new }
+        ensures told { tells self.old → tells self.new }
         ensures cause { HasCause (faults self.old) (faults self.new) result };
 
     /// Puts the reply file of the feed anew, at once and whole, with a text that goes on from what it showed: it then shows the
@@ -91,7 +97,8 @@ pub trait Store {
         ensures either { tells self.old → feed < length (shown self.old) → GoesOnAs feed (shown self.old) text.now
             → ShowsText feed text.now (shown self.old) (shown self.new) }
         ensures goes { tells self.old → feed < length (shown self.old) → GoesOnAs feed (shown self.old) text.now
-            → GoesShowing tells seen moment left_since may_leave (ShowsText feed text.now) self.old self.new }
+            → GoesShowing seen moment left_since may_leave (ShowsText feed text.now) self.old self.new }
+        ensures told { tells self.old → GoesOnAs feed (shown self.old) text.now → tells self.new }
         ensures cause { HasCause (faults self.old) (faults self.new) result };
 
     /// What a crash leaves has what is shown now.
@@ -103,6 +110,10 @@ pub trait Store {
 
     /// Since this moment there is no other.
     ghost only_now: { (store : Self) (image : Image) → tells store → left_since store (moment store) image → may_leave store image };
+
+    /// What was shown is never taken back: whatever a crash since any moment might have left shows fronts of what is shown now.
+    ghost shows_on: { (store : Self) (t : ℕ) (image : Image) → tells store → left_since store t image
+        → AreFronts image.shown (shown store) };
 
     /// A crash now may leave what a read returns, with what is shown: some image is always left, and the other laws speak of it.
     ghost leaves_now: { (store : Self) → tells store → may_leave store (record { journal = seen store; shown = shown store }) };

@@ -15,7 +15,8 @@ use Rattle.dm_cert.specs.RunTexts.{IsSpelledItem}
 use Rattle.dm_desk.specs.Desks.{DeskValue}
 use Rattle.dm_desk.specs.Answered.{times}
 use Rattle.dm_rounds.proofs.Places.{behind_one, mapped_at, some_is}
-use Rattle.dm_book.specs.Books.{IsTrueBook, IsFrontBook, AreFronts, log_of}
+use Rattle.dm_store.specs.Calls.{AreFronts}
+use Rattle.dm_book.specs.Books.{IsTrueBook, IsFrontBook, log_of}
 use Rattle.dm_feed.specs.Feeds.{IsUnended}
 use Rattle.dm_desk.specs.Fed.{IsFed}
 use Rattle.dm_tail.specs.Watching.{IsWatched}

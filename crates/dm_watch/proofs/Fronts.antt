@@ -1,20 +1,12 @@
 -- Fronts of logs and of what is shown of them.
-use Rattle.std.proofs.Common.{◌≡◌, List, [], ◌∷◌, ◌++◌, map, sym, ap, subst, ◌∙◌, append-nil}
+use Rattle.std.proofs.Common.{List, [], ◌∷◌, ◌++◌, map, sym, ap, ◌∙◌}
 use Rattle.std.proofs.lemmas.Grind.{flat_map-append}
 use mathlib.Core.List.{IsPrefix}
 use Rattle.dm_cert.specs.declared.replies.LogItem.{LogItem}
 use Rattle.dm_cert.specs.RunTexts.{item_text}
-use Rattle.dm_book.specs.Books.{Book, AreFronts, IsFrontBook, reply_text}
-
-pub front_of_itself : {X : Type 0} (xs : List X) → IsPrefix xs xs
-front_of_itself xs = ([], append-nil xs)
-
-pub fronts_of_themselves : {X : Type 0} (lists : List (List X)) → AreFronts lists lists
-fronts_of_themselves [] = tt
-fronts_of_themselves (xs ∷ lists) = (front_of_itself xs, fronts_of_themselves lists)
-
-pub same_fronts : {X : Type 0} (lists others : List (List X)) → lists ≡ others → AreFronts lists others
-same_fronts lists others same = subst (AreFronts lists) same (fronts_of_themselves lists)
+use Rattle.dm_store.specs.Calls.{AreFronts}
+use Rattle.dm_store.specs.Fronts.{front_of_itself, fronts_of_themselves}
+use Rattle.dm_book.specs.Books.{Book, IsFrontBook, reply_text}
 
 pub book_of_itself : (book : Book) → IsFrontBook book book
 book_of_itself book = record { history = front_of_itself book.history; logs = fronts_of_themselves book.logs }

@@ -4,11 +4,12 @@ use Rattle.std.specs.List.{flat_map}
 use Rattle.std.proofs.lemmas.List.{append_cancel_left}
 use Rattle.dm_cert.specs.Answers.{Setting}
 use Rattle.dm_store.specs.Blocks.{block, at_rest, is_new, is_crash_end}
-use Rattle.dm_store.specs.Calls.{Image}
+use Rattle.dm_store.specs.Calls.{AreFronts, Image}
+use Rattle.dm_store.specs.Fronts.{same_fronts}
 use Rattle.dm_store.specs.Journals.{Keeps}
 use Rattle.dm_store.proofs.Standing.{end_short}
-use Rattle.dm_book.specs.Books.{Book, IsTrueBook, IsFrontBook, AreFronts, AreRecorded, IsSafe, reply_text}
-use Rattle.dm_watch.proofs.Fronts.{book_of_itself, same_fronts}
+use Rattle.dm_book.specs.Books.{Book, IsTrueBook, IsFrontBook, AreRecorded, IsSafe, reply_text}
+use Rattle.dm_watch.proofs.Fronts.{book_of_itself}
 
 -- a journal at rest keeps its blocks
 pub rest_keeps : (contents : List (List ℕ)) (shown : List (List ℕ)) (image : Image) → image.journal ≡ at_rest contents → image.shown ≡ shown → Keeps contents shown image

@@ -5,12 +5,12 @@ use Rattle.std.specs.declared.alloc.Global.{Global}
 use Rattle.std.proofs.lemmas.Simd.{map-map}
 use Rattle.std.proofs.lemmas.List.{length-map}
 use Rattle.dm_cert.specs.Answers.{Setting}
-use Rattle.dm_store.specs.Calls.{Image, LeavesOnly}
+use Rattle.dm_store.specs.Calls.{AreFronts, Image, LeavesOnly}
 use Rattle.dm_store.specs.Journals.{Keeps, IsBeforeOrAfter, IsAtRest}
 use Rattle.dm_store.specs.declared.journal.Journal.{Journal}
 use Rattle.dm_store.proofs.Moments.{started, weaker}
 use Rattle.dm_tape.specs.Rounds.{round_text}
-use Rattle.dm_book.specs.Books.{Book, IsTrueBook, IsFrontBook, AreFronts, AreRecorded, IsSafe, reply_text, with_round}
+use Rattle.dm_book.specs.Books.{Book, IsTrueBook, IsFrontBook, AreRecorded, IsSafe, reply_text, with_round}
 use Rattle.dm_tail.specs.declared.watched.Watched.{Watched}
 use Rattle.dm_watch.specs.Settled.{old_items, new_items, all_items, AreSettled}
 use Rattle.dm_watch.specs.Inside.Settling.{MaySettle, Settles, with_new}

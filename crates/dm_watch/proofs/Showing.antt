@@ -9,14 +9,15 @@ use mathlib.Core.List.{IsPrefix}
 use Rattle.dm_cert.specs.Answers.{Setting}
 use Rattle.dm_cert.specs.RunTexts.{item_text}
 use Rattle.dm_store.specs.Blocks.{at_rest}
-use Rattle.dm_store.specs.Calls.{Image, OnShown, After, LeavesOnly, GoesShowing, ShowsFront, shown_behind}
+use Rattle.dm_store.specs.Calls.{AreFronts, Image, OnShown, After, LeavesOnly, GoesShowing, ShowsFront, shown_behind}
+use Rattle.dm_store.specs.Fronts.{fronts_of_themselves}
 use Rattle.dm_store.proofs.Moments.{goes_on}
-use Rattle.dm_book.specs.Books.{Book, AreFronts, IsSafe, reply_text}
+use Rattle.dm_book.specs.Books.{Book, IsSafe, reply_text}
 use Rattle.dm_tail.specs.declared.watched.Watched.{Watched}
 use Rattle.dm_tail.proofs.AllFeeds.{one_yielded, all_yielded}
 use Rattle.dm_watch.specs.Settled.{old_items, new_items, all_items}
 use Rattle.dm_watch.specs.Inside.Showing.{old_text, all_text, IsKeptBook, IsShowing}
-use Rattle.dm_watch.proofs.Fronts.{fronts_of_themselves, fronts_then, text_fronts}
+use Rattle.dm_watch.proofs.Fronts.{fronts_then, text_fronts}
 use Rattle.dm_watch.proofs.Safe.{rest_keeps, safe_after}
 
 -- ---- texts
@@ -66,7 +67,7 @@ module _ {S T : Type 0} (tells : S → Type 0) (seen : S → List ℕ) (shown : 
     whole : old_text watched ++ bytes ≡ all_text watched
     whole = ap (λ (l : List ℕ). old_text watched ++ l) text ∙ text_more watched
 
-    module _ (shows : (image : Image) → may_leave old image → image.shown ≡ shown old) (goes : GoesShowing tells seen moment left_since may_leave (ShowsFront place bytes) old new) where
+    module _ (shows : (image : Image) → may_leave old image → image.shown ≡ shown old) (goes : GoesShowing seen moment left_since may_leave (ShowsFront place bytes) old new) where
       meanwhile : (image : Image) → After (OnShown (ShowsFront place bytes)) (may_leave old) image → IsSafe s before after image
       meanwhile image a =
           let was : a.from.journal ≡ at_rest contents = so_far.durable a.from a.was ∙ so_far.file in
@@ -82,9 +83,9 @@ module _ {S T : Type 0} (tells : S → Type 0) (seen : S → List ℕ) (shown : 
       pub one_leaves : LeavesOnly moment left_since start new (IsSafe s before after)
       one_leaves = goes_on moment left_since start old new (IsSafe s before after) (After (OnShown (ShowsFront place bytes)) (may_leave old)) so_far.leaves goes.time meanwhile
 
-      pub one_shown : shown new ≡ shown_behind (shown old) place bytes → IsShowing tells seen shown may_leave moment left_since s contents before after start new (first ++ all_text watched ∷ rest)
-      one_shown is = record {
-        told = goes.told;
+      pub one_shown : tells new → shown new ≡ shown_behind (shown old) place bytes → IsShowing tells seen shown may_leave moment left_since s contents before after start new (first ++ all_text watched ∷ rest)
+      one_shown told is = record {
+        told = told;
         file = goes.same ∙ so_far.file;
         durable = λ image left. let a = goes.crash image left in a.stepped.same ∙ (so_far.durable a.from a.was ∙ sym goes.same);
         is_shown =

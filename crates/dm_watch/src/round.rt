@@ -71,6 +71,7 @@ impl<'n, T: Growing + Drop> Watch<'n, T> {
             → Rounds S.tells S.seen S.shown S.may_leave S.moment S.left_since
             (setting_of self.entry.desk.plans self.entry.desk.table) (map (source_in T.source) self.entry.feeds.items)
             (book_in self.entry) journal.old journal.new result }
+        ensures told { S.tells journal.old.store → S.tells journal.new.store }
     {
         let Watch {
             alloc,
@@ -112,6 +113,7 @@ fn settle_new<S: Store, T: Growing + Drop>(
     ensures settles { (s : Setting) (contents : List (List ℕ)) (before after : Book)
         → MaySettle S.tells S.seen S.shown S.may_leave s contents before after feeds.items journal.old
         → SettlesSome S.tells S.seen S.shown S.may_leave S.moment S.left_since s before after journal.old journal.new result }
+    ensures told { S.tells journal.old.store → S.tells journal.new.store }
     ensures parts { IfOk result (λ now. AreAllShown T.given feeds.items now.items) }
     ensures sources { IfOk result (λ now. map (source_in T.source) now.items ≡ map (source_in T.source) feeds.items) }
     ensures cause { HasCauses T.faults (S.faults journal.old.store) (S.faults journal.new.store) journal.old.end feeds.items result }

@@ -6,8 +6,8 @@ use Rattle.dm_cert.specs.declared.replies.FeedLog.{FeedLog}
 use Rattle.dm_cert.specs.declared.replies.LogItem.{LogItem}
 use Rattle.dm_cert.specs.Answers.{Setting}
 use Rattle.dm_store.specs.Blocks.{at_rest}
-use Rattle.dm_store.specs.Calls.{Image, LeavesJournal, LeavesOnly}
-use Rattle.dm_book.specs.Books.{AreFronts, AreRecorded, Book, IsSafe, IsTrueBook, reply_text}
+use Rattle.dm_store.specs.Calls.{AreFronts, Image, LeavesJournal, LeavesOnly}
+use Rattle.dm_book.specs.Books.{AreRecorded, Book, IsSafe, IsTrueBook, reply_text}
 use Rattle.dm_tail.specs.declared.watched.Watched.{Watched}
 use Rattle.dm_watch.specs.Settled.{all_items}
 use Rattle.dm_serve.specs.Lives.{IsLeft, IsTakenUp}
@@ -56,7 +56,7 @@ PutsOne {S} tells seen shown may_leave moment left_since watched place old new r
     → shown old ≡ first ++ text ∷ rest → IsPrefix text (log_text watched)
     → AreFronts (first ++ log_text watched ∷ rest) (map reply_text book.logs) → IsKeptIn s contents book
     → IsStarting tells seen shown may_leave moment left_since s contents book start old
-    → LeavesOnly moment left_since start new (IsSafe s book book)
+    → LeavesOnly moment left_since start new (IsSafe s book book) × tells new
     × OnOk result (IsStarting tells seen shown may_leave moment left_since s contents book start new
     × (shown new ≡ first ++ log_text watched ∷ rest))
 
@@ -66,7 +66,7 @@ abbrev pub PutsReplies : {S T E : Type 0} → (S → Type 0) → (S → List ℕ
 PutsReplies {S} tells seen shown may_leave moment left_since feeds old new result =
     (s : Setting) (contents : List (List ℕ)) (book : Book) (start : S) → book.logs ≡ map all_items feeds → IsKeptIn s contents book
     → IsStarting tells seen shown may_leave moment left_since s contents book start old
-    → LeavesOnly moment left_since start new (IsSafe s book book)
+    → LeavesOnly moment left_since start new (IsSafe s book book) × tells new
     × OnOk result (IsStarting tells seen shown may_leave moment left_since s contents book start new
     × (shown new ≡ map reply_text book.logs))
 

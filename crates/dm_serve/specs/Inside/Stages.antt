@@ -131,7 +131,7 @@ TakesUp tells seen shown may_leave moment left_since head is_new feeds old new r
     (s : Setting) (contents : List (List ℕ)) (first : Book) → s.penalty ≡ head.penalty → s.plans ≡ head.plans →
     (IsTrue is_new ↔ (contents ≡ []))
     → first.logs ≡ map all_items feeds → IsTakenUp tells seen shown may_leave s head.feeds old.store contents first
-    → LeavesOnly moment left_since old.store new.store (IsSafe s first first)
+    → LeavesOnly moment left_since old.store new.store (IsSafe s first first) × tells new.store
     × OnOk result (HaveSettled tells seen shown may_leave s first.logs new)
 
 -- ---- feeds
@@ -204,7 +204,7 @@ abbrev pub GoesOver : {S T E : Type 0} → (S → Type 0) → (S → List ℕ) �
     (S → ℕ → Image → Type 0) → Setting → Book → List (Option (List ℕ)) → S → Watch T → Journal S → Journal S → Result (Watch T) E → Type 0
 GoesOver tells seen shown may_leave moment left_since s first sources start watch old new result =
     setting_of watch.desk.plans watch.desk.table ≡ s → HasGone tells seen shown may_leave moment left_since s first watch start old
-    → LivesOn moment left_since s first sources start new.store
+    → LivesOn shown moment left_since s first sources start new.store
     × IfOk result (λ r. HasGone tells seen shown may_leave moment left_since s first r start new)
 
 -- the cause of a stop as rounds are gone

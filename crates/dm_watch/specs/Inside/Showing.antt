@@ -3,8 +3,8 @@ use Rattle.std.specs.Prelude.{ℕ, ◌≡◌, List, ◌∷◌, ◌++◌, length,
 use Rattle.std.specs.declared.alloc.Global.{Global}
 use Rattle.dm_cert.specs.Answers.{Setting}
 use Rattle.dm_store.specs.Blocks.{at_rest}
-use Rattle.dm_store.specs.Calls.{Image, LeavesJournal, LeavesOnly}
-use Rattle.dm_book.specs.Books.{Book, IsTrueBook, IsFrontBook, AreFronts, AreRecorded, IsSafe, reply_text}
+use Rattle.dm_store.specs.Calls.{AreFronts, Image, LeavesJournal, LeavesOnly}
+use Rattle.dm_book.specs.Books.{Book, IsTrueBook, IsFrontBook, AreRecorded, IsSafe, reply_text}
 use Rattle.dm_tail.specs.declared.watched.Watched.{Watched}
 use Rattle.dm_watch.specs.Settled.{old_items, all_items}
 

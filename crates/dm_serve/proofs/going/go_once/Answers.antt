@@ -12,7 +12,7 @@ show_growth-requires-clause-has g c = λ some. earlier_later g.T.Growing.given c
 
 pub returns-in-Err-clause-leaves : goal.returns-in-Err-clause-leaves
 returns-in-Err-clause-leaves g c =
-    once_lives g.S.Store.tells g.S.Store.seen g.S.Store.shown g.S.Store.may_leave g.S.Store.moment g.S.Store.left_since c.args.watch c.args.journal.now c.round.new.journal (map (source_in g.T.Growing.source) c.args.watch.feeds.items) _ c.in-Err.ensures.rounds
+    once_lives g.S.Store.tells g.S.Store.seen g.S.Store.shown g.S.Store.may_leave g.S.Store.moment g.S.Store.left_since c.args.watch c.args.journal.now c.round.new.journal (map (source_in g.T.Growing.source) c.args.watch.feeds.items) _ c.in-Err.ensures.rounds c.round.ensures.told (λ store t image told left. g.met.S.Store.shows_on store t image told left)
 
 pub returns-in-Err-clause-stops : goal.returns-in-Err-clause-stops
 returns-in-Err-clause-stops g c =
@@ -33,7 +33,7 @@ returns-clause-gone g c = λ s first start is gone.
 
 pub returns-clause-leaves : goal.returns-clause-leaves
 returns-clause-leaves g c =
-    once_lives g.S.Store.tells g.S.Store.seen g.S.Store.shown g.S.Store.may_leave g.S.Store.moment g.S.Store.left_since c.args.watch c.args.journal.now c.round.new.journal (map (source_in g.T.Growing.source) c.args.watch.feeds.items) _ c.in-Ok.ensures.rounds
+    once_lives g.S.Store.tells g.S.Store.seen g.S.Store.shown g.S.Store.may_leave g.S.Store.moment g.S.Store.left_since c.args.watch c.args.journal.now c.round.new.journal (map (source_in g.T.Growing.source) c.args.watch.feeds.items) _ c.in-Ok.ensures.rounds c.round.ensures.told (λ store t image told left. g.met.S.Store.shows_on store t image told left)
 
 pub returns-clause-up : goal.returns-clause-up
 returns-clause-up g c = λ first up.

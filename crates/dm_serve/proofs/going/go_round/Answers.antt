@@ -48,7 +48,7 @@ loop-round-preserved g c = record {
 
 pub returns-in-Err-clause-goes : goal.returns-in-Err-clause-goes
 returns-in-Err-clause-goes g c = λ s first start is gone. (
-  subst (λ (l : List (Option (List ℕ))). LivesOn g.S.Store.moment g.S.Store.left_since s first l start c.go_once.new.journal.store) c.loop-round.invariant.sources
+  subst (λ (l : List (Option (List ℕ))). LivesOn g.S.Store.shown g.S.Store.moment g.S.Store.left_since s first l start c.go_once.new.journal.store) c.loop-round.invariant.sources
       (c.in-Err.ensures.leaves s first start (c.loop-round.invariant.going.setting ∙ is) (c.loop-round.invariant.gone s first start is gone)),
   tt,
 )
@@ -71,7 +71,7 @@ returns-then-not-next-clause-going g c = c.in-Ok.ensures.going _ _ c.loop-round.
 pub returns-then-not-next-clause-goes : goal.returns-then-not-next-clause-goes
 returns-then-not-next-clause-goes g c = λ s first start is gone.
     let more = c.in-Ok.ensures.gone s first start (c.loop-round.invariant.going.setting ∙ is) (c.loop-round.invariant.gone s first start is gone) in (
-      subst (λ (l : List (Option (List ℕ))). LivesOn g.S.Store.moment g.S.Store.left_since s first l start c.go_once.new.journal.store) c.loop-round.invariant.sources
+      subst (λ (l : List (Option (List ℕ))). LivesOn g.S.Store.shown g.S.Store.moment g.S.Store.left_since s first l start c.go_once.new.journal.store) c.loop-round.invariant.sources
           (c.in-Ok.ensures.leaves s first start (c.loop-round.invariant.going.setting ∙ is) (c.loop-round.invariant.gone s first start is gone)),
       more,
     )

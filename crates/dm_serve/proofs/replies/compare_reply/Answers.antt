@@ -9,7 +9,7 @@ returns-in_default-clause-looks g c =
 
 pub returns-in-Ok-read_shown-clause-looks : goal.returns-in-Ok-read_shown-clause-looks
 returns-in-Ok-read_shown-clause-looks g c =
-    looks_once g.S.Store.tells g.S.Store.seen g.S.Store.shown g.S.Store.may_leave g.S.Store.moment g.S.Store.left_since (λ store image told left. g.met.S.Store.shows_now store image told left) (λ store image told left. g.met.S.Store.only_now store image told left) c.args.store.now c.read_shown.new.self c.read_shown.ensures.seen c.read_shown.ensures.crash c.read_shown.ensures.goes
+    looks_once g.S.Store.tells g.S.Store.seen g.S.Store.shown g.S.Store.may_leave g.S.Store.moment g.S.Store.left_since (λ store image told left. g.met.S.Store.shows_now store image told left) (λ store image told left. g.met.S.Store.only_now store image told left) c.args.store.now c.read_shown.new.self c.read_shown.ensures.told c.read_shown.ensures.seen c.read_shown.ensures.crash c.read_shown.ensures.goes
 
 pub returns-in-Ok-read_shown-clause-compares : goal.returns-in-Ok-read_shown-clause-compares
 returns-in-Ok-read_shown-clause-compares g c =
@@ -18,4 +18,4 @@ returns-in-Ok-read_shown-clause-compares g c =
 
 pub returns-clause-looks : goal.returns-clause-looks
 returns-clause-looks g c =
-    looks_once g.S.Store.tells g.S.Store.seen g.S.Store.shown g.S.Store.may_leave g.S.Store.moment g.S.Store.left_since (λ store image told left. g.met.S.Store.shows_now store image told left) (λ store image told left. g.met.S.Store.only_now store image told left) c.args.store.now c.read_shown.new.self c.read_shown.ensures.seen c.read_shown.ensures.crash c.read_shown.ensures.goes
+    looks_once g.S.Store.tells g.S.Store.seen g.S.Store.shown g.S.Store.may_leave g.S.Store.moment g.S.Store.left_since (λ store image told left. g.met.S.Store.shows_now store image told left) (λ store image told left. g.met.S.Store.only_now store image told left) c.args.store.now c.read_shown.new.self c.read_shown.ensures.told c.read_shown.ensures.seen c.read_shown.ensures.crash c.read_shown.ensures.goes

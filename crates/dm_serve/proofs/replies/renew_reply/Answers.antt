@@ -7,7 +7,7 @@ use Rattle.dm_serve.proofs.Answering.{one_at, one_leaves, one_put, within}
 use Rattle.dm_serve.proofs.replies.renew_reply.Goals as goal
 
 pub returns-in_default-clause-puts : goal.returns-in_default-clause-puts
-returns-in_default-clause-puts g c = λ s contents book start first rest text here is longer fronts kept so_far. (so_far.leaves, tt)
+returns-in_default-clause-puts g c = λ s contents book start first rest text here is longer fronts kept so_far. (so_far.leaves, so_far.told, tt)
 
 pub returns-in-Ok-renew-clause-puts : goal.returns-in-Ok-renew-clause-puts
 returns-in-Ok-renew-clause-puts g c = λ s contents book start first rest text here is longer fronts kept so_far.
@@ -17,8 +17,9 @@ returns-in-Ok-renew-clause-puts g c = λ s contents book start first rest text h
     let low = within g.S.Store.tells g.S.Store.seen g.S.Store.shown g.S.Store.may_leave g.S.Store.moment g.S.Store.left_since s contents book start c.args.store.now c.renew.new.self first rest (log_text c.args.watched.now) text c.args.place here is fronts kept so_far in (
       one_leaves g.S.Store.tells g.S.Store.seen g.S.Store.shown g.S.Store.may_leave g.S.Store.moment g.S.Store.left_since s contents book start c.args.store.now c.renew.new.self first rest (log_text c.args.watched.now) text c.args.place here is fronts kept so_far c.deref-2.result.now written
           (λ image left. g.met.S.Store.shows_now c.args.store.now image so_far.told left) (c.renew.ensures.goes so_far.told low more),
+      c.renew.ensures.told so_far.told more,
       one_put g.S.Store.tells g.S.Store.seen g.S.Store.shown g.S.Store.may_leave g.S.Store.moment g.S.Store.left_since s contents book start c.args.store.now c.renew.new.self first rest (log_text c.args.watched.now) text c.args.place here is fronts kept so_far c.deref-2.result.now written
-          (λ image left. g.met.S.Store.shows_now c.args.store.now image so_far.told left) (c.renew.ensures.goes so_far.told low more) (c.in-Ok-renew.ensures.shown so_far.told low more),
+          (λ image left. g.met.S.Store.shows_now c.args.store.now image so_far.told left) (c.renew.ensures.goes so_far.told low more) (c.renew.ensures.told so_far.told more) (c.in-Ok-renew.ensures.shown so_far.told low more),
     )
 
 pub returns-clause-puts : goal.returns-clause-puts
@@ -29,5 +30,6 @@ returns-clause-puts g c = λ s contents book start first rest text here is longe
     let low = within g.S.Store.tells g.S.Store.seen g.S.Store.shown g.S.Store.may_leave g.S.Store.moment g.S.Store.left_since s contents book start c.args.store.now c.renew.new.self first rest (log_text c.args.watched.now) text c.args.place here is fronts kept so_far in (
       one_leaves g.S.Store.tells g.S.Store.seen g.S.Store.shown g.S.Store.may_leave g.S.Store.moment g.S.Store.left_since s contents book start c.args.store.now c.renew.new.self first rest (log_text c.args.watched.now) text c.args.place here is fronts kept so_far c.deref-2.result.now written
           (λ image left. g.met.S.Store.shows_now c.args.store.now image so_far.told left) (c.renew.ensures.goes so_far.told low more),
+      c.renew.ensures.told so_far.told more,
       tt,
     )

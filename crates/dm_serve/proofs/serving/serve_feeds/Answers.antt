@@ -34,7 +34,7 @@ returns-in_default-clause-ends g c = λ start later back.
 pub returns-in_default-clause-keeps : goal.returns-in_default-clause-keeps
 returns-in_default-clause-keeps g c = λ start back.
     looked_keeps g.S.Store.tells g.S.Store.seen g.S.Store.shown g.S.Store.may_leave g.S.Store.moment g.S.Store.left_since (setting_of c.args.restored.desk.plans c.args.restored.desk.table) (length (server_of c.args.serving.now.words.now).run.feeds)
-    (map (source_in g.T.Growing.source) c.args.feeds.items) start c.args.journal.now.store back.looks
+    (λ store t image told left. g.met.S.Store.shows_on store t image told left) (map (source_in g.T.Growing.source) c.args.feeds.items) start c.args.journal.now.store back.looks
 
 pub returns-in-Err-clause-ends : goal.returns-in-Err-clause-ends
 returns-in-Err-clause-ends g c = λ start later back.
@@ -45,7 +45,7 @@ returns-in-Err-clause-ends g c = λ start later back.
 pub returns-in-Err-clause-keeps : goal.returns-in-Err-clause-keeps
 returns-in-Err-clause-keeps g c = λ start back.
     looked_keeps g.S.Store.tells g.S.Store.seen g.S.Store.shown g.S.Store.may_leave g.S.Store.moment g.S.Store.left_since (setting_of c.args.restored.desk.plans c.args.restored.desk.table) (length (server_of c.args.serving.now.words.now).run.feeds)
-    (map (source_in g.T.Growing.source) c.args.feeds.items) start c.args.journal.now.store back.looks
+    (λ store t image told left. g.met.S.Store.shows_on store t image told left) (map (source_in g.T.Growing.source) c.args.feeds.items) start c.args.journal.now.store back.looks
 
 pub returns-in-Err-clause-told : goal.returns-in-Err-clause-told
 returns-in-Err-clause-told g c = λ e. absurd (at_feeds_never g.K.Sink.taken g.K.Sink.faults (server_of c.args.serving.now.words.now) c.catch_up_all.new.feeds.items c.in-Err.stop c.args.out.now c.end_at_feeds.new.out c.end_at_feeds.result c.end_at_feeds.ensures.ends e)

@@ -55,7 +55,8 @@ returns-in-Err-clause-keeps g c = λ start back.
     let head : Head = record { penalty = c.args.serving.now.words.now.run.files.penalty; plans = c.args.serving.now.words.now.run.files.plans; feeds = c.len.result } in
     let many : c.len.result ≡ n = omega (arith, c.len.ensures, c.args.watch.feeds.ok.0, c.requires.as_many) in
     taken_keeps g.S.Store.tells g.S.Store.seen g.S.Store.shown g.S.Store.may_leave g.S.Store.moment g.S.Store.left_since (setting_of c.args.watch.desk.plans c.args.watch.desk.table) n StartStop g.S.Store.faults head c.args.is_new c.args.watch start
-    c.args.journal.now c.take_up.new.journal c.requires.penalty c.requires.plans many back c.take_up.result
+    c.args.journal.now c.take_up.new.journal c.requires.penalty c.requires.plans many back
+    (λ store t image told left. g.met.S.Store.shows_on store t image told left) c.take_up.result
     (subst (λ (l : List (Watched _)). TakesUp {E = StartStop} g.S.Store.tells g.S.Store.seen g.S.Store.shown g.S.Store.may_leave g.S.Store.moment g.S.Store.left_since head c.args.is_new l c.args.journal.now c.take_up.new.journal c.take_up.result) c.deref.ensures.value
     c.take_up.ensures.takes)
     (map (source_in g.T.Growing.source) c.args.watch.feeds.items)

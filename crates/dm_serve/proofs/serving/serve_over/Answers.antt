@@ -27,7 +27,7 @@ returns-in-Err-clause-ends g c =
 
 pub returns-in-Err-clause-keeps : goal.returns-in-Err-clause-keeps
 returns-in-Err-clause-keeps g c =
-    looked_keeps g.S.Store.tells g.S.Store.seen g.S.Store.shown g.S.Store.may_leave g.S.Store.moment g.S.Store.left_since _ _ _ c.args.journal.now.store c.args.journal.now.store
+    looked_keeps g.S.Store.tells g.S.Store.seen g.S.Store.shown g.S.Store.may_leave g.S.Store.moment g.S.Store.left_since _ _ (λ store t image told left. g.met.S.Store.shows_on store t image told left) _ c.args.journal.now.store c.args.journal.now.store
     (looks_none g.S.Store.tells g.S.Store.seen g.S.Store.shown g.S.Store.may_leave g.S.Store.moment g.S.Store.left_since g.met.S.Store.shows_now g.met.S.Store.only_now c.args.journal.now.store)
 
 pub returns-in-Err-clause-told : goal.returns-in-Err-clause-told
@@ -120,7 +120,7 @@ returns-in-Err-read_back-clause-ends g c =
     (subst (λ (m : ℕ). StopsReadingBack g.S.Store.tells g.S.Store.seen g.S.Store.shown g.S.Store.may_leave g.S.Store.faults s m c.args.journal.now.store c.read_back.new.store c.in-Err-read_back.stop) many c.in-Err-read_back.ensures.stops) c.end_start.ensures.ends)
 
 pub returns-in-Err-read_back-clause-keeps : goal.returns-in-Err-read_back-clause-keeps
-returns-in-Err-read_back-clause-keeps g c = looked_keeps g.S.Store.tells g.S.Store.seen g.S.Store.shown g.S.Store.may_leave g.S.Store.moment g.S.Store.left_since _ _ _ c.args.journal.now.store c.read_back.new.store c.read_back.ensures.looks
+returns-in-Err-read_back-clause-keeps g c = looked_keeps g.S.Store.tells g.S.Store.seen g.S.Store.shown g.S.Store.may_leave g.S.Store.moment g.S.Store.left_since _ _ (λ store t image told left. g.met.S.Store.shows_on store t image told left) _ c.args.journal.now.store c.read_back.new.store c.read_back.ensures.looks
 
 pub returns-in-Err-read_back-clause-told : goal.returns-in-Err-read_back-clause-told
 returns-in-Err-read_back-clause-told g c = λ e. absurd (start_never g.K.Sink.taken g.K.Sink.faults c.args.out.now c.end_start.new.out c.end_start.result _ _ c.in-Err-read_back.stop c.end_start.ensures.ends (sym c.no_day-in-Err-read_back.ensures.status ∙ e))

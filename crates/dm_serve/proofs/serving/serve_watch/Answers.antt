@@ -13,6 +13,7 @@ use Rattle.dm_serve.specs.Inside.Stages.{IsGoing}
 use Rattle.dm_serve.proofs.Caught.{feeds_of}
 use Rattle.dm_serve.proofs.Ended.{ends_day, ends_round_so, ends_wanting_so, few_feeds, plans_under}
 use Rattle.dm_serve.proofs.Printed.{is_day, spelled_logs}
+use Rattle.dm_serve.proofs.Stays.{shown_stays}
 use Rattle.dm_serve.proofs.serving.serve_watch.Goals as goal
 
 pub go_round-requires-clause-plans : goal.go_round-requires-clause-plans
@@ -43,7 +44,10 @@ returns-in_default-clause-keeps g c = λ start since contents first t.
     let watch = c.args.watch in
     record {
       last = book_in watch;
+      grows = (since contents first t).grows;
       leaves = (since contents first t).leaves;
+      shows = shown_stays g.S.Store.tells g.S.Store.shown g.S.Store.moment g.S.Store.left_since (λ store t image told left. g.met.S.Store.shows_on store t image told left)
+          start c.args.journal.now.store (since contents first t).leaves.later (since contents first t).settled.settled.rest.told;
       answers = inr (answer_sources g.T.Growing.given g.T.Growing.source g.met.T.Growing.from_source (desk_in watch) watch.feeds.items c.requires.watching.each);
     }
 

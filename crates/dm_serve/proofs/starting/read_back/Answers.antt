@@ -9,7 +9,7 @@ use Rattle.dm_serve.proofs.starting.read_back.Goals as goal
 
 pub returns-in-Err-clause-looks : goal.returns-in-Err-clause-looks
 returns-in-Err-clause-looks g c =
-    looks_once g.S.Store.tells g.S.Store.seen g.S.Store.shown g.S.Store.may_leave g.S.Store.moment g.S.Store.left_since (λ store image told left. g.met.S.Store.shows_now store image told left) (λ store image told left. g.met.S.Store.only_now store image told left) c.args.store.now c.read.new.self c.read.ensures.seen c.read.ensures.crash c.read.ensures.goes
+    looks_once g.S.Store.tells g.S.Store.seen g.S.Store.shown g.S.Store.may_leave g.S.Store.moment g.S.Store.left_since (λ store image told left. g.met.S.Store.shows_now store image told left) (λ store image told left. g.met.S.Store.only_now store image told left) c.args.store.now c.read.new.self c.read.ensures.told c.read.ensures.seen c.read.ensures.crash c.read.ensures.goes
 
 pub returns-in-Err-clause-stops : goal.returns-in-Err-clause-stops
 returns-in-Err-clause-stops g c =
@@ -18,7 +18,7 @@ returns-in-Err-clause-stops g c =
 
 pub returns-in-Err-restore-clause-looks : goal.returns-in-Err-restore-clause-looks
 returns-in-Err-restore-clause-looks g c =
-    looks_once g.S.Store.tells g.S.Store.seen g.S.Store.shown g.S.Store.may_leave g.S.Store.moment g.S.Store.left_since (λ store image told left. g.met.S.Store.shows_now store image told left) (λ store image told left. g.met.S.Store.only_now store image told left) c.args.store.now c.read.new.self c.read.ensures.seen c.read.ensures.crash c.read.ensures.goes
+    looks_once g.S.Store.tells g.S.Store.seen g.S.Store.shown g.S.Store.may_leave g.S.Store.moment g.S.Store.left_since (λ store image told left. g.met.S.Store.shows_now store image told left) (λ store image told left. g.met.S.Store.only_now store image told left) c.args.store.now c.read.new.self c.read.ensures.told c.read.ensures.seen c.read.ensures.crash c.read.ensures.goes
 
 pub returns-in-Err-restore-clause-stops : goal.returns-in-Err-restore-clause-stops
 returns-in-Err-restore-clause-stops g c =
@@ -29,7 +29,7 @@ returns-in-Err-restore-clause-stops g c =
 pub returns-in-Ok-compare_replies-clause-looks : goal.returns-in-Ok-compare_replies-clause-looks
 returns-in-Ok-compare_replies-clause-looks g c =
     looks_then g.S.Store.tells g.S.Store.seen g.S.Store.shown g.S.Store.may_leave g.S.Store.moment g.S.Store.left_since c.args.store.now c.read.new.self c.compare_replies.new.store
-    (looks_once g.S.Store.tells g.S.Store.seen g.S.Store.shown g.S.Store.may_leave g.S.Store.moment g.S.Store.left_since (λ store image told left. g.met.S.Store.shows_now store image told left) (λ store image told left. g.met.S.Store.only_now store image told left) c.args.store.now c.read.new.self c.read.ensures.seen c.read.ensures.crash c.read.ensures.goes) c.compare_replies.ensures.looks
+    (looks_once g.S.Store.tells g.S.Store.seen g.S.Store.shown g.S.Store.may_leave g.S.Store.moment g.S.Store.left_since (λ store image told left. g.met.S.Store.shows_now store image told left) (λ store image told left. g.met.S.Store.only_now store image told left) c.args.store.now c.read.new.self c.read.ensures.told c.read.ensures.seen c.read.ensures.crash c.read.ensures.goes) c.compare_replies.ensures.looks
 
 pub returns-in-Ok-compare_replies-clause-finds : goal.returns-in-Ok-compare_replies-clause-finds
 returns-in-Ok-compare_replies-clause-finds g c =
@@ -44,11 +44,11 @@ returns-in-Ok-compare_replies-clause-whole g c =
 pub returns-clause-looks : goal.returns-clause-looks
 returns-clause-looks g c =
     looks_then g.S.Store.tells g.S.Store.seen g.S.Store.shown g.S.Store.may_leave g.S.Store.moment g.S.Store.left_since c.args.store.now c.read.new.self c.compare_replies.new.store
-    (looks_once g.S.Store.tells g.S.Store.seen g.S.Store.shown g.S.Store.may_leave g.S.Store.moment g.S.Store.left_since (λ store image told left. g.met.S.Store.shows_now store image told left) (λ store image told left. g.met.S.Store.only_now store image told left) c.args.store.now c.read.new.self c.read.ensures.seen c.read.ensures.crash c.read.ensures.goes) c.compare_replies.ensures.looks
+    (looks_once g.S.Store.tells g.S.Store.seen g.S.Store.shown g.S.Store.may_leave g.S.Store.moment g.S.Store.left_since (λ store image told left. g.met.S.Store.shows_now store image told left) (λ store image told left. g.met.S.Store.only_now store image told left) c.args.store.now c.read.new.self c.read.ensures.told c.read.ensures.seen c.read.ensures.crash c.read.ensures.goes) c.compare_replies.ensures.looks
 
 pub returns-clause-stops : goal.returns-clause-stops
 returns-clause-stops g c =
-    let looks = looks_once g.S.Store.tells g.S.Store.seen g.S.Store.shown g.S.Store.may_leave g.S.Store.moment g.S.Store.left_since (λ store image told left. g.met.S.Store.shows_now store image told left) (λ store image told left. g.met.S.Store.only_now store image told left) c.args.store.now c.read.new.self c.read.ensures.seen c.read.ensures.crash c.read.ensures.goes in
+    let looks = looks_once g.S.Store.tells g.S.Store.seen g.S.Store.shown g.S.Store.may_leave g.S.Store.moment g.S.Store.left_since (λ store image told left. g.met.S.Store.shows_now store image told left) (λ store image told left. g.met.S.Store.only_now store image told left) c.args.store.now c.read.new.self c.read.ensures.told c.read.ensures.seen c.read.ensures.crash c.read.ensures.goes in
     stops_compared g.S.Store.tells g.S.Store.seen g.S.Store.shown g.S.Store.may_leave g.S.Store.faults (setting_of_head c.args.net.now c.args.start c.args.head) c.args.head.feeds c.args.store.now c.deref.result.now
     (λ told. c.deref.ensures.value ∙ c.in-Ok.ensures.bytes told) c.in-Ok-restore.restored.desk.table.history c.in-Ok-restore.restored.logs.items c.in-Ok-restore.ensures.as_many c.in-Ok-restore.ensures.one
     c.read.new.self looks.0 c.compare_replies.new.store c.in-Err-compare_replies.stop c.read.ensures.cause.later

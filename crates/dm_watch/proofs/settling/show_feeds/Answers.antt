@@ -18,6 +18,7 @@ loop-watched-init g c =
       many = ap length c.in-Ok.ensures.items;
       parts = ap (map (log_parts g.T.Growing.given)) c.in-Ok.ensures.items;
       sources = ap (map (source_in g.T.Growing.source)) c.in-Ok.ensures.items;
+      told = λ told. told;
       later = omega arith;
       so_far = λ s contents before after start book logs showing.
           showing_as g.S.Store.tells g.S.Store.seen g.S.Store.shown g.S.Store.may_leave g.S.Store.moment g.S.Store.left_since s contents before after start c.args.store.now _ _ (ap (map old_text) (sym whole)) showing;
@@ -52,6 +53,7 @@ loop-watched-preserved g c =
       many = omega (arith, ap length pushed, length-append c.loop-watched.shown.items (c.in-Ok-show_one.watched ∷ []), length-append c.loop-watched.yielded (c.in-Some.watched ∷ []), inv.many);
       parts = parts_more (log_parts g.T.Growing.given) (shown_parts g.T.Growing.given) c.loop-watched.yielded c.loop-watched.shown.items c.push.new.self.items c.in-Some.watched c.in-Ok-show_one.watched pushed c.in-Ok-show_one.ensures.parts inv.parts;
       sources = one_more_source (source_in g.T.Growing.source) c.loop-watched.shown.items c.push.new.self.items c.loop-watched.yielded c.in-Some.watched c.in-Ok-show_one.watched pushed c.in-Ok-show_one.ensures.source inv.sources;
+      told = λ told. c.in-Ok-show_one.ensures.told (inv.told told);
       later = omega (arith, inv.later, c.in-Ok-show_one.ensures.cause.later);
       so_far = λ s contents before after start book logs showing.
           let now = showing_as g.S.Store.tells g.S.Store.seen g.S.Store.shown g.S.Store.may_leave g.S.Store.moment g.S.Store.left_since s contents before after start c.loop-watched.store _ _ (texts_here c.loop-watched.yielded _ _ c.in-Some.watched is) (inv.so_far s contents before after start book logs showing) in

@@ -13,6 +13,7 @@ invariant-loop-watched g l =
       many : length l.shown.items ≡ length l.yielded;
       parts : map (log_parts g.T.Growing.given) l.shown.items ≡ map (shown_parts g.T.Growing.given) l.yielded;
       sources : map (source_in g.T.Growing.source) l.shown.items ≡ map (source_in g.T.Growing.source) l.yielded;
+      told : g.S.Store.tells l.fn.store → g.S.Store.tells l.store;
       later : g.S.Store.faults l.fn.store ≤ g.S.Store.faults l.store;
       so_far :
           (s : Setting) (contents : List (List ℕ)) (before after : Book) (start : _) → IsKeptBook s contents before after → after.logs ≡ map all_items l.fn.feeds.items

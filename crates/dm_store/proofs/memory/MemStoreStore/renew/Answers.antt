@@ -16,4 +16,9 @@ returns-clause-either c = λ told within more.
 pub returns-clause-goes : goal.returns-clause-goes
 returns-clause-goes c = λ told within more.
     let same : c.in_ok-copy.copy.items ≡ c.args.text.now = search rules in
-    record { told = told_renewed c.args.self.now c.args.feed c.in_ok-copy.copy _ c.in_ok-push.ensures.items c.args.text.now same told; same = refl; crash = text_follows c.args.self.now c.args.feed c.in_ok-copy.copy _ c.in_ok-push.ensures.items c.args.text.now same; time = elapses_more c.args.self.now (Renewed c.args.feed c.in_ok-copy.copy) _ c.in_ok-push.ensures.items _ (text_follows c.args.self.now c.args.feed c.in_ok-copy.copy _ c.in_ok-push.ensures.items c.args.text.now same) }
+    record { same = refl; crash = text_follows c.args.self.now c.args.feed c.in_ok-copy.copy _ c.in_ok-push.ensures.items c.args.text.now same; time = elapses_more c.args.self.now (Renewed c.args.feed c.in_ok-copy.copy) _ c.in_ok-push.ensures.items _ (text_follows c.args.self.now c.args.feed c.in_ok-copy.copy _ c.in_ok-push.ensures.items c.args.text.now same) }
+
+pub returns-clause-told : goal.returns-clause-told
+returns-clause-told c = λ told on.
+    let same : c.in_ok-copy.copy.items ≡ c.args.text.now = search rules in
+    told_renewed c.args.self.now c.args.feed c.in_ok-copy.copy _ c.in_ok-push.ensures.items c.args.text.now same told on

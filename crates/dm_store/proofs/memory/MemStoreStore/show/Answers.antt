@@ -24,4 +24,11 @@ returns-clause-goes c = λ told within.
     let same : c.in_ok-copy.copy.items ≡ take c.shown_len.result c.args.bytes.now = search rules in
     let front : c.in_ok-copy.copy.items ++ drop c.shown_len.result c.args.bytes.now ≡ c.args.bytes.now =
     ap (λ (xs : List ℕ). xs ++ drop c.shown_len.result c.args.bytes.now) same ∙ take-append-drop c.shown_len.result c.args.bytes.now in
-    record { told = told_showed c.args.self.now c.args.feed c.in_ok-copy.copy _ c.in_ok-push.ensures.items c.args.bytes.now _ front told; same = refl; crash = front_follows c.args.self.now c.args.feed c.in_ok-copy.copy _ c.in_ok-push.ensures.items c.args.bytes.now _ front; time = elapses_more c.args.self.now (Showed c.args.feed c.in_ok-copy.copy) _ c.in_ok-push.ensures.items _ (front_follows c.args.self.now c.args.feed c.in_ok-copy.copy _ c.in_ok-push.ensures.items c.args.bytes.now _ front) }
+    record { same = refl; crash = front_follows c.args.self.now c.args.feed c.in_ok-copy.copy _ c.in_ok-push.ensures.items c.args.bytes.now _ front; time = elapses_more c.args.self.now (Showed c.args.feed c.in_ok-copy.copy) _ c.in_ok-push.ensures.items _ (front_follows c.args.self.now c.args.feed c.in_ok-copy.copy _ c.in_ok-push.ensures.items c.args.bytes.now _ front) }
+
+pub returns-clause-told : goal.returns-clause-told
+returns-clause-told c = λ told.
+    let same : c.in_ok-copy.copy.items ≡ take c.shown_len.result c.args.bytes.now = search rules in
+    let front : c.in_ok-copy.copy.items ++ drop c.shown_len.result c.args.bytes.now ≡ c.args.bytes.now =
+    ap (λ (xs : List ℕ). xs ++ drop c.shown_len.result c.args.bytes.now) same ∙ take-append-drop c.shown_len.result c.args.bytes.now in
+    told_showed c.args.self.now c.args.feed c.in_ok-copy.copy _ c.in_ok-push.ensures.items c.args.bytes.now _ front told

@@ -16,4 +16,9 @@ returns-clause-crash c = λ told image left.
 pub returns-clause-goes : goal.returns-clause-goes
 returns-clause-goes c = λ told.
     let same : c.in_ok-copy.copy.items ≡ c.args.self.now.seen.items = search rules in
-    record { told = told_synced c.args.self.now c.in_ok-copy.copy _ c.in_ok-push.ensures.items same told; same = shown_more c.args.self.now (Synced c.in_ok-copy.copy) _ c.in_ok-push.ensures.items; time = elapses_more c.args.self.now (Synced c.in_ok-copy.copy) _ c.in_ok-push.ensures.items _ (λ image left. left) }
+    record { same = shown_more c.args.self.now (Synced c.in_ok-copy.copy) _ c.in_ok-push.ensures.items; time = elapses_more c.args.self.now (Synced c.in_ok-copy.copy) _ c.in_ok-push.ensures.items _ (λ image left. left) }
+
+pub returns-clause-told : goal.returns-clause-told
+returns-clause-told c = λ told.
+    let same : c.in_ok-copy.copy.items ≡ c.args.self.now.seen.items = search rules in
+    told_synced c.args.self.now c.in_ok-copy.copy _ c.in_ok-push.ensures.items same told

@@ -1,4 +1,4 @@
-use Rattle.std.proofs.Common.{◌≡◌, rules}
+use Rattle.std.proofs.Common.{◌≡◌, ◌≤◌, length, arith, rules}
 use Rattle.dm_store.specs.Calls.{written}
 use Rattle.dm_store.specs.declared.memory.Done.TheVariants.{Wrote}
 use Rattle.dm_store.proofs.Kept.{shown_more, elapses_more, told_written, written_follows}
@@ -13,4 +13,11 @@ pub returns-clause-goes : goal.returns-clause-goes
 returns-clause-goes c = λ told within.
     let same : c.in_ok-copy.copy.items ≡ c.args.bytes.now = search rules in
     let wrote : c.in_ok-journal.journal.items ≡ written c.args.self.now.seen.items c.args.at c.args.bytes.now = search rules in
-    record { told = told_written c.args.self.now c.args.at c.in_ok-copy.copy _ c.in_ok-push.ensures.items c.args.bytes.now same c.in_ok-journal.journal.items within wrote told; same = shown_more c.args.self.now (Wrote c.args.at c.in_ok-copy.copy) _ c.in_ok-push.ensures.items; time = elapses_more c.args.self.now (Wrote c.args.at c.in_ok-copy.copy) _ c.in_ok-push.ensures.items _ (λ image left. left) }
+    record { same = shown_more c.args.self.now (Wrote c.args.at c.in_ok-copy.copy) _ c.in_ok-push.ensures.items; time = elapses_more c.args.self.now (Wrote c.args.at c.in_ok-copy.copy) _ c.in_ok-push.ensures.items _ (λ image left. left) }
+
+pub returns-clause-told : goal.returns-clause-told
+returns-clause-told c = λ told.
+    let same : c.in_ok-copy.copy.items ≡ c.args.bytes.now = search rules in
+    let within : c.args.at ≤ length c.args.self.now.seen.items = omega arith in
+    let wrote : c.in_ok-journal.journal.items ≡ written c.args.self.now.seen.items c.args.at c.args.bytes.now = search rules in
+    told_written c.args.self.now c.args.at c.in_ok-copy.copy _ c.in_ok-push.ensures.items c.args.bytes.now same c.in_ok-journal.journal.items within wrote told
