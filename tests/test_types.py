@@ -14,7 +14,7 @@ from dispatch_tools.__main__ import PACKAGES, commands_in
 from tests.samples import TOP
 
 # Days that are played, of one name each, which one run of mypy cannot take together.
-PLAYS = [os.path.join('examples', name, 'play.py') for name in ('day', 'live', 'midnight')]
+PLAYS = [os.path.join('examples', name, 'play.py') for name in ('day', 'live', 'midnight', 'replan')]
 
 # The packages of libraries, and what each may stand on; and those of commands, which stand on libraries.
 LIBRARIES: dict[str, list[str]] = {

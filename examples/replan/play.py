@@ -28,6 +28,7 @@ from dispatch_tools.days.playing import Played, Program, Replanning, replanned  
 from dispatch_tools.days.policies import play_by  # noqa: E402
 from dispatch_tools.formats.files import BadFile  # noqa: E402
 from dispatch_tools.formats.giv import read_network  # noqa: E402
+from dispatch_tools.model.messages import DelayEvent  # noqa: E402
 from dispatch_tools.model.network import Network  # noqa: E402
 from dispatch_tools.model.railway import Rows  # noqa: E402
 from dispatch_tools.formats.runtext import heard, read_run  # noqa: E402
@@ -42,7 +43,7 @@ def told_of(network: Network, name: str) -> list[Told]:
     """The delays of a feed, each with the scheduled time of its event. Two of one event stay in their order."""
     with open(name, encoding='ascii') as file:
         messages = [heard(line.rstrip('\n')) for line in file]
-    told = [Told(network.events[network.event_place[message[1]]].time, message) for message in messages]
+    told = [Told(network.events[network.event_place[message.event]].time, message) for message in messages if isinstance(message, DelayEvent)]
     return sorted(told, key=lambda one: one.time)
 
 
@@ -65,7 +66,9 @@ def played(program: Program, network: Network, told: list[Told], how: Replanning
     whole = program.judged([*nothing.lines, f'plan {BUDGET}', 'adopt'], 'whole')
     with open(program.path('whole'), 'rb') as file:
         run = read_run(file.read(), len(network.events))
-    bound = run.logs[0].items[-2].answer.value.bound
+    planned = run.logs[0].items[-2].answer
+    assert planned is not None and planned.kind == 'plan', 'the line before the last asks for a plan'
+    bound = planned.value.bound
 
     morning = Played(network, Rows(network), ahead=told[:])
     morning.tell(start + MORNING)
