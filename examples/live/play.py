@@ -125,6 +125,9 @@ class Morning:
         self.server.kill()
         self.shown = [read(self.server.reply(feed)) for feed in range(len(ROOMS))]
         self.server.start()
+        # Each start writes the journal to a new file, and all that was read stands in it.
+        self.journal = Journal(self.server.store)
+        self.journal.read()
         print(f'{clock_time(now)} the server was killed, and started again', flush=True)
 
     def faults(self) -> Iterator[str]:
