@@ -72,11 +72,12 @@ module _ (net : Net) (network : IsNetwork net) (rows : RowsValue) (penalty : ℕ
       })
 
   -- so may those that are found where an evaluator of the task stands
-  pub solved_along : (e : EvaluatorValue) (own c : ℕ) (choices : List Decision) → IsOver task.task e → IsSolved net rows e.path penalty own c choices → AreKept task.task own choices c
-  solved_along e own c choices over h =
-      solved_kept over.begins.rest own own c choices
+  pub solved_along : (e : EvaluatorValue) (own best c : ℕ) (choices : List Decision) → IsOver task.task e → IsSolved net rows e.path penalty best c choices → best ≤ own
+      → AreKept task.task own choices c
+  solved_along e own best c choices over h low =
+      solved_kept over.begins.rest own best c choices
       (subst (IsChoiceList net rows) over.begins.is (subst (λ (r : RowsValue). IsChoiceList net r e.path) over.same over.is.is_path))
-      (subst (λ (p : List Decision). IsSolved net rows p penalty own c choices) over.begins.is h) (let less = h.less in omega (arith, less))
+      (subst (λ (p : List Decision). IsSolved net rows p penalty best c choices) over.begins.is h) (let less = h.less in omega (arith, less, low))
 
   -- where a step branches, some choice is violated
   pub branch_violates : (path : List Decision) (best c : ℕ) (choice : Choice) → IsBranchOn net rows (base ++ path) penalty best c choice → IsViolatedThere task.task path choice c

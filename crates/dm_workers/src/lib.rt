@@ -6,8 +6,13 @@
 //! # What is promised
 //!
 //! `search` gives a true plan of the rows of a snapshot, with the snapshot's entry, or wants memory. It has the clauses of
-//! dm_search's `plan`, and its plan costs no more than the rows by themselves. `search_task` does so for any task, with an entry:
-//! it is `find` and then `plan_of`.
+//! dm_search's `plan`, and its plan costs no more than the rows by themselves. `search_task` does so for any task, with an entry.
+//! It finds a guide, and is [`laws::search_guided`] then. So there is a guide, and what workers found and gave up of its tree, by a
+//! hand of a word, of which the plan is made as stands below (`IsPlanOfWorkers`).
+//!
+//! [`laws::search_guided`] is the search of workers who are led by a guide: it is `find` and then `plan_of`. The plan costs no
+//! more than the choices that were kept before, and no more than those to which the guide's path leads, if it is free choices,
+//! makes no cycle and leaves nothing violated (`LeadsTo`).
 //!
 //! [`laws::expand`] is what a worker does at one node, for a path over the rows of a snapshot. It looks at the word once, and
 //! answers dm_search's `step` for the value that the word has. Where it has found choices, it lowers the word. Where it wants

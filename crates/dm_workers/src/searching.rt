@@ -1,5 +1,5 @@
 //! A search by several workers that ends with a true plan.
-ghost use Rattle.std.specs.Prelude.{ℕ, ◌≡◌, ◌<◌, ◌≤◌, [], ◌∷◌, min, All, IfOk, IfSome};
+ghost use Rattle.std.specs.Prelude.{ℕ, ◌≡◌, ◌<◌, ◌≤◌, [], ◌∷◌, drop, min, All, IfOk, IfSome};
 ghost use Rattle.dm_base.specs.declared.limits.TheConstants.{BUDGET, PENALTY, WORKERS};
 ghost use Rattle.dm_bound.specs.Words.{nothing_looked};
 ghost use Rattle.dm_search.specs.Finish.{IsStart};
@@ -13,7 +13,8 @@ ghost use Rattle.dm_rows.specs.Cost.{Costs};
 ghost use Rattle.dm_rows.specs.Rows.{IsSized};
 ghost use Rattle.dm_workers.specs.Nodes.{guided_by, PicksNodes};
 ghost use Rattle.dm_workers.specs.Found.{IsOwnCost, AreKept, IsFound, BeginsFrom, GrowsFrom};
-ghost use Rattle.dm_workers.specs.Inside.Planning.{IsBestOf, IsLed, IsClosed};
+ghost use Rattle.dm_workers.specs.Led.{LeadsTo, IsMadeTogether, IsPlanOfWorkers};
+ghost use Rattle.dm_workers.specs.Inside.Planning.{IsBetterBy, IsClosed};
 
 use crate::expanding::capped;
 use crate::finding::{Beginning, Found, find};
@@ -60,8 +61,7 @@ pub fn search<R: Threads + Wait + Sync, H: HoldPoint + Sync>(
     search_task(rt, &task, snapshot.entry, workers, gate)
 }
 
-/// The same for a task, with an entry: the guide's choices and its tree, the workers' part of that tree, and a search that goes on from
-/// there. The plan costs no more than the guide's choices and than those of any worker.
+/// The same for a task, with an entry, led by a guide that searchers find: the plan is made as [`search_guided`] makes it.
 pub fn search_task<R: Threads + Wait + Sync, H: HoldPoint + Sync>(
     rt: &R,
     task: &Task<'_>,
@@ -76,6 +76,7 @@ pub fn search_task<R: Threads + Wait + Sync, H: HoldPoint + Sync>(
     ensures plan { IfOk result (IsTruePlan (task_of task.now)) }
     ensures entry { IfOk result (λ plan. plan.entry ≡ entry) }
     ensures no_dearer { IfOk result (λ plan. (own : ℕ) → IsOwnCost (task_of task.now) own → plan.cost ≤ own) }
+    ensures together { IfOk result (IsPlanOfWorkers (task_of task.now) workers) }
 {
     let (own, searchers) = begin(rt, task, workers)?;
     let mut searchers = searchers;
@@ -88,42 +89,13 @@ pub fn search_task<R: Threads + Wait + Sync, H: HoldPoint + Sync>(
         hand,
         evaluators,
     };
-    let beginning = led_by(task, &guide, beginning)?;
-    go_on::<Brand, R, H>(rt, task, entry, guide, beginning, word, gate)
+    search_guided::<Brand, R, H>(rt, task, entry, guide, beginning, word, gate)
 }
 
-/// What workers begin with who are led by a guide: with the choices to which it leads.
-fn led_by(task: &Task<'_>, guide: &Guide, beginning: Beginning) -> Result<Beginning, AllocError>
-    requires posed { IsPosedTask task.now }
-    requires no_cycle { HasNoCycle task.now.net.now task.now.rows.now }
-    requires own { IsOwnCost (task_of task.now) beginning.own }
-    requires evaluators { All (IsOver (task_of task.now)) beginning.evaluators.items }
-    ensures same { IfOk result (λ b. (b.workers ≡ beginning.workers) × (b.own ≡ beginning.own) × (b.hand ≡ beginning.hand)) }
-    ensures own { IfOk result (λ b. IsOwnCost (task_of task.now) b.own) }
-    ensures kept { IfOk result (λ b. AreKept (task_of task.now) b.own b.best.choices b.best.cost) }
-    ensures evaluators { IfOk result (λ b. All (IsOver (task_of task.now)) b.evaluators.items) }
-{
-    let Beginning {
-        workers,
-        own,
-        best: _,
-        hand,
-        mut evaluators,
-    } = beginning;
-    let mut evaluator = made(task, lend(&mut evaluators))?;
-    let best = choices_of(task, own, &mut evaluator, guide)?;
-    evaluators.push(evaluator)?;
-    Ok(Beginning {
-        workers,
-        own,
-        best,
-        hand,
-        evaluators,
-    })
-}
-
-/// What the workers find, and the plan of it.
-fn go_on<F: Grown<Path> + Send + Sync, R: Threads + Wait + Sync, H: HoldPoint + Sync>(
+/// The plan of what workers find who are led by a guide. They begin with the guide's choices, or with those that are kept where
+/// these cost no more. The plan costs no more than the choices that are kept, than those to which the guide leads, than those of any
+/// worker, and than each value of the word at which one may have pruned. The hand has all seats of the word, which ends here.
+pub fn search_guided<F: Grown<Path> + Send + Sync, R: Threads + Wait + Sync, H: HoldPoint + Sync>(
     rt: &R,
     task: &Task<'_>,
     entry: u32,
@@ -146,47 +118,82 @@ fn go_on<F: Grown<Path> + Send + Sync, R: Threads + Wait + Sync, H: HoldPoint + 
     ensures plan { IfOk result (IsTruePlan (task_of task.now)) }
     ensures entry { IfOk result (λ plan. plan.entry ≡ entry) }
     ensures no_dearer { IfOk result (λ plan. plan.cost ≤ beginning.best.cost) }
+    ensures led { IfOk result (λ plan. (c : ℕ) → LeadsTo (task_of task.now) guide.path.items c → plan.cost ≤ c) }
+    ensures together { IfOk result (IsMadeTogether (guided_by task.now guide) beginning.own beginning.workers word.id) }
 {
     let own = beginning.own;
+    let beginning = led_by(task, &guide, beginning)?;
     let found = find::<F, R, H>(rt, task, &guide, beginning, &word, gate)?;
     plan_of(task, entry, own, guide, found, word)
 }
 
-/// The choices to which a guide leads, where they cost less than the rows by themselves, and else the rows' own.
+/// What workers begin with who are led by a guide: with the choices to which it leads, where these cost less.
+fn led_by(task: &Task<'_>, guide: &Guide, beginning: Beginning) -> Result<Beginning, AllocError>
+    requires posed { IsPosedTask task.now }
+    requires kept { AreKept (task_of task.now) beginning.own beginning.best.choices beginning.best.cost }
+    requires evaluators { All (IsOver (task_of task.now)) beginning.evaluators.items }
+    ensures same { IfOk result (λ b. (b.workers ≡ beginning.workers) × (b.own ≡ beginning.own) × (b.hand ≡ beginning.hand)) }
+    ensures kept { IfOk result (λ b. AreKept (task_of task.now) beginning.own b.best.choices b.best.cost) }
+    ensures no_dearer { IfOk result (λ b. b.best.cost ≤ beginning.best.cost) }
+    ensures led { IfOk result (λ b. (c : ℕ) → LeadsTo (task_of task.now) guide.now.path.items c → b.best.cost ≤ c) }
+    ensures evaluators { IfOk result (λ b. All (IsOver (task_of task.now)) b.evaluators.items) }
+{
+    let Beginning {
+        workers,
+        own,
+        best,
+        hand,
+        mut evaluators,
+    } = beginning;
+    let mut evaluator = made(task, lend(&mut evaluators))?;
+    let best = choices_of(task, &mut evaluator, guide, best)?;
+    evaluators.push(evaluator)?;
+    Ok(Beginning {
+        workers,
+        own,
+        best,
+        hand,
+        evaluators,
+    })
+}
+
+/// The choices to which a guide leads, where they cost less than those that are kept, and else these.
 fn choices_of(
     task: &Task<'_>,
-    own: Cost,
     evaluator: &mut Evaluator,
     guide: &Guide,
+    kept: Best,
 ) -> Result<Best, AllocError>
     requires posed { IsPosedTask task.now }
-    requires no_cycle { HasNoCycle task.now.net.now task.now.rows.now }
-    requires own { IsOwnCost (task_of task.now) own }
     requires evaluator { IsOver (task_of task.now) evaluator.old }
     ensures evaluator { IsOver (task_of task.now) evaluator.new }
-    ensures led { IfOk result (λ best. IsLed (task_of task.now) own evaluator.new.path best.choices best.cost) }
-    ensures kept { IfOk result (λ best. AreKept (task_of task.now) own best.choices best.cost) }
+    ensures kept { IfOk result (λ best. (own : ℕ) → AreKept (task_of task.now) own kept.choices kept.cost
+        → AreKept (task_of task.now) own best.choices best.cost) }
+    ensures no_dearer { IfOk result (λ best. best.cost ≤ kept.cost) }
+    ensures led { IfOk result (λ best. (c : ℕ) → LeadsTo (task_of task.now) guide.now.path.items c → best.cost ≤ c) }
 {
     task.net.reveal();
     let path = behind(guide.path.as_slice(), task.base.len());
-    let outcome = step_along(task, evaluator, path, own)?;
-    Ok(best_of(task.alloc, own, outcome))
+    let outcome = step_along(task, evaluator, path, kept.cost)?;
+    Ok(better_of(kept, outcome))
 }
 
-/// The choices that an outcome solves, and else the rows' own.
-fn best_of(alloc: Global, own: Cost, outcome: Outcome) -> Best
-    ensures { IsBestOf own outcome result.choices result.cost }
+/// The choices that an outcome solves, and else those that are kept.
+fn better_of(kept: Best, outcome: Outcome) -> Best
+    ensures { IsBetterBy kept.choices kept.cost outcome result.choices result.cost }
 {
     match outcome {
         Outcome::Solved(cost, choices) => Best { choices, cost },
-        Outcome::Cycle => Best::of_rows(alloc, own),
-        Outcome::Pruned(_cost) => Best::of_rows(alloc, own),
-        Outcome::Branch(_cost, _choice) => Best::of_rows(alloc, own),
+        Outcome::Cycle => kept,
+        Outcome::Pruned(_cost) => kept,
+        Outcome::Branch(_cost, _choice) => kept,
     }
 }
 
 /// What follows in a path behind so many decisions.
-fn behind(path: &[Decision], many: usize) -> &[Decision] {
+fn behind(path: &[Decision], many: usize) -> &[Decision]
+    ensures { result.now ≡ drop many path.now }
+{
     if many < path.len() {
         &path[many..]
     } else {
