@@ -5,8 +5,10 @@
 //! real forms.
 //!
 //! It makes the real shelf, sink and gate. For each stop S that the words give, it makes a board in the file `DIR/board-S.txt`.
-//! Where the words ask for the live server, it opens the feeds and the folder of the store and calls `dm_serve::serve_day`. Where
-//! they ask for the text of a store, it calls `dm_store_text::text_of_store`. Where they begin with `serve` or `text` and ask for
+//! Where the words ask for the live server, it looks whether the store may be begun or gone on with, opens the feeds and the folder
+//! of the store, and calls `dm_serve::serve_day`. A store that is begun lists the check sums of the network's two files, and one
+//! over other files is refused. Where the journal is short of room, the feeds give no line that asks for a plan. Where the words
+//! ask for the text of a store, it calls `dm_store_text::text_of_store`. Where they begin with `serve` or `text` and ask for
 //! neither, it writes their usage line. With all other words it calls `dm_program::dispatch`. It says on the standard error what
 //! went wrong, and for a server also what it found at its start. It ends with the status.
 #![tactic(auto)]
@@ -14,7 +16,9 @@
 ghost use Rattle.std.specs.Prelude.{◌≤◌, vec_len, IfOk};
 ghost use Rattle.dm_base.specs.declared.limits.TheConstants.{BOARDS};
 
+mod begun;
 mod feeds;
+mod gauge;
 mod live;
 mod pace;
 

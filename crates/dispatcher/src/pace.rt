@@ -1,4 +1,5 @@
 //! How a server waits, and when it ends.
+use crate::gauge::Gauge;
 use dm_serve::Pace;
 use std::fs::File;
 use std::rt::{Clock, Files};
@@ -25,6 +26,9 @@ pub struct FilePace<'r, R> {
     /// The name of the file.
     pub stop: &'r str,
 
+    /// How full the journal is.
+    pub gauge: &'r Gauge<'r, R>,
+
     /// How many feeds there are.
     pub feeds: usize,
 
@@ -40,6 +44,7 @@ impl<R: Clock + Eprint + Files<File = File>> Pace for FilePace<'_, R> {
     ghost told = { λ _. Unit {0} };
 
     fn begin(&mut self, entries: u32) {
+        self.gauge.begin();
         let _ = say_begun(
             self.rt,
             self.feeds,
@@ -60,6 +65,7 @@ impl<R: Clock + Eprint + Files<File = File>> Pace for FilePace<'_, R> {
             return true;
         }
         self.pauses = PAUSES_BETWEEN;
+        self.gauge.look();
         fs::metadata(self.rt, self.stop).is_err()
     }
 }
