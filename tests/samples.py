@@ -13,6 +13,24 @@ TOP = os.path.join(os.path.dirname(os.path.abspath(__file__)), '..')
 CASES = os.path.join(TOP, 'crates', 'dm_runs', 'data')
 
 
+# A program that begins a store as the built one does, and does nothing else.
+STAND_IN = '''#!/bin/sh
+[ "$1 $2" = 'serve --new' ] && [ -e "$4/stop" ] || exit 2
+touch "$4/lock" "$4/reply-1.txt" "$4/reply-2.txt"
+(cd "$3" && sha256sum Activities-expanded.giv Events-expanded.giv) > "$4/files" || exit 4
+printf '+41\\ndm-store 1\\npenalty 3600\\nplans 16\\nfeeds 2\\n~' > "$4/journal"
+'''
+
+
+def stand_in(folder: str) -> str:
+    """The name of a stand-in for the program, made in a folder."""
+    name = os.path.join(folder, 'stand-in')
+    with open(name, 'w') as file:
+        file.write(STAND_IN)
+    os.chmod(name, 0o755)
+    return name
+
+
 def network(name: str) -> str:
     """The folder of a network."""
     return os.path.join(CASES, 'networks', name, 'net')

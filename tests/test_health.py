@@ -4,12 +4,14 @@ from __future__ import annotations
 import fcntl
 import io
 import os
+import subprocess
 import sys
 import unittest
 from contextlib import redirect_stdout
 from unittest import mock
 
 from dispatch_tools.commands import health as health_command
+from dispatch_tools.formats.giv import ACTIVITIES, EVENTS
 from dispatch_tools.live import health
 from dispatch_tools.oracle.journals import at_rest
 from tests.test_live import DELAYED, HEAD, InStore, PLANNED
@@ -58,6 +60,28 @@ class Health(InStore):
         self.assertEqual(status, health.WELL, line)
         self.assertIn('entries 2,', line)
         self.assertIn('lines answered 1, 3,', line)
+
+    def test_other_files_of_the_network_are_critical(self) -> None:
+        net = self.store / 'net'
+        net.mkdir()
+        for name in EVENTS, ACTIVITIES:
+            (net / name).write_bytes(b'# a comment\n')
+        self.serve()
+        self.assertEqual(self.said(f'--net={net}')[0], health.WELL)
+        done = subprocess.run(['sha256sum', EVENTS, ACTIVITIES], cwd=net, capture_output=True, check=True)
+        for listed in done.stdout, done.stdout.replace(b'  ', b'  some/folder/'):
+            (self.store / 'files').write_bytes(listed)
+            self.assertEqual(self.said(f'--net={net}')[0], health.WELL)
+        # A half line is no line.
+        (self.store / 'files').write_bytes(done.stdout[:-1])
+        self.assertEqual(self.said(f'--net={net}')[0], health.CRITICAL)
+        (self.store / 'files').write_bytes(done.stdout)
+        (net / EVENTS).write_bytes(b'# another comment\n')
+        status, line = self.said(f'--net={net}')
+        self.assertEqual(status, health.CRITICAL)
+        self.assertIn('begun over other files of the network', line)
+        (net / EVENTS).unlink()
+        self.assertEqual(self.said(f'--net={net}')[0], health.UNKNOWN)
 
     def test_no_server_is_critical(self) -> None:
         self.assertEqual(self.said()[0], health.CRITICAL)

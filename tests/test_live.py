@@ -17,7 +17,7 @@ from dispatch_tools.formats.protobuf import decode, encode
 from dispatch_tools.formats.runtext import Entry
 from dispatch_tools.commands import gtfs_rt_in as gtfs_rt_in_command
 from dispatch_tools.live import gtfs_rt_in
-from dispatch_tools.live.serving import Server
+from dispatch_tools.live.serving import command_of, Server
 from dispatch_tools.model.messages import Adopt, DelayEvent, Drop, First, Message, Now
 from dispatch_tools.model.railway import apply, cost_of, Rows, sound_times
 from dispatch_tools.oracle.journals import at_rest, block
@@ -197,6 +197,15 @@ class Realtime(InNetwork):
         with open(out, 'rb') as file:
             late = decode(file.read())['entity'][0]['trip_update']
         self.assertEqual([call.get('arrival', {}).get('delay') for call in late['stop_time_update']], [None, 60, 60])
+
+
+class Commands(InStore):
+    def test_a_store_is_begun_where_its_journal_has_no_byte(self) -> None:
+        self.assertEqual(command_of(self.store), ['serve', '--new'])
+        self.write(b'')
+        self.assertEqual(command_of(self.store), ['serve', '--new'])
+        self.write(at_rest([HEAD]))
+        self.assertEqual(command_of(self.store), ['serve'])
 
 
 class Unit(unittest.TestCase):

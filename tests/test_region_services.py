@@ -17,7 +17,7 @@ from typing import Callable
 from dispatch_tools.commands import split
 from dispatch_tools.formats.giv import read_network
 from dispatch_tools.live.relay import read_boundary
-from tests.samples import CASES, TOP
+from tests.samples import CASES, stand_in, TOP
 
 sys.path.insert(0, os.path.join(TOP, 'examples', 'regions'))
 from broker import Tls  # noqa: E402
@@ -38,7 +38,7 @@ class Services(unittest.TestCase):
         with contextlib.redirect_stdout(io.StringIO()):
             self.assertEqual(split.main([NET, STOPS, folder.name, '--regions=2']), 0)
         self.broker = Tls(folder.name, free_port(), 2)
-        self.environment = surroundings(folder.name, None, 1)
+        self.environment = surroundings(folder.name, stand_in(folder.name), 1)
         for number in 1, 2:
             subprocess.run([SCRIPT, f'begin-{number}'], env=self.environment, check=True)
         # No program is built here: all run but the servers.
@@ -81,7 +81,7 @@ class Services(unittest.TestCase):
         self.until(lambda: self.read(1, 'room').endswith('now 6\n'))
         words = self.broker.client('watch', 'mosquitto_sub', '-q', '1', '-C', '1', '-W', '60', '-t', 'state/1')
         said = subprocess.run(words, capture_output=True, text=True).stdout
-        self.assertRegex(said, '^status 2; entries 0; journal 0; feeds ; told ; said no server runs')
+        self.assertRegex(said, '^status 2; entries 0; journal 46; feeds [0-9 ]+; told ; said no server runs')
         # Whatever ends is started again.
         self.assertGreaterEqual(self.services['room-1'].starts, 2)
 

@@ -11,7 +11,7 @@ import unittest
 from pathlib import Path
 
 from tests.patience import comes_to_be
-from tests.samples import TOP
+from tests.samples import stand_in, TOP
 
 LIVE = Path(TOP, 'examples', 'live')
 REGIONS = Path(TOP, 'examples', 'regions')
@@ -55,25 +55,23 @@ class Days(unittest.TestCase):
         for name in 'Events-expanded.giv', 'Activities-expanded.giv':
             (self.day / 'net' / name).write_text('')
 
-    def begin(self) -> subprocess.CompletedProcess[str]:
-        return subprocess.run([LIVE / 'dispatcher-day', '2026-12-24'], env={**os.environ, 'DISPATCHER_DAYS': str(self.days)},
-                              capture_output=True, text=True, check=False)
+    def begin(self, *words: str) -> subprocess.CompletedProcess[str]:
+        programs = tempfile.mkdtemp()
+        self.addCleanup(shutil.rmtree, programs)
+        return subprocess.run([LIVE / 'dispatcher-day', '2026-12-24', *words], capture_output=True, text=True, check=False,
+                              env={**os.environ, 'DISPATCHER_DAYS': str(self.days), 'DISPATCHER': stand_in(programs)})
 
     def test_a_day_gets_a_store_and_its_feeds(self) -> None:
         (self.day / 'south').write_text('now 5\n')
         self.assertEqual(self.begin().returncode, 0)
         self.assertEqual(sorted(os.listdir(self.day)), ['net', 'north', 'south', 'store'])
-        self.assertEqual([(self.day / 'store' / 'journal').read_text(), (self.day / 'north').read_text()], ['', ''])
-        self.assertEqual(sorted(os.listdir(self.day / 'store')), ['files', 'journal'])
+        self.assertEqual((self.day / 'north').read_text(), '')
+        self.assertEqual(sorted(os.listdir(self.day / 'store')), ['files', 'journal', 'lock', 'reply-1.txt', 'reply-2.txt'])
         self.assertEqual((self.day / 'south').read_text(), 'now 5\n')
 
-    def test_a_network_that_was_changed_is_found(self) -> None:
-        self.begin()
-        check = ['sha256sum', '--check', '--quiet', 'store/files']
-        self.assertEqual(subprocess.run(check, cwd=self.day, check=False).returncode, 0)
-        (self.day / 'net' / 'Events-expanded.giv').write_text('another day\n')
-        done = subprocess.run(check, cwd=self.day, capture_output=True, check=False)
-        self.assertEqual(done.returncode, 1)
+    def test_feeds_and_options_are_those_that_are_given(self) -> None:
+        self.assertEqual(self.begin('room', '--plans=400', 'relay').returncode, 0)
+        self.assertEqual(sorted(os.listdir(self.day)), ['net', 'relay', 'room', 'store'])
 
     def test_a_store_that_is_there_is_left_as_it_is(self) -> None:
         (self.day / 'store').mkdir()

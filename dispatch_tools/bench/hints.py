@@ -86,18 +86,28 @@ def into_folder(name: str) -> Making:
     return make
 
 
+def new_folder(then: Making) -> Making:
+    """Makes the folder of a store, and changes something then."""
+    def make(program: str) -> None:
+        os.mkdir('store')
+        then(program)
+    return make
+
+
 def serve(words: list[str], then: Making = lambda program: None) -> Making:
     """Lets a server answer what its feed has, and end, and changes something then."""
     def make(program: str) -> None:
         os.mkdir('store')
         write('store/stop', b'')
-        subprocess.run([program, 'serve', 'net', 'store', 'f', *words], capture_output=True, check=True)
+        subprocess.run([program, *BEGIN, *words], capture_output=True, check=True)
         then(program)
     return make
 
 
 RUN = ['run', 'net', 'f']
 SERVE = ['serve', 'net', 'store', 'f']
+BEGIN = ['serve', '--new', 'net', 'store', 'f']
+MISSING = 'the folder has no journal: was the store moved, or is its disk not mounted? A new store is begun by `serve --new`'
 TEXT = ['text', 'net', 'store', 'f']
 PAGE = ['...', '  run DIR FEED..', '...', '  check DIR TEXT', '...', '  gen NUMBER TRAINS', '...',
         '  --penalty=3600   seconds for each passenger who misses a change (3600)', '...',
@@ -132,7 +142,7 @@ USAGE = [
           '--held takes 1 to 4096 different numbers of activities, as --held=5,6', LIST]),
     Case('minimal', ['window', 'net', 'f', '0', '9', '1', '--minimal=-1'], 2, ['word 7: --minimal takes 0 to 18446744073709551615', LIST]),
     Case('boards', [*RUN, '--boards=2,2'], 2, ['--boards takes 1 to 64 different numbers of stops, as --boards=4,2', LIST]),
-    Case('server without a feed', ['serve', 'net', 'store'], 2, ['names are missing: serve DIR STORE FEED..', LIST]),
+    Case('server without a feed', ['serve', 'net', 'store'], 2, ['names are missing: serve [--new] DIR STORE FEED..', LIST]),
     Case('too many feeds of a server', ['serve', 'net', 'store', *['f'] * 65], 2, ['65 feeds, at most 64', LIST]),
     Case('option that no text of a store has', [*TEXT, '--held=5'], 2, ['word 5: `text` has no option --held', LIST]),
     Case('generated day', ['gen', '1', '2001'], 2,
@@ -253,7 +263,15 @@ FEEDS = [
 LIVE = [
     Case('server that is told to end', SERVE, 0, ['...', 'told to end: the run is printed, and the store holds it'], serve([])),
     Case('text of a store', TEXT, 0, [], serve([])),
-    Case('no folder of a store', SERVE, 4, ['the folder store must be there, and its files be read and written']),
+    Case('no store', SERVE, 3, [MISSING]),
+    Case('a store that is begun without its folder', BEGIN, 4,
+         ['the folder store must be there, and its files be read and written']),
+    Case('a store that was begun', BEGIN, 3,
+         ['the store was begun before: `serve` without --new goes on with it'], serve([])),
+    Case('other files of the network', SERVE, 3,
+         ['the store was begun over other files of the network: bring those back, or go on in a new store with `dispatch-tools carry`'],
+         serve([], edit(EVENTS, b'# event-id', b'# event-number'))),
+    Case('a new store in another place', [*SERVE, '--new'], 2, ['word 5: --new stands right behind `serve` alone', LIST]),
     Case('no journal', TEXT, 4, ['store/journal: No such file or directory (os error 2)']),
     Case('another penalty of a store', TEXT, 3,
          ['the store was begun with another --penalty, other --plans or another number of feeds'], serve(['--penalty=10'])),
@@ -274,9 +292,9 @@ LIVE = [
          serve([], edit('store/journal', b'0 cost 0', b'0 cost 1'))),
     Case('feed of a server that cannot be opened', ['serve', 'net', 'store', 'g'], 4,
          ['g: No such file or directory (os error 2)'], serve([])),
-    Case('network that is refused', SERVE, 3,
+    Case('network that is refused', BEGIN, 3,
          [f'{EVENTS} begins with a byte order mark (EF BB BF): save it as UTF-8 without one'],
-         serve([], edit(EVENTS, b'# event-id', b'\xef\xbb\xbf# event-id'))),
+         new_folder(edit(EVENTS, b'# event-id', b'\xef\xbb\xbf# event-id'))),
     Case('text that is not taken', TEXT, 5,
          ['the output, the journal, a reply file or a feed could not be written or synced: has the disk room?'], serve([]), out='/dev/full'),
 ]

@@ -3,8 +3,8 @@
 A server answers a day of three feeds, and is told to end. Each case begins with a copy of that folder. It does something to a
 feed, to the store, to the words or to the server, and starts the server again. Each start has to end with its status and its
 line, to leave what it refuses as it was, and to lose no line that was answered. So whatever a reply file showed is the beginning
-of a later log, or the start is refused. `--big` also tries 64 feeds of 64 MiB, and a million lines at one go. That needs 10 GB of
-disk and some minutes.
+of a later log, or the start is refused. `--big` also tries 64 feeds of 64 MiB, a million lines at one go, and a journal that is nearly
+full. That needs 10 GB of disk and some minutes.
 
 The script prints what differs, with the folder, which stays there. The status is then 1.
 """
@@ -23,6 +23,7 @@ import time
 from collections.abc import Callable, Iterator, Sequence
 from pathlib import Path
 
+from dispatch_tools.bench.hostile_begin import journal_short_of_room, list_of_sums, network_changed, no_store, store_begun_before, store_empty
 from dispatch_tools.bench.hostile_day import Day, End, expect, FEEDS, goes_on, PATIENCE, refused
 from dispatch_tools.bench.kill import part_of, Wrong
 from dispatch_tools.days.generated import write_day
@@ -257,11 +258,6 @@ def reply_with_more(day: Day) -> None:
     refused(day, b'refused store reply 2\n')
 
 
-def no_store(day: Day) -> None:
-    shutil.rmtree(day.store)
-    expect(day.served(), 4, b'read fault %s\n' % str(day.store).encode())
-
-
 def store_is_a_file(day: Day) -> None:
     shutil.rmtree(day.store)
     day.store.write_bytes(b'')
@@ -367,10 +363,14 @@ def lock_gone(day: Day) -> None:
 
 
 def journal_gone(day: Day) -> None:
-    """A new journal is refused beside reply files that show more."""
+    """A journal without a byte is none, and a new one is refused beside reply files that show more."""
     is_noticed(day, lambda store: (store / 'journal').unlink())
     (day.store / 'journal').touch()
-    refused(day, b'refused store reply 1\n')
+    before = day.replies()
+    expect(day.ran('serve'), 3, b'refused store missing\n')
+    expect(day.ran('serve', '--new'), 3, b'refused store reply 1\n')
+    if day.replies() != before:
+        raise Wrong('what was refused was changed')
 
 
 def without_rights(day: Day) -> None:
@@ -400,7 +400,8 @@ def no_words(day: Day) -> None:
 
 
 def files_refused(day: Day) -> None:
-    """Files are refused with the line that `run` prints."""
+    """Files are refused with the line that `run` prints, where the store does not list others."""
+    (day.store / 'files').unlink()
     events = day.folder / 'net' / 'Events-expanded.giv'
     for text in (b'no record\n', None):
         if text is None:
@@ -439,10 +440,10 @@ CASES: tuple[Callable[[Day], None], ...] = (
     as_it_was, feed_cut, feed_cut_within_a_line, feed_empty, feed_replaced, answered_line_changed, line_put_between,
     comment_changed, line_end_changed, line_in_two, feed_gone, feed_is_no_file, feed_cut_meanwhile, feed_rotated, feed_moved,
     stopped_under_load, bytes_changed, journal_cut, no_gate_behind, journal_of_another, reply_gone, reply_cut, reply_with_more,
-    no_store, store_is_a_file, two_servers, clock_jumps, disk_full, store_gone, store_moved, store_put_anew, reply_moved, lock_gone,
+    no_store, store_empty, store_begun_before, network_changed, list_of_sums, store_is_a_file, two_servers, clock_jumps, disk_full, store_gone, store_moved, store_put_anew, reply_moved, lock_gone,
     journal_gone, without_rights, other_words, no_words, files_refused,
 )
-BIG: tuple[Callable[[Day], None], ...] = (big_feeds, million_lines)
+BIG: tuple[Callable[[Day], None], ...] = (big_feeds, million_lines, journal_short_of_room)
 
 
 def first_day(program: str, folder: Path) -> Day:

@@ -7,6 +7,7 @@ from pathlib import Path
 from typing import Any, NamedTuple
 
 from dispatch_tools.bench.kill import part_of, Wrong
+from dispatch_tools.live.serving import command_of
 PATIENCE = 120
 
 # What the feeds hold: lines that are answered, and lines that are not.
@@ -32,33 +33,33 @@ class Day:
         self.feeds = [folder / f'feed-{number}' for number in range(1, len(FEEDS) + 1)]
         self.options: list[str] = []
 
-    def words(self, word: str) -> list[str]:
-        return [self.program, word, str(self.folder / 'net'), str(self.store), *map(str, self.feeds), *self.options]
+    def words(self, *command: str) -> list[str]:
+        return [self.program, *command, str(self.folder / 'net'), str(self.store), *map(str, self.feeds), *self.options]
 
-    def ran(self, word: str, **how: Any) -> End:
-        done = subprocess.run(self.words(word), capture_output=True, timeout=PATIENCE, check=False, **how)
+    def ran(self, *command: str, **how: Any) -> End:
+        done = subprocess.run(self.words(*command), capture_output=True, timeout=PATIENCE, check=False, **how)
         return End(done.returncode, done.stdout)
 
-    def served(self, **how: Any) -> End:
-        """Serves until all that stands in the feeds is answered."""
+    def served(self, *command: str, **how: Any) -> End:
+        """Serves until all that stands in the feeds is answered; by this command, or by the one that the store wants."""
         stop = self.store / 'stop'
         if self.store.is_dir():
             stop.touch()
-        end = self.ran('serve', **how)
+        end = self.ran(*(command or command_of(self.store)), **how)
         stop.unlink(missing_ok=True)
         return end
 
-    def begun(self, said: Any = subprocess.DEVNULL, **how: Any) -> subprocess.Popen[bytes]:
+    def begun(self, said: Any = subprocess.DEVNULL, patience: float = PATIENCE, **how: Any) -> subprocess.Popen[bytes]:
         """A server that goes on, once it has replied to a new line."""
-        server = subprocess.Popen(self.words('serve'), stdout=subprocess.PIPE, stderr=said, **how)
-        self.ask(server)
+        server = subprocess.Popen(self.words(*command_of(self.store)), stdout=subprocess.PIPE, stderr=said, **how)
+        self.ask(server, patience)
         return server
 
-    def ask(self, server: subprocess.Popen[bytes]) -> None:
+    def ask(self, server: subprocess.Popen[bytes], patience: float = PATIENCE) -> None:
         """Asks a server, and waits for its reply."""
         before = len(self.reply(2))
         self.append(2, b'cost\n')
-        ends = time.monotonic() + PATIENCE
+        ends = time.monotonic() + patience
         while len(self.reply(2)) == before:
             if time.monotonic() > ends or server.poll() is not None:
                 raise Wrong(f'a server did not answer: {server.poll()}')

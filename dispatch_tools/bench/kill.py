@@ -26,6 +26,7 @@ from pathlib import Path
 
 from dispatch_tools.days.generated import Draws, FEED, mixed, write_day
 from dispatch_tools.formats.runtext import due_items, read_run, Run
+from dispatch_tools.live.serving import command_of
 from dispatch_tools.model.messages import Adopt, Message
 from dispatch_tools.words import add_program, command_line
 
@@ -87,12 +88,12 @@ class Server:
         self.begun = 0
         self.texts: list[bytes] = []
 
-    def words(self, word: str) -> list[str]:
-        return [self.program, word, str(self.folder / 'net'), str(self.store), *map(str, self.feeds)]
+    def words(self, *command: str) -> list[str]:
+        return [self.program, *command, str(self.folder / 'net'), str(self.store), *map(str, self.feeds)]
 
     def start(self) -> subprocess.Popen[bytes]:
         with open(self.folder / 'printed', 'wb') as printed, open(self.folder / 'said', 'ab') as said:
-            return subprocess.Popen(self.words('serve'), stdout=printed, stderr=said)
+            return subprocess.Popen(self.words(*command_of(self.store)), stdout=printed, stderr=said)
 
     def printed(self) -> bytes:
         return (self.folder / 'printed').read_bytes()
@@ -207,11 +208,11 @@ def times_alone(server: Server, run: Run, count: int) -> str:
     feed.write_text('\n'.join(lines) + '\n')
     store.mkdir()
     (store / 'stop').touch()
-    ways = {'serve': [str(store), str(feed)]}
+    ways = {'serve': ['serve', '--new', str(server.folder / 'net'), str(store), str(feed)]}
     if feed.stat().st_size <= FEED:
-        ways['run'] = [str(feed)]
-    for word, names in ways.items():
-        ran = subprocess.run([server.program, word, str(server.folder / 'net'), *names], capture_output=True)
+        ways['run'] = ['run', str(server.folder / 'net'), str(feed)]
+    for word, words in ways.items():
+        ran = subprocess.run([server.program, *words], capture_output=True)
         again = read_run(ran.stdout, count)
         if (again.times, again.cost) != (run.times, run.cost):
             raise Wrong(f'the times are not those of `{word}` over the journal')

@@ -33,6 +33,7 @@ from dispatch_tools.bench.kill import part_of, Wrong
 from dispatch_tools.bench.recording import Cut, Event, FeedSynced, FolderSynced, Made, Recording, Renamed, Synced, Took, Wrote
 from dispatch_tools.days.generated import write_day
 from dispatch_tools.formats.runtext import due_items, read_run
+from dispatch_tools.live.serving import command_of
 from dispatch_tools.words import add_program, command_line
 
 IMAGES = 4000
@@ -292,7 +293,7 @@ class Day:
         self.feeds = [folder / f'feed-{number}' for number in range(1, len(FIRST) + 1)]
 
     def words(self) -> list[str]:
-        return [self.program, 'serve', str(self.folder / 'net'), str(self.store), *map(str, self.feeds), '--batch=1']
+        return [self.program, *command_of(self.store), str(self.folder / 'net'), str(self.store), *map(str, self.feeds), '--batch=1']
 
     def served(self) -> subprocess.CompletedProcess[bytes]:
         """A server that answers all that stands in the feeds, and ends."""

@@ -12,7 +12,7 @@ from dispatch_tools.dev.program import NotBuilt, Repository
 # The words of each command.
 COMMANDS = {
     'run': 'DIR FEED..',
-    'serve': 'DIR STORE FEED..',
+    'serve': '[--new] DIR STORE FEED..',
     'text': 'DIR STORE FEED..',
     'check': 'DIR TEXT',
     'gen': 'NUMBER TRAINS',

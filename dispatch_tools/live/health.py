@@ -1,6 +1,7 @@
 """How a live server is."""
 from __future__ import annotations
 
+import hashlib
 import os
 import re
 import time
@@ -8,6 +9,7 @@ from dataclasses import dataclass, field
 from typing import Iterator, Optional, Sequence
 
 from dispatch_tools.formats.files import BadFile, in_one_line
+from dispatch_tools.formats.giv import ACTIVITIES, EVENTS
 from dispatch_tools.formats.journal import Head, journal_of, read_blocks, read_head
 from dispatch_tools.formats.runtext import Bad, heard
 from dispatch_tools.model.messages import Nothing
@@ -194,6 +196,35 @@ def measure(store: str, feeds: Sequence[str], now: float) -> Measured:
     shown = [read_shown(reply_of(store, number), now) for number in range(1, count + 1)]
     given = [read_given(name, one.line, now) for name, one in zip(feeds, shown)]
     return Measured(store, is_locked(os.path.join(store, 'lock')), head, size, shown, given)
+
+
+def sums_in(name: str) -> Optional[set[tuple[str, str]]]:
+    """The check sums of a list as `sha256sum` writes it, each with the name of a file in some folder; None where there is no list."""
+    try:
+        with open(name, encoding='utf-8', errors='replace') as file:
+            lines = [line.partition('  ') for line in file.read().split('\n')[:-1]]
+    except FileNotFoundError:
+        return None
+    except OSError as error:
+        raise BadFile(name, None, error.strerror or 'cannot be read') from error
+    return {(total, path.rpartition('/')[2]) for total, _, path in lines}
+
+
+def is_begun_over(store: str, net: str) -> bool:
+    """Whether a store lists the files of a network as they are now, or none, as a store of before."""
+    listed = sums_in(os.path.join(store, 'files'))
+    if listed is None:
+        return True
+    for name in EVENTS, ACTIVITIES:
+        path = os.path.join(net, name)
+        try:
+            with open(path, 'rb') as file:
+                total = hashlib.file_digest(file, 'sha256').hexdigest()
+        except OSError as error:
+            raise BadFile(path, None, error.strerror or 'cannot be read') from error
+        if (total, name) not in listed:
+            return False
+    return True
 
 
 # ---- What is said of it

@@ -17,6 +17,12 @@ PATIENCE = 120.0
 ITEM = re.compile(rb'^([0-9]+) ', re.MULTILINE)
 
 
+def command_of(store: str | os.PathLike[str]) -> list[str]:
+    """The word of a command that serves over a store, and the one by which a store is begun where nothing was begun yet."""
+    journal = os.path.join(store, 'journal')
+    return ['serve'] if os.path.exists(journal) and os.path.getsize(journal) else ['serve', '--new']
+
+
 class Server:
     """A server over the network of a folder, with a store and feeds. What it prints and says goes into `text` and `said` beside the
     store's folder."""
@@ -28,8 +34,8 @@ class Server:
         self.last = [0] * len(self.feeds)
         self.process: Optional[subprocess.Popen[bytes]] = None
 
-    def words(self, word: str) -> list[str]:
-        return [self.program, word, self.net, self.store, *self.feeds, *self.options]
+    def words(self, *command: str) -> list[str]:
+        return [self.program, *command, self.net, self.store, *self.feeds, *self.options]
 
     def start(self, patience: float = PATIENCE) -> float:
         """Starts the server, and waits until it has put its reply files anew, as it does before it answers; how many seconds that took."""
@@ -38,7 +44,7 @@ class Server:
             open(feed, 'ab').close()
         begun, before = time.monotonic(), self.replies()
         with open(self.text, 'wb') as text, open(self.said, 'wb') as said:
-            self.process = subprocess.Popen(self.words('serve'), stdout=text, stderr=said)
+            self.process = subprocess.Popen(self.words(*command_of(self.store)), stdout=text, stderr=said)
         self.wait_until(lambda: all(now and now != then for now, then in zip(self.replies(), before)), patience)
         return time.monotonic() - begun
 
