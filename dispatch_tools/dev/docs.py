@@ -8,7 +8,7 @@ lines of every other block must stand, in their order, in what the page's comman
 page names. Or the paragraph above the block names one file that does not exist: then the block is written into it. If a text
 depends on how two feeds come out, the page is tried again, up to five times. Blocks that prove, build or install, that serve until
 somebody ends them, or that name a place to fill in, are left out, and so are lines that begin with a command named by --without.
-The status is 1 if something differs.
+Blocks in `measured` are not compared, since they differ from run to run. The status is 1 if something differs.
 """
 
 import os
