@@ -23,7 +23,9 @@ import time
 from collections.abc import Callable, Iterator, Sequence
 from pathlib import Path
 
-from dispatch_tools.bench.hostile_begin import journal_short_of_room, list_of_sums, network_changed, no_store, store_begun_before, store_empty
+from dispatch_tools.bench.hostile_begin import (
+    journal_filled, journal_short_of_room, list_of_sums, network_changed, no_store, store_begun_before, store_empty,
+)
 from dispatch_tools.bench.hostile_day import Day, End, expect, FEEDS, goes_on, PATIENCE, refused
 from dispatch_tools.bench.kill import part_of, Wrong
 from dispatch_tools.days.generated import write_day
@@ -440,10 +442,11 @@ CASES: tuple[Callable[[Day], None], ...] = (
     as_it_was, feed_cut, feed_cut_within_a_line, feed_empty, feed_replaced, answered_line_changed, line_put_between,
     comment_changed, line_end_changed, line_in_two, feed_gone, feed_is_no_file, feed_cut_meanwhile, feed_rotated, feed_moved,
     stopped_under_load, bytes_changed, journal_cut, no_gate_behind, journal_of_another, reply_gone, reply_cut, reply_with_more,
-    no_store, store_empty, store_begun_before, network_changed, list_of_sums, store_is_a_file, two_servers, clock_jumps, disk_full, store_gone, store_moved, store_put_anew, reply_moved, lock_gone,
+    no_store, store_empty, store_begun_before, network_changed, list_of_sums,
+    journal_short_of_room, store_is_a_file, two_servers, clock_jumps, disk_full, store_gone, store_moved, store_put_anew, reply_moved, lock_gone,
     journal_gone, without_rights, other_words, no_words, files_refused,
 )
-BIG: tuple[Callable[[Day], None], ...] = (big_feeds, million_lines, journal_short_of_room)
+BIG: tuple[Callable[[Day], None], ...] = (big_feeds, million_lines, journal_filled)
 
 
 def first_day(program: str, folder: Path) -> Day:

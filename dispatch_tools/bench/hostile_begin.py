@@ -1,14 +1,17 @@
 """Cases of a live server: how its store is begun, over which network, and what waits where its journal is short of room."""
 from __future__ import annotations
 
+import os
 import shutil
 import subprocess
 import time
+from collections.abc import Callable
 
 from dispatch_tools.bench.hostile_day import Day, expect, goes_on, PATIENCE, refused
 from dispatch_tools.bench.kill import Wrong
 
-# So many lines whose answers, of 18 bytes or more, fill four fifths of a journal.
+# So many bytes, and answers to so many lines without a form, are more than four fifths of a journal.
+SHORT = 110_000_000
 MUCH = 6_300_000
 
 
@@ -72,25 +75,40 @@ def list_of_sums(day: Day) -> None:
     refused(day, b'refused store files\n')
 
 
-def journal_short_of_room(day: Day) -> None:
-    """From four fifths of a journal on a plan waits, also behind a restart, and what is reported is answered."""
-    day.append(0, b'x\n' * (MUCH - 10))
-    day.options = ['--batch=1000000']
+def plan_waits(day: Day, is_read: Callable[[], bool] = lambda: True) -> None:
+    """A server whose journal is short of room lets the second feed wait that asks for a plan, and answers what the third one says."""
     said = day.folder / 'said'
-    for _ in range(2):
-        with said.open('wb') as file:
-            server = day.begun(file, 10 * PATIENCE)
-        while not day.reply(0).endswith(b'\n%d malformed\n' % MUCH):
-            day.ask(server)
-            time.sleep(1)
-        shown = day.reply(1)
-        day.append(1, b'plan 30\n')
+    with said.open('wb') as file:
+        server = day.begun(file, 10 * PATIENCE)
+    while not is_read():
         day.ask(server)
         time.sleep(1)
-        day.ask(server)
-        if day.reply(1) != shown:
-            raise Wrong(f'a plan was made: {day.reply(1)[len(shown):]!r}')
-        day.end(server)
-        for words in (b'is 80 % full', b'feed %s waits' % str(day.feeds[1]).encode()):
-            if words not in said.read_bytes():
-                raise Wrong(f'not said: {words!r}')
+    shown = day.reply(1)
+    day.append(1, b'plan 30\n')
+    day.ask(server)
+    time.sleep(1)
+    day.ask(server)
+    if day.reply(1) != shown:
+        raise Wrong(f'a plan was made: {day.reply(1)[len(shown):]!r}')
+    day.end(server)
+    for words in (b'is 80 % full', b'feed %s waits' % str(day.feeds[1]).encode()):
+        if words not in said.read_bytes():
+            raise Wrong(f'not said: {words!r}')
+
+
+def journal_short_of_room(day: Day) -> None:
+    """From four fifths of a journal on a plan waits, also behind a restart. Here closed bytes fill it, which the start cuts away later."""
+    for _ in range(2):
+        os.truncate(day.store / 'journal', SHORT)
+        plan_waits(day)
+    goes_on(day)
+    if day.reply(1).count(b' plan 30 -> ') != 2:
+        raise Wrong('plans were not made where there is room again')
+
+
+def journal_filled(day: Day) -> None:
+    """The same with a journal that is filled by answers."""
+    day.append(0, b'x\n' * (MUCH - 10))
+    day.options = ['--batch=1000000']
+    for _ in range(2):
+        plan_waits(day, lambda: day.reply(0).endswith(b'\n%d malformed\n' % MUCH))
