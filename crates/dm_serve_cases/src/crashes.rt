@@ -1,4 +1,6 @@
 //! Crashes at each call of a life, and the lives after them.
+ghost use Rattle.std.specs.Prelude.{IfOk};
+ghost use Rattle.dm_serve_cases.specs.Worked.{IsFirstLife, IsNewStore};
 
 use crate::day::{DUE, FIRST, LOGS, SECOND, TEXT, UNREAD};
 use crate::lives::{ALL, Growth, Life, live};
@@ -22,11 +24,12 @@ const ASKED: usize = 5;
 const READS: u64 = 4;
 
 /// An empty store of which these calls fail.
-fn empty(alloc: Global, fails: &[u64]) -> Result<MemStore, AllocError> {
+fn empty(alloc: Global, fails: &[u64]) -> Result<MemStore, AllocError>
+    ensures { IfOk result IsNewStore }
+{
     let mut replies = Vec::new(alloc);
-    for _feed in LOGS {
-        replies.push(Vec::new(alloc))?;
-    }
+    replies.push(Vec::new(alloc))?;
+    replies.push(Vec::new(alloc))?;
     MemStore::new(alloc, Vec::new(alloc), replies, fails.to_vec(alloc)?)
 }
 
@@ -44,10 +47,18 @@ fn left_of(
     }
 }
 
+/// A life over an empty store in which no call fails.
+fn first_life<R: Threads + Wait + Sync + AllocGlobal>(rt: &R) -> Result<Life, Failure>
+    ensures { IfOk result IsFirstLife }
+{
+    let store = empty(rt.alloc(), &[])?;
+    live(rt, store, ALL)
+}
+
 /// Whether a day without a crash comes to what is due.
 pub fn one_life<R: Threads + Wait + Sync + AllocGlobal>(rt: &R) -> Result<(), Failure> {
     let alloc = rt.alloc();
-    let life = live(rt, empty(alloc, &[])?, ALL)?;
+    let life = first_life(rt)?;
     if is_whole(alloc, &life)? {
         Ok(())
     } else {

@@ -5,6 +5,7 @@ ghost use Rattle.dm_words.specs.ServerAsked.{server_of};
 ghost use Rattle.dm_store_text.specs.Asked.{IsAsked};
 ghost use Rattle.dm_tail.specs.Memory.{given_of};
 ghost use Rattle.dm_serve.specs.Lives.{NothingIsRead};
+ghost use Rattle.dm_serve_cases.specs.Worked.{AreTwo, GoesOnFirst};
 
 use crate::day::{ACTIVITIES, EVENTS, FIRST, SECOND, WORDS};
 use crate::outside::Pauses;
@@ -53,7 +54,9 @@ pub fn live<R: Threads + Wait + Sync + AllocGlobal>(
     rt: &R,
     store: MemStore,
     growth: Growth<'_>,
-) -> Result<Life, Failure> {
+) -> Result<Life, Failure>
+    ensures { IfOk result (λ life. GoesOnFirst store life.store) }
+{
     let words = texts(rt.alloc(), &WORDS)?;
     match read_serve_words(&words) {
         Some(LiveWords::Serve(server)) => serve(rt, server, store, growth),
@@ -68,6 +71,7 @@ fn serve<R: Threads + Wait + Sync + AllocGlobal>(
     growth: Growth<'_>,
 ) -> Result<Life, Failure>
     requires asked { IsAsked (server_of words) }
+    ensures { IfOk result (λ life. GoesOnFirst store life.store) }
 {
     let alloc = rt.alloc();
     let feeds = feeds_of(alloc, words.run.feeds, growth)?;
@@ -116,6 +120,7 @@ fn feeds_of(
     growth: Growth<'_>,
 ) -> Result<Vec<Option<MemFeed>>, Failure>
     ensures as_many { IfOk result (λ feeds. length feeds.items ≡ length (names_in names.entry)) }
+    ensures two { IfOk result (λ feeds. AreTwo feeds.items) }
     ensures unread { IfOk result (λ feeds. NothingIsRead (λ feed. Some (given_of feed)) feeds.items) }
 {
     let Some((_, rest)) = names.split_first() else {
@@ -133,6 +138,7 @@ fn feeds_of(
 /// The day's feeds.
 fn both(alloc: Global, growth: Growth<'_>) -> Result<Vec<Option<MemFeed>>, AllocError>
     ensures as_many { IfOk result (λ feeds. length feeds.items ≡ 2) }
+    ensures two { IfOk result (λ feeds. AreTwo feeds.items) }
     ensures unread { IfOk result (λ feeds. NothingIsRead (λ feed. Some (given_of feed)) feeds.items) }
 {
     let [stands, other_stands] = growth.stands;
@@ -147,6 +153,7 @@ fn pair(alloc: Global, first: MemFeed, second: MemFeed) -> Result<Vec<Option<Mem
     requires first { given_of first ≡ [] }
     requires second { given_of second ≡ [] }
     ensures as_many { IfOk result (λ feeds. length feeds.items ≡ 2) }
+    ensures two { IfOk result (λ feeds. AreTwo feeds.items) }
     ensures unread { IfOk result (λ feeds. NothingIsRead (λ feed. Some (given_of feed)) feeds.items) }
 {
     let mut feeds = Vec::new(alloc);

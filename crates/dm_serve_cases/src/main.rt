@@ -10,8 +10,12 @@
 //! prints a letter instead: `s` for the life's status, `p` for what it printed, `f` for what it showed, `n` for a life after it.
 //! It does the same for each call of a feed that fails: `5` for a sync, and `f` for a read, where the feed is read no further, and
 //! the next life answers each line that was left. Where each feed comes in two parts, the day comes to the same text. It stands on
-//! dm_serve for what it tries, on dm_store for the store, on dm_tail for the feeds, and on what a server is handed. Store and feeds
-//! tell what the promises of dm_serve ask of them. It promises nothing.
+//! dm_serve for what it tries, on dm_lives for a store in which nothing was served, on dm_store for the store, on dm_tail for the
+//! feeds, and on what a server is handed.
+//!
+//! Store and feeds tell what the promises of dm_serve ask of them. So what dm_serve promises of each moment holds of the first life,
+//! over a new store, with nothing left to suppose (`IsFirstLife`): it goes on from the empty book, and each log answers a front of
+//! its feed's bytes, unless nothing was done. Nothing else is promised.
 #![tactic(auto)]
 
 mod crashes;

@@ -1,0 +1,2 @@
+-- A life over a store and feeds in memory.
+pub mod Worked
