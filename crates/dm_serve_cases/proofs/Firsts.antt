@@ -1,5 +1,5 @@
 -- A life over a store in which nothing was served.
-use Rattle.std.proofs.Common.{◌≡◌, inl, inr, ℕ, List, [], ◌∷◌, Option, Some, length, map, refl, sym, ap, subst, ◌∙◌}
+use Rattle.std.proofs.Common.{◌≡◌, inl, inr, ℕ, List, [], ◌∷◌, Option, Some, map, refl, sym, ap, subst, ◌∙◌}
 use Rattle.dm_cert.specs.Answers.{Setting}
 use Rattle.dm_store.specs.Memory.{left_of, left_since_of, moment_of, seen_of, shown_of, tells_of}
 use Rattle.dm_store.specs.declared.memory.MemStore.{MemStore}
