@@ -24,7 +24,7 @@ from dispatch_tools.dev.running import end_by_exit, run_whole
 from dispatch_tools.words import command_line
 
 REPOSITORY = Path(__file__).resolve().parents[2]
-PAGES = ["README.md", "docs/OPERATING.md", "docs/TUTORIAL.md", "docs/GTFS.md", "docs/REALTIME.md"]
+PAGES = ["README.md", "docs/OPERATING.md", "docs/TUTORIAL.md", "docs/GTFS.md", "docs/REALTIME.md", "docs/SCALE.md"]
 STARTS = {"docs/TUTORIAL.md": "crates/dispatcher", "docs/STUDIES.md": "examples/connection"}
 LEFT_OUT = re.compile(r"\brt \w|apt-get |\.ci/run|dispatcher test\b|examples/day/play|\b(FOLDER|FILE|DIR|DM_SPEED|URL)\b")
 TRIES = 5

@@ -84,6 +84,7 @@ class Country:
             into[cut.region].append(cut)
         self.regions = {number: Region(number, into[number]) for number in sorted(set(self.owner.values()))}
         self.cuts = Counter((cut.home, cut.region) for cut in cuts)
+        self.neighbours = {number: [self.regions[other] for home, other in self.cuts if home == number] for number in self.regions}
         self.since: dict[int, float] = {}
 
     # ---- What is heard
@@ -107,7 +108,7 @@ class Country:
         own = [(event, time) for event, time in times if self.owner.get(event, home) == home]
         if len(own) < len(times):
             self.skipped.skip(number, f'region {home} reports a time of an event that is not its own')
-        for other in self.regions.values():
+        for other in self.neighbours[home]:
             other.relay.times.update((event, time) for event, time in own if event in other.relay.behind)
 
     def hear_state(self, number: int, home: int, state: Optional[State], now: float) -> None:

@@ -54,7 +54,8 @@ class Relay:
 
     def tell(self, times: Iterable[tuple[int, int]]) -> Iterator[tuple[int, int]]:
         """The delays of the region's events that change when neighbours' events are at these times."""
-        heard_of = {event: time for event, time in times if event in self.behind}
+        # A line tells a whole board, of which most has not changed.
+        heard_of = {event: time for event, time in times if event in self.behind and self.times.get(event) != time}
         self.times.update(heard_of)
         for there in dict.fromkeys(cut.there for event in heard_of for cut in self.behind[event]):
             delay = self.delay_of(there)
