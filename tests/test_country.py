@@ -32,12 +32,12 @@ CUTS = [Cut(1, 1, 2, 9, 60, 1000), Cut(2, 1, 2, 9, 30, 1000), Cut(3, 3, 2, 10, 0
 SERVING = State(0, 12, 4096, [Fed(15, 0, 3), Fed(7, 0, 70)], {}, 'serving')
 
 
-def board(region: int, text: str, stop: int = 6) -> bytes:
-    return f'board/{region}/{stop} '.encode() + text.encode().hex().encode()
+def board(region: int, text: str, is_kept: int = 0) -> bytes:
+    return f'{is_kept} board/{region}/6 '.encode() + text.encode().hex().encode()
 
 
-def word(region: int, state: State = SERVING) -> bytes:
-    return f'state/{region} '.encode() + state.line().encode().hex().encode()
+def word(region: int, state: State = SERVING, is_kept: int = 0) -> bytes:
+    return f'{is_kept} state/{region} '.encode() + state.line().encode().hex().encode()
 
 
 class Lines(unittest.TestCase):
@@ -122,6 +122,14 @@ class OfCountry(unittest.TestCase):
         self.assertEqual(line_of(look), 'CRITICAL 3 regions: region 2 says nothing for 35 s; region 3 its boards say nothing for 35 s; '
                                         'the boundaries are at rest')
 
+    def test_what_the_broker_had_kept_is_no_sign_of_life(self) -> None:
+        self.all_well(110.0)
+        self.hear(144.0, word(1), board(1, '1; 900'), word(2), board(2, '9; 1000'), word(3, is_kept=1), board(3, '3; 1500', is_kept=1))
+        look = self.country.look(145.0)
+        self.assertEqual(look.found[3].said, ['says nothing for 35 s', 'its boards say nothing for 35 s'])
+        # Its time counts: it is the last one.
+        self.assertEqual([wait.asked for wait in look.waits[3, 2]], [1500])
+
     def test_the_worst_is_what_is_known_to_be_critical(self) -> None:
         self.all_well(110.0)
         self.hear(111.0, word(1, State(3, 0, 0, [], {}, 'cannot be read')), word(3, State(2, 0, 0, [], {}, 'no server runs')))
@@ -131,10 +139,10 @@ class OfCountry(unittest.TestCase):
 
     def test_a_region_is_believed_about_itself_alone(self) -> None:
         self.all_well(110.0)
-        self.hear(111.0, board(3, '1; 5000, 3; 1000'), board(2, '1; 5000'), board(77, '1; 5000'), b'board/1/6 1; 5000', b'state/1 xx', b'feed/1 00',
-                  word(77), b'', b'state/1 ' + b'00' * 5000)
+        self.hear(111.0, board(3, '1; 5000, 3; 1000'), board(2, '1; 5000'), board(77, '1; 5000'), b'0 board/1/6 1; 5000', b'0 state/1 xx', b'0 feed/1 00',
+                  word(77), b'', b'0 state/1 ' + b'00' * 5000, board(1, '1; 5000')[2:])
         self.assertEqual(self.line(112.0), 'OK 3 regions: all serve; the boundaries are at rest')
-        self.assertEqual(self.country.skipped.count, 9)
+        self.assertEqual(self.country.skipped.count, 10)
         self.assertIn('line 1 is skipped: region 3 reports a time of an event that is not its own', self.said.getvalue())
 
     def test_figures(self) -> None:

@@ -1,10 +1,11 @@
 """Shows a country of regions on one page, and says how it is to monitoring: dispatch-tools regions BOUNDARY.. [--serve=PORT]
 
-    mosquitto_sub -F '%t %x' -t board/+/+ -t state/+ .. | dispatch-tools regions region-*/Boundary.csv --serve=8090
+    mosquitto_sub -F '%r %t %x' -t board/+/+ -t state/+ .. | dispatch-tools regions region-*/Boundary.csv --serve=8090
 
 Each BOUNDARY is a table of cut activities that split made for a region. The script reads from standard input what the regions say
-on their boards (`dispatch-tools board`) and of themselves (`dispatch-tools state`): a message a line, its topic, board/N/S or
-state/N, a space, and what was sent, in hexadecimal digits. A region is believed only about itself and its own events.
+on their boards (`dispatch-tools board`) and of themselves (`dispatch-tools state`): a message a line, 1 if the broker had kept it
+and else 0, its topic, board/N/S or state/N, and what was sent, in hexadecimal digits, with spaces between. A region is believed only
+about itself and its own events.
 
 At http://127.0.0.1:PORT/ stands the page: how each region is, its feeds and what waits in them, when it was heard; and at each
 boundary, the events that wait for a time which their region was not told yet. /metrics has the figures for Prometheus. /health has

@@ -61,9 +61,10 @@ class Session:
         lines = [line for line in block.lines if not line.startswith(self.without)]
         script = "\n".join([*lines, "status=$?", f"pwd > {told}", "exit $status"])
         environment = dict(os.environ, PATH=f"{self.root}:{os.environ['PATH']}")
+        program = f"{self.root}/crates/dispatcher/out/dispatcher"
         try:
             ran = run_whole(
-                ["bash", "-c", script.replace("DISPATCHER", f"{self.root}/crates/dispatcher/out/dispatcher")], SECONDS,
+                ["bash", "-c", re.sub(r"\bDISPATCHER\b", program, script)], SECONDS,
                 cwd=self.folder, env=environment, stdout=subprocess.PIPE, stderr=subprocess.PIPE, text=True,
             )
         except subprocess.TimeoutExpired:

@@ -13,9 +13,9 @@ from dispatch_tools.live.health import CRITICAL, Found, JOURNAL, STATUS_WORDS, U
 from dispatch_tools.live.relay import Relay
 from dispatch_tools.live.state import State, state_of
 
-# A topic with its region, and what was sent, in hexadecimal digits.
-BOARD = re.compile(b'board/(%b)/[^ ]+ (.*)' % NUMBER)
-STATE = re.compile(b'state/(%b) (.*)' % NUMBER)
+# Whether the broker had kept what comes, a topic with its region, and what was sent, in hexadecimal digits.
+BOARD = re.compile(b'([01]) board/(%b)/[^ ]+ (.*)' % NUMBER)
+STATE = re.compile(b'([01]) state/(%b) (.*)' % NUMBER)
 
 
 class Wait(NamedTuple):
@@ -39,8 +39,8 @@ class Region:
         self.state: Optional[State] = None
         self.heard = self.boards = 0.0
 
-    def take(self, state: State, now: float) -> None:
-        self.state, self.heard = state, now
+    def take(self, state: State) -> None:
+        self.state = state
         self.relay.told = {event: delay for event, delay in state.told.items() if event in self.relay.before}
         self.relay.found = dict(self.relay.told)
 
@@ -90,33 +90,39 @@ class Country:
     # ---- What is heard
 
     def hear(self, number: int, line: Optional[bytes], now: float) -> None:
-        """Takes up a line of a topic. What has another form, or speaks of what is another region's, is skipped."""
+        """Takes up a line of a topic. What has another form, or speaks of what is another region's, is skipped. What the broker had kept
+        was said at some time before, and does not show that its region still speaks."""
         board, state = (None, None) if line is None else (BOARD.fullmatch(line), STATE.fullmatch(line))
-        if board is not None:
-            self.hear_board(number, int(board[1]), times_of(unpacked(board[2])), now)
-        elif state is not None:
-            self.hear_state(number, int(state[1]), state_of(unpacked(state[2])), now)
-        else:
-            self.skipped.skip(number, 'it is no message of a board or a state in hexadecimal digits')
+        found = board or state
+        region = None if found is None else self.regions.get(int(found[2]))
+        if found is None or region is None:
+            self.skipped.skip(number, 'it is no message of a board or a state of a region, in hexadecimal digits')
+        elif board is not None:
+            if self.hear_board(number, region, times_of(unpacked(found[3]))) and found[1] == b'0':
+                region.boards = now
+        elif self.hear_state(number, region, state_of(unpacked(found[3]))) and found[1] == b'0':
+            region.heard = now
 
-    def hear_board(self, number: int, home: int, times: Optional[list[tuple[int, int]]], now: float) -> None:
-        region = self.regions.get(home)
-        if region is None or times is None:
+    def hear_board(self, number: int, region: Region, times: Optional[list[tuple[int, int]]]) -> bool:
+        """Whether these are times of a region's board, which are taken up."""
+        home = region.number
+        if times is None:
             self.skipped.skip(number, f'it is no board of region {home}')
-            return
-        region.boards = now
+            return False
         own = [(event, time) for event, time in times if self.owner.get(event, home) == home]
         if len(own) < len(times):
             self.skipped.skip(number, f'region {home} reports a time of an event that is not its own')
         for other in self.neighbours[home]:
             other.relay.times.update((event, time) for event, time in own if event in other.relay.behind)
+        return True
 
-    def hear_state(self, number: int, home: int, state: Optional[State], now: float) -> None:
-        region = self.regions.get(home)
-        if region is None or state is None:
-            self.skipped.skip(number, f'it is no state of region {home}')
-        else:
-            region.take(state, now)
+    def hear_state(self, number: int, region: Region, state: Optional[State]) -> bool:
+        """Whether this is the state of a region, which is taken up."""
+        if state is None:
+            self.skipped.skip(number, f'it is no state of region {region.number}')
+            return False
+        region.take(state)
+        return True
 
     # ---- What is said of it
 

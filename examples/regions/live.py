@@ -118,7 +118,8 @@ class Country:
         self.home: dict[int, Region] = {event.id: region for region in self.regions for event in region.network.events}
         self.said: list[str] = []
         services = [broker_of(folder), *(service for region in self.regions for service in region.services)]
-        self.page = given.page
+        # The port of the page, and how often it was wrong.
+        self.page, self.wrong = given.page, 0
         self.keeper = Keeper([*services, page_of(folder, self.environment)])
         # What may be killed.
         self.services = services
@@ -130,6 +131,13 @@ class Country:
                 return str(came.read().decode())
         except urllib.error.HTTPError as error:
             return error.read().decode()
+
+    def demand(self, words: str) -> None:
+        """Notes whether the page does not say what it should."""
+        line = self.health()
+        if words not in line:
+            self.wrong += 1
+            print(f'the page of the country does not say "{words}", but: {line}', end='', flush=True)
 
     # -- What is reported
 
@@ -222,20 +230,9 @@ def set_away(region: Region, is_away: bool) -> None:
         service.is_wanted = not is_away
 
 
-def rest(country: Country, number: int) -> int:
-    """Waits until all is at rest, and gives how many times differ, and whether the page says so."""
-    country.settle()
-    differing, line = country.differing(), country.health()
-    if line != f'OK {len(country.regions)} regions: all serve; the boundaries are at rest\n':
-        print(f'moment {number + 1}: the page of the country says: {line}', end='', flush=True)
-        differing += 1
-    return differing
-
-
 def moment(country: Country, number: int, faults: int, away: int) -> int:
     """Plays a fifth of the morning, and gives how many times differ at its end."""
     killed: list[str] = []
-    differing = 0
     if number == 3:
         set_away(country.regions[1], True)
     for count in range(REPORTS):
@@ -246,12 +243,12 @@ def moment(country: Country, number: int, faults: int, away: int) -> int:
         if number == 3:
             time.sleep(away / REPORTS)
     if number == 3:
-        line = country.health()
-        if away > 2 * SILENCE and 'region 2 says nothing for ' not in line:
-            print(f'region 2 is away, and the page of the country says: {line}', end='', flush=True)
-            differing += 1
+        if away > 2 * SILENCE:
+            country.demand('region 2 says nothing for ')
         set_away(country.regions[1], False)
-    differing += rest(country, number)
+    country.settle()
+    country.demand(f'OK {len(country.regions)} regions: all serve; the boundaries are at rest')
+    differing = country.differing()
     away_too = f', region 2 away for {away} s' if number == 3 else ''
     print(f'moment {number + 1}: {len(country.said)} lines, {len(killed)} kills{away_too}: {differing} times differ', flush=True)
     return differing
@@ -291,8 +288,8 @@ def played(given: Any, folder: str) -> int:
         country.keeper.end()
     starts = sum(service.starts - 1 for service in country.services)
     print(f'{given.regions} regions, {len(country.network.events)} events, {starts} starts after kills: '
-          f'{differing} times differ, {lost} regions lost a reply')
-    return 1 if differing or lost else 0
+          f'{differing} times differ, {lost} regions lost a reply, the page was wrong {country.wrong} times')
+    return 1 if differing or lost or country.wrong else 0
 
 
 if __name__ == '__main__':

@@ -1,8 +1,8 @@
 #!/usr/bin/env python3
-"""Runs a whole country on this machine, as systemd would: services.py FOLDER [DISPATCHER]
+"""Runs a whole country on this machine, as systemd would: services.py FOLDER [DISPATCHER] [--page P]
 
 FOLDER is that of the country, in which split, `broker.py` and `dispatcher-region begin-N` have made what they make. The script starts
-the broker, the page of the country at 127.0.0.1:8090, and of each region the server, its relay, and what passes on lines, boards and
+the broker, the page of the country at 127.0.0.1:P (8090), and of each region the server, its relay, and what passes on lines, boards and
 the state. What ends is started again. It runs until it gets SIGTERM or SIGINT, and then ends all of them; the servers print their
 texts (FOLDER/region-N/text). DISPATCHER is the built program (`dispatcher` in the path). What services say stands in FOLDER/said. The
 script needs Debian's `mosquitto` and `mosquitto-clients`.
@@ -14,6 +14,7 @@ import signal
 import subprocess
 import sys
 import threading
+import time
 from pathlib import Path
 from typing import Callable, Iterable, Mapping, Optional
 
@@ -21,13 +22,14 @@ HERE = os.path.dirname(os.path.abspath(__file__))
 TOP = os.path.join(HERE, '..', '..')
 sys.path.insert(0, TOP)
 
-from dispatch_tools.words import command_line, whole_path  # noqa: E402
+from dispatch_tools.words import command_line, whole_between, whole_path  # noqa: E402
 
 KINDS = ('server', 'room', 'relay', 'boards', 'state')
 SCRIPT = os.path.join(HERE, 'dispatcher-region')
 
-# How many seconds the servers have to print their texts, and how often is looked whether all run.
-PATIENCE, TICK = 60.0, 0.2
+# How many seconds the servers have to print their texts, how often is looked whether all run, and how long it is from a start of a
+# service to its next one at least.
+PATIENCE, TICK, BETWEEN = 60.0, 0.2, 1.0
 
 
 def surroundings(folder: str, program: Optional[str], again: int = 5, page: int = 8090, patience: int = 30) -> dict[str, str]:
@@ -47,15 +49,16 @@ class Service:
         self.before = before
         self.process: Optional[subprocess.Popen[bytes]] = None
         self.is_wanted = True
-        self.starts = 0
+        self.starts, self.started = 0, -BETWEEN
         self.one = threading.Lock()
 
     def tend(self) -> None:
         """Starts what should run and does not."""
         with self.one:
-            if self.is_wanted and (self.process is None or self.process.poll() is not None):
+            has_ended = self.process is None or self.process.poll() is not None
+            if self.is_wanted and has_ended and time.monotonic() - self.started >= BETWEEN:
                 self.end()
-                self.starts += 1
+                self.starts, self.started = self.starts + 1, time.monotonic()
                 with open(self.said, 'ab') as said:
                     self.process = subprocess.Popen(self.command, cwd=self.folder, env=self.environment, stdin=subprocess.DEVNULL,
                                                     stdout=said, stderr=said, start_new_session=True)
@@ -127,19 +130,22 @@ def stop(servers: Iterable[Service]) -> None:
     wanted = [server for server in servers if server.process is not None]
     for server in wanted:
         server.is_wanted = False
-        Path(server.environment['DISPATCHER_COUNTRY'], f'region-{server.name.rpartition("-")[2]}', 'store', 'stop').touch()
+        store = Path(server.environment['DISPATCHER_COUNTRY'], f'region-{server.name.rpartition("-")[2]}', 'store')
+        if store.is_dir():
+            (store / 'stop').touch()
     for server in wanted:
-        assert server.process is not None
-        server.process.wait(PATIENCE)
+        if server.process is not None:
+            server.process.wait(PATIENCE)
 
 
 def main() -> None:
     words = command_line(__doc__)
     words.add_argument('folder', metavar='FOLDER', type=whole_path, help='folder of the country')
     words.add_argument('dispatcher', metavar='DISPATCHER', nargs='?', type=whole_path, help='the built program (dispatcher in the path)')
+    words.add_argument('--page', type=whole_between(1, 65_535), default=8090, metavar='P', help='the port of the page (8090)')
     given = words.parse_args()
     numbers = sorted(int(path.name.removeprefix('region-')) for path in Path(given.folder).glob('region-*'))
-    environment = surroundings(given.folder, given.dispatcher)
+    environment = surroundings(given.folder, given.dispatcher, page=given.page)
     regions = [services_of(given.folder, number, environment) for number in numbers]
     keeper = Keeper([broker_of(given.folder), page_of(given.folder, environment), *(service for region in regions for service in region)])
     told = threading.Event()
@@ -147,8 +153,10 @@ def main() -> None:
         signal.signal(sign, lambda *_: told.set())
     keeper.start()
     told.wait()
-    stop(region[0] for region in regions)
-    keeper.end()
+    try:
+        stop(region[0] for region in regions)
+    finally:
+        keeper.end()
 
 
 if __name__ == '__main__':
