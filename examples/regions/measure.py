@@ -30,7 +30,7 @@ HERE = os.path.dirname(os.path.abspath(__file__))
 sys.path.insert(0, os.path.join(HERE, '..', '..'))
 
 from dispatch_tools.days.split import Cut  # noqa: E402
-from dispatch_tools.formats.giv import read_network  # noqa: E402
+from dispatch_tools.formats.giv import event_row, EVENTS, PLAIN_EVENT, read_network, rows_of_file  # noqa: E402
 from dispatch_tools.live.board import times_of  # noqa: E402
 from dispatch_tools.live.health import read_shown, reply_of  # noqa: E402
 from dispatch_tools.live.relay import read_boundary  # noqa: E402
@@ -66,11 +66,11 @@ class Country:
         self.due: dict[int, int] = {}
         self.size: dict[int, int] = {}
         for number in self.numbers:
-            network = read_network(str(self.region(number) / 'net'))
-            self.stops.update({event.id: event.stop for event in network.events})
-            self.due.update({event.id: event.time for event in network.events})
-            self.size[number] = len(network.events)
-            self.events[number] = [event.id for event in network.events if event.id not in self.behind]
+            events = [event for _, event in rows_of_file(str(self.region(number) / 'net'), EVENTS, event_row, PLAIN_EVENT)]
+            self.stops.update({event.id: event.stop for event in events})
+            self.due.update({event.id: event.time for event in events})
+            self.size[number] = len(events)
+            self.events[number] = [event.id for event in events if event.id not in self.behind]
 
     def region(self, number: int) -> Path:
         return self.folder / f'region-{number}'
