@@ -7,7 +7,7 @@ FOLDER is that of the country. The script works as the control rooms do, over th
   an event of the neighbour has to wait. The time begins before the client that sends the report is started. It takes each report
   back, and waits until that has come through, too;
 - how many reports a second the country takes: each control room sends L delays of drawn events (1,000) at one go. The time ends when
-  each server has answered all of them, and the later one when each relay has told all that the boards ask for;
+  each server has answered all of them, and the later one when each relay has told all that the boards ask for. They are taken back;
 - the most memory of each kind of process.
 
 With --whole NET, the network of which split has made the regions, it says at the end how many times of the regions' stores differ from
@@ -35,6 +35,7 @@ from dispatch_tools.live.board import times_of  # noqa: E402
 from dispatch_tools.live.health import read_shown, reply_of  # noqa: E402
 from dispatch_tools.live.relay import read_boundary  # noqa: E402
 from dispatch_tools.formats.runtext import read_run  # noqa: E402
+from dispatch_tools.model.messages import DelayEvent  # noqa: E402
 from dispatch_tools.model.railway import apply, Rows, sound_times  # noqa: E402
 from dispatch_tools.words import command_line, whole_between, whole_path  # noqa: E402
 
@@ -106,19 +107,27 @@ class Country:
     def storm(self, lines: int) -> tuple[float, float]:
         """The seconds until all reports of all rooms are answered, and until all is at rest."""
         begun, before = time.monotonic(), {number: len(self.room(number).read_bytes().splitlines()) for number in self.numbers}
+        delays = {number: [(self.draws.choice(self.events[number]), self.draws.randrange(900)) for _ in range(lines)] for number in self.numbers}
+        self.send(delays)
+        answered = wait_until(lambda: all(read_shown(reply_of(str(self.region(number) / 'store'), 1), 0.0).line >= before[number] + lines
+                                          for number in self.numbers), 0.02)
+        rest = self.rest()
+        # All are taken back, so that the country can be measured again.
+        self.send({number: [(event, 0) for event, _ in drawn] for number, drawn in delays.items()})
+        self.rest()
+        return answered - begun, rest - begun
+
+    def send(self, delays: dict[int, list[tuple[int, int]]]) -> None:
+        """Sends delays of events of all rooms at once, each room by one client."""
         clients = []
-        for number in self.numbers:
-            drawn = ''.join(f'delay event {self.draws.choice(self.events[number])} {self.draws.randrange(900)}\n' for _ in range(lines))
+        for number, drawn in delays.items():
             client = subprocess.Popen(self.client(number, '-l'), stdin=subprocess.PIPE, text=True)
             assert client.stdin is not None
-            client.stdin.write(drawn)
+            client.stdin.write(''.join(f'delay event {event} {delay}\n' for event, delay in drawn))
             client.stdin.close()
             clients.append(client)
         for client in clients:
             client.wait()
-        answered = wait_until(lambda: all(read_shown(reply_of(str(self.region(number) / 'store'), 1), 0.0).line >= before[number] + lines
-                                          for number in self.numbers), 0.02)
-        return answered - begun, self.rest() - begun
 
     def room(self, number: int) -> Path:
         return self.region(number) / 'room'
@@ -147,7 +156,7 @@ class Country:
         for number in self.numbers:
             for line in self.room(number).read_text().splitlines():
                 event, delay = line.removeprefix('delay event ').split()
-                apply(whole, rows, ('delay event', int(event), int(delay)))
+                apply(whole, rows, DelayEvent(int(event), int(delay)))
         due = dict(zip((event.id for event in whole.events), sound_times(whole, rows)))
         came: dict[int, int] = {}
         for number in self.numbers:
