@@ -7,11 +7,13 @@ FOLDER is that of the country. The script works as the control rooms do, over th
   an event of the neighbour has to wait. The time begins before the client that sends the report is started. It takes each report
   back, and waits until that has come through, too;
 - how many reports a second the country takes: each control room sends L delays of drawn events (1,000) at one go. The time ends when
-  each server has answered all of them, and the later one when each relay has told all that the boards ask for. They are taken back;
+  each server has answered all of them, and the later one when each relay has told all that the boards ask for;
 - the most memory of each kind of process.
 
 With --whole NET, the network of which split has made the regions, it says at the end how many times of the regions' stores differ from
-those of a second reading of the rules over the whole network. The lines of the rooms are then all delays of events.
+those of a second reading of the rules over the whole network.
+
+The control rooms of the country have reported delays of events and nothing else. The script takes all of them back before it begins.
 """
 from __future__ import annotations
 
@@ -107,15 +109,21 @@ class Country:
     def storm(self, lines: int) -> tuple[float, float]:
         """The seconds until all reports of all rooms are answered, and until all is at rest."""
         begun, before = time.monotonic(), {number: len(self.room(number).read_bytes().splitlines()) for number in self.numbers}
-        delays = {number: [(self.draws.choice(self.events[number]), self.draws.randrange(900)) for _ in range(lines)] for number in self.numbers}
-        self.send(delays)
+        self.send({number: [(self.draws.choice(self.events[number]), self.draws.randrange(900)) for _ in range(lines)]
+                   for number in self.numbers})
         answered = wait_until(lambda: all(read_shown(reply_of(str(self.region(number) / 'store'), 1), 0.0).line >= before[number] + lines
                                           for number in self.numbers), 0.02)
-        rest = self.rest()
-        # All are taken back, so that the country can be measured again.
-        self.send({number: [(event, 0) for event, _ in drawn] for number, drawn in delays.items()})
+        return answered - begun, self.rest() - begun
+
+    def take_back(self) -> None:
+        """Takes back all delays that the rooms have reported."""
+        self.send({number: [(event, 0) for event, delay in self.reported(number).items() if delay] for number in self.numbers})
         self.rest()
-        return answered - begun, rest - begun
+
+    def reported(self, number: int) -> dict[int, int]:
+        """The last delay of each event by the lines of a room, which are all delays of events."""
+        lines = self.room(number).read_text().splitlines()
+        return {int(event): int(delay) for event, delay in (line.removeprefix('delay event ').split() for line in lines)}
 
     def send(self, delays: dict[int, list[tuple[int, int]]]) -> None:
         """Sends delays of events of all rooms at once, each room by one client."""
@@ -154,9 +162,8 @@ class Country:
         whole = read_network(net)
         rows = Rows(whole)
         for number in self.numbers:
-            for line in self.room(number).read_text().splitlines():
-                event, delay = line.removeprefix('delay event ').split()
-                apply(whole, rows, DelayEvent(int(event), int(delay)))
+            for event, delay in self.reported(number).items():
+                apply(whole, rows, DelayEvent(event, delay))
         due = dict(zip((event.id for event in whole.events), sound_times(whole, rows)))
         came: dict[int, int] = {}
         for number in self.numbers:
@@ -224,6 +231,7 @@ def main() -> None:
     words.add_argument('--dispatcher', metavar='PROGRAM', default='dispatcher', help='the built program (dispatcher in the path)')
     given = words.parse_args()
     country = Country(given.folder, given.seed)
+    country.take_back()
     came = [country.across() for _ in range(given.times)]
     print(f'a report to the board of its own region: {said_of([one.own for one in came])}')
     print(f"a report to the neighbour's board: {said_of([one.neighbour for one in came])}", flush=True)
