@@ -48,13 +48,13 @@ class Lines(unittest.TestCase):
     def test_no_line_ends_within_a_state(self) -> None:
         line = State(1, 0, 0, [], {}, 'one\ntwo' + 'x' * 5000).line()
         self.assertNotIn('\n', line)
-        said = state_of(line.encode())
-        self.assertIsNotNone(said)
+        self.assertIsNotNone(state_of(line.encode()))
 
     def test_what_has_another_form_is_no_state(self) -> None:
         good = SERVING.line()
-        for line in ('', good[1:], good + '\n', good.replace('status 0', 'status 4'), good.replace('15 0 3 7', '15 0 3'), good.replace('told ', 'told 9'),
-                     good.replace('told ', 'told \u00b2 5'), good.replace('entries 12', f'entries {"9" * 16}'), good + 'x' * 400):
+        for line in ('', good[1:], good + '\n', good + 'x' * 400, good.replace('status 0', 'status 4'), good.replace('15 0 3 7', '15 0 3'),
+                     good.replace('told ', 'told 9'), good.replace('told ', 'told \u00b2 5'), good.replace('feeds ', 'feeds ' + '1 2 3 ' * 63),
+                     good.replace('entries 12', f'entries {"9" * 16}')):
             self.assertIsNone(state_of(line.encode()), line)
         self.assertIsNone(state_of(None))
         self.assertIsNone(state_of(good.encode() + b'\xff'))

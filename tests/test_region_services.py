@@ -21,6 +21,7 @@ from tests.samples import CASES, stand_in, TOP
 
 sys.path.insert(0, os.path.join(TOP, 'examples', 'regions'))
 from broker import Tls  # noqa: E402
+from measure import Country, Growing  # noqa: E402
 from services import broker_of, Keeper, SCRIPT, services_of, surroundings  # noqa: E402
 from tests.test_broker import free_port, IS_THERE  # noqa: E402
 
@@ -99,6 +100,30 @@ class Services(unittest.TestCase):
         done = subprocess.run([SCRIPT, 'other-1'], env=self.environment, capture_output=True, text=True)
         self.assertEqual(done.returncode, 2)
         self.assertIn('dispatcher-region SERVICE-N', done.stderr)
+
+
+class Measured(unittest.TestCase):
+    """What a measure reads of a country's files."""
+
+    def test_a_board_is_read_from_now_on(self) -> None:
+        with tempfile.TemporaryDirectory() as folder:
+            board = Path(folder, 'board-6.txt')
+            board.write_text('9; 100\n')
+            growing = Growing(board, 9)
+            self.assertEqual(growing.time(), -1)
+            for text, due in ('9; 20', -1), ('0\n8; 300\n', 200), ('9; 250\n9; 260\n', 260), ('7; 1\n', 260):
+                with open(board, 'a') as file:
+                    file.write(text)
+                self.assertEqual(growing.time(), due)
+            growing.file.close()
+
+    def test_the_last_delay_of_an_event_counts(self) -> None:
+        with tempfile.TemporaryDirectory() as folder:
+            Path(folder, 'region-1').mkdir()
+            Path(folder, 'region-1', 'room').write_text('delay event 9 300\ndelay event 8 5\ndelay event 9 0\n')
+            country = Country.__new__(Country)
+            country.folder = Path(folder)
+            self.assertEqual(country.reported(1), {9: 0, 8: 5})
 
 
 if __name__ == '__main__':

@@ -35,18 +35,18 @@ from dispatch_tools.live.relay import read_boundary
 from dispatch_tools.words import command_line, whole_between
 
 # What waits is looked at each so many seconds, so that the page knows since when.
-TICK = 1.0
+LOOK = 5.0
 
 
 def hear(country: Country, lock: threading.Lock, file: BufferedIOBase) -> None:
     """Takes up all that comes."""
     number, looked = 0, 0.0
-    for lines in whole_lines(file, TICK):
+    for lines in whole_lines(file, LOOK):
         now = time.monotonic()
         with lock:
             for number, line in enumerate(lines, number + 1):
                 country.hear(number, line, now)
-            if now - looked >= TICK:
+            if now - looked >= LOOK:
                 country.look(now)
                 looked = now
 

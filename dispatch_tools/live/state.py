@@ -7,7 +7,7 @@ from dataclasses import dataclass, field
 from typing import Optional, Sequence
 
 from dispatch_tools.formats.files import BadFile, in_one_line
-from dispatch_tools.formats.runtext import heard as heard_in_feed
+from dispatch_tools.formats.runtext import heard as heard_in_feed, MOST_FEEDS
 from dispatch_tools.live.board import LONGEST_LINE
 from dispatch_tools.live.health import Found, judge, Measured
 from dispatch_tools.model.messages import DelayEvent
@@ -57,7 +57,7 @@ def state_of(line: Optional[bytes]) -> Optional[State]:
     if found is None or len(found[6]) > LONGEST_SAID:
         return None
     feeds, told = ([int(number) for number in found[place].split()] for place in (4, 5))
-    if len(feeds) % 3 or len(told) % 2:
+    if len(feeds) % 3 or len(feeds) > 3 * MOST_FEEDS or len(told) % 2:
         return None
     fed = [Fed(*feeds[place:place + 3]) for place in range(0, len(feeds), 3)]
     return State(int(found[1]), int(found[2]), int(found[3]), fed, dict(zip(told[::2], told[1::2])), found[6])
