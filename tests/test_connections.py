@@ -295,6 +295,21 @@ class Find(InNetwork):
         self.assertEqual(self.found('west', 'back', '--line=drop'), (0, ['drop 36']))
         self.assertEqual(self.found('west', 'back', 'Birkfeld')[0], 1)
 
+    def test_events_by_train_and_stop(self) -> None:
+        # The trip `back` calls at Corben, from which it begins at 09:30, and `out` passes through there at 08:40 to 08:42.
+        self.assertEqual(self.found('RE 1 09:10', '--at=corben', '--kind=departure'),
+                         (0, ['25: RE 1 09:10 (back) leaves Corben (CO-1) at 09:30:00']))
+        self.assertEqual(self.found('back', '--at', 'CO-1', '--kind', 'departure', '--late', '480'), (0, ['delay event 25 480']))
+        names = [row.split(';') for row in read(self.net, 'Events.csv').splitlines()[1:]]
+        due = [f'delay event {row[0]} 0' for row in names if row[2] == 'west']
+        self.assertEqual(self.found('west', '--at', 'all', '--late', '0'), (0, due))
+        self.assertEqual(self.found('west', '--at', 'Dornhalt')[0], 1)
+
+    def test_words_that_do_not_go_together(self) -> None:
+        for words in ('west',), ('west', 'back', '--at=Corben'), ('west', 'back', '--late=60'), ('west', '--at=Corben', '--line=drop'):
+            with self.subTest(words), self.assertRaises(SystemExit), contextlib.redirect_stderr(io.StringIO()):
+                find.main([self.net, *words])
+
     def test_all_of_two_routes(self) -> None:
         status, lines = self.found('RB 2', 'RE 1')
         trips = {tuple(row.split(';')[1:3]) for row in read(self.net, 'Changes.csv').splitlines()[1:]}

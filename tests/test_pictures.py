@@ -126,6 +126,42 @@ class Drawings(unittest.TestCase):
             self.assertEqual(classes(svg).count('train'), 1, name)
 
 
+class Names(unittest.TestCase):
+    """Names of trains lie neither over the names of stops nor beyond the edge of the picture."""
+
+    def extents(self, begin: int, end: int, *names: str) -> list[tuple[str, float, float]]:
+        """The names in a diagram of the connection between two times, and where they begin and end, at six units a letter."""
+        with tempfile.TemporaryDirectory() as net:
+            for name in os.listdir(network('connection')):
+                shutil.copy(os.path.join(network('connection'), name), net)
+            with open(os.path.join(net, 'Trains.csv'), 'w', encoding='utf-8') as file:
+                file.writelines(f'{event};{name}\n' for event, name in zip((1, 5), names))
+            found = read_scene(net, text('empty_feed'))
+        root = xml.fromstring('\n'.join(drawing(found, [1, 2, 3, 4], begin, end)))
+        said = []
+        for one in root.iter():
+            if one.get('class') == 'small' and one.text is not None:
+                length = 6 * len(one.text)
+                begins = float(one.get('x', '')) - (length if one.get('text-anchor') == 'end' else 0)
+                said.append((one.text, begins, begins + length))
+        width = float(root.get('width', ''))
+        for name, left, right in said:
+            self.assertGreaterEqual(left, 130, name)
+            self.assertLessEqual(right, width, name)
+        return said
+
+    def test_beside_the_stops(self) -> None:
+        self.assertEqual([name for name, _, _ in self.extents(60, 400, 'RE 1 00:01', 'Train that begins at once')],
+                         ['RE 1 00:01', 'Train that begins at once'])
+
+    def test_at_the_right_edge(self) -> None:
+        self.assertEqual([name for name, _, _ in self.extents(0, 120, 'Train that begins when the picture ends', 'x')],
+                         ['Train that begins when the picture ends'])
+
+    def test_longer_than_any_room_is_cut(self) -> None:
+        self.assertEqual([len(name) for name, _, _ in self.extents(60, 400, 'x' * 100, 'y')], [40, 1])
+
+
 class Pages(unittest.TestCase):
     def test_page_loads_nothing(self) -> None:
         found = page(scene('connection', 'plan_that_is_adopted'))

@@ -4,6 +4,7 @@ from __future__ import annotations
 import contextlib
 import io
 import os
+import re
 import random
 import subprocess
 import tempfile
@@ -170,13 +171,28 @@ class Feeds(InFolder):
         with mock.patch('dispatch_tools.commands.from_gtfs.PROGRAM', Limits(events=20)):
             status, said = self.call(from_gtfs, self.feed, DATE, self.net)
         self.assertEqual(status, 2)
-        self.assertIn('or cut it into regions by dispatch-tools split with --date= (stations, and the events of the parts without them: '
-                      'C: parts of 16, 16, 2; ', said)
+        # In C four trains of R may be left for G, and G for both directions of R.
+        self.assertIn('or cut it into regions by dispatch-tools split with --date= (stations, the events of the parts without them, and the '
+                      'changes there, which would be kept for ever: C: parts of 16, 16, 2, at most 6 changes cut; ', said)
         with mock.patch('dispatch_tools.commands.split.PROGRAM', Limits(events=20)):
             self.assertEqual(self.cut('C', os.path.join(self.folder, 'regions'), f'--date={DATE}')[0], 0)
             status, _, said = self.cut('B', os.path.join(self.folder, 'more'), f'--date={DATE}')
         self.assertEqual(status, 2)
         self.assertRegex(said, 'split: region [0-9] would have [0-9]+ events and .* choose more regions, or more boundary stops')
+
+    def test_cut_where_few_change(self) -> None:
+        # Without B and without D no part has more than 26 events, and nobody changes there.
+        with mock.patch('dispatch_tools.commands.from_gtfs.PROGRAM', Limits(events=30)):
+            _, said = self.call(from_gtfs, self.feed, DATE, self.net)
+        self.assertIn(': B: parts of 28, 8, at most 0 changes cut; D: parts of 28, 8, at most 0 changes cut; C: parts of 16, 16, 2, at most 6', said)
+
+    def test_changes_that_are_cut_are_counted(self) -> None:
+        _, lines, _ = self.cut('C', os.path.join(self.folder, 'regions'), f'--date={DATE}')
+        self.assertEqual(self.call(from_gtfs, self.feed, DATE, self.net)[0], 0)
+        changes = [one for one in read_network(self.net).activities if one.kind == 'change']
+        counts = [re.search(r' cut \(([0-9]+) changes of ([0-9]+) passengers\)', line) for line in lines]
+        self.assertEqual(sum(int(one[1]) for one in counts if one), len(changes))
+        self.assertEqual(sum(int(one[2]) for one in counts if one), len(changes))
 
     def test_words_that_are_wrong_are_told(self) -> None:
         for words, what in ((['X', 'out', f'--date={DATE}'], 'no train calls at stop X'), (['C', 'out', '--no-headways'], 'unrecognized arguments'),

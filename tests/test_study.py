@@ -2,14 +2,16 @@
 from __future__ import annotations
 
 import os
+import re
 import sys
 import unittest
 from functools import partial
 from types import ModuleType
 from unittest import mock
 
-from dispatch_tools.bench.study import by_dask, half_interval, read_outcomes, report, studied
-from dispatch_tools.bench.study_days import NUMBERS, Outcome, Settings, Task
+from dispatch_tools.bench.study import by_dask, curves_of, half_interval, read_outcomes, report, studied, write_pictures
+from dispatch_tools.bench.study_days import function_of, NUMBERS, Outcome, Settings, Task
+from dispatch_tools.days.policies import policy_of
 from dispatch_tools.formats.files import BadFile
 from dispatch_tools.pictures.figures import table
 from tests.folders import InFolder
@@ -35,6 +37,25 @@ class Reports(InFolder):
         self.assertTrue(cells[2][3].startswith('35.00 ±'))
         self.assertTrue(cells[3][3].startswith('5.00 ±'))
         self.assertTrue(cells[3][2].startswith('15.50 ±'))
+
+    def test_costs_of_small_networks_are_drawn_as_they_are(self) -> None:
+        # Two costs below a million, which a picture in whole millions would put on one line.
+        outcomes = [Outcome(day, 'never', cost, 0, 0.0, 0.0, late, 0.0) for day, cost, late in ((1, 410_500, 0.002), (2, 188_000, 0.001))]
+        self.assertEqual(curves_of(['never'], outcomes, 'cost', 1)[0].points, [(1, 188_000), (2, 410_500)])
+        self.assertEqual(curves_of(['never'], outcomes, 'minutes_by_passenger', 60_000)[0].points, [(1, 60), (2, 120)])
+        with mock.patch.dict(sys.modules, {'matplotlib': None}):
+            write_pictures(self.folder, ['never'], outcomes)
+        with open(os.path.join(self.folder, 'cost.svg'), encoding='utf-8') as file:
+            drawn = file.read()
+        heights = re.findall('<circle cx="[0-9]+" cy="([0-9]+)"', drawn)
+        self.assertEqual(len(set(heights)), 2)
+        self.assertIn('>0.2</text>', drawn)
+
+    def test_policies_by_the_clock(self) -> None:
+        self.assertEqual(function_of('order-120'), 'dispatch_tools.days.usual:wait_at_most:120')
+        self.assertEqual(function_of('fcfs-0'), 'dispatch_tools.days.usual:first_come_and_wait:0')
+        self.assertEqual([function_of(name) for name in ('never', '120', 'windows', 'fcfs-', 'fcfs-x', 'a:b')], [None] * 5 + ['a:b'])
+        self.assertIsNotNone(policy_of('dispatch_tools.days.usual:first_come_and_wait:0'))
 
     def test_broken_off(self) -> None:
         name = os.path.join(self.folder, 'study.csv')

@@ -6,13 +6,16 @@ It draws days of source delays over NET as dispatch-tools scenarios does, with i
 --size, --every and --ahead. A policy is one of
 
     never, always, a number     the waiting rule of that name, or of at most so many seconds, after all that the day reported
+    order-NUMBER, fcfs-NUMBER   trains wait at most so many seconds, and go in their scheduled order, or first come, first served: each
+                                --every minutes, by what is known then
     morning                     one plan of 16,384 nodes, --morning minutes after the first event, of what is known then
     windows                     each --every minutes a plan of 4,096 nodes of the next --ahead minutes, of what is known then
     hindsight                   a plan of 16,384 nodes of all that the day reported: no choices cost less than its bound
     MODULE:FUNCTION             a function of yours that is asked each --every minutes (dispatch_tools/days/policies.py); MODULE is looked for in
                                 the folder where you are, too. MODULE:FUNCTION:NUMBER calls it with a number
 
-A policy leaves what it does not choose as it is scheduled. FOLDER gets study.csv, with a line for each day and policy: the cost
+So never, always, a number and hindsight know the whole day, and all others what is known at the time. A policy leaves what it does
+not choose as it is scheduled. FOLDER gets study.csv, with a line for each day and policy: the cost
 and the bound in thousandths of passenger seconds, the passengers who missed a change, the minutes by which a train ends late and
 by which a passenger arrives late, on average, and the seconds of processor of the program. It also gets report.md, the means with
 their intervals of 95 %, and two pictures, if Debian's python3-matplotlib is installed. `check` judges each text.
@@ -32,17 +35,17 @@ import sys
 from concurrent.futures import ProcessPoolExecutor, as_completed
 from contextlib import contextmanager
 from functools import partial
-from typing import Any, Iterable, Iterator, Sequence
+from typing import Any, Callable, Iterable, Iterator, Sequence
 
-from dispatch_tools.bench.study_days import NUMBERS, Outcome, outcome_of, Settings, Task
+from dispatch_tools.bench.study_days import function_of, NUMBERS, Outcome, outcome_of, Settings, Task
 from dispatch_tools.days.delays import Drawing
 from dispatch_tools.days.policies import policy_of
 from dispatch_tools.days.scenarios import add_drawing_words, drawing_of
 from dispatch_tools.formats.files import BadFile, write_all
-from dispatch_tools.pictures.figures import Curve, picture, progress, table
+from dispatch_tools.pictures.figures import Curve, millions, picture, progress, Scale, table
 from dispatch_tools.words import add_network, command_line, whole_between
 
-USUAL = 'never,120,300,always,morning,windows,hindsight'
+USUAL = 'never,120,300,always,order-120,fcfs-120,morning,windows,hindsight'
 
 
 # ---- All days
@@ -140,27 +143,31 @@ def report(policies: list[str], outcomes: list[Outcome]) -> str:
     return '\n'.join(lines) + '\n'
 
 
-def curves_of(policies: list[str], outcomes: list[Outcome], name: str, scale: float) -> list[Curve]:
-    """For each policy its days from the least to the largest."""
+def curves_of(policies: list[str], outcomes: list[Outcome], name: str, units: int) -> list[Curve]:
+    """For each policy its days from the least to the largest, in so many units of one."""
     curves = []
     for policy in policies:
-        values = sorted(getattr(outcome, name) / scale for outcome in outcomes if outcome.policy == policy)
-        curves.append(Curve(policy, [(place, round(value)) for place, value in enumerate(values, 1)]))
+        values = sorted(round(units * getattr(outcome, name)) for outcome in outcomes if outcome.policy == policy)
+        curves.append(Curve(policy, list(enumerate(values, 1))))
     return curves
 
 
+def seconds(units: int) -> str:
+    return f'{units / 1000:g}'
+
+
 def write_pictures(folder: str, policies: list[str], outcomes: list[Outcome]) -> None:
-    for name, title, up, scale in (
-        ('cost', 'What days cost by policy', 'cost (millions)', 1e6),
-        ('minutes_by_passenger', 'How late passengers arrive by policy', 'seconds late (mean)', 1 / 60),
+    for name, title, up, units, in_words in (
+        ('cost', 'What days cost by policy', 'cost (millions)', 1, millions),
+        ('minutes_by_passenger', 'How late passengers arrive by policy', 'seconds late (mean)', 60_000, seconds),
     ):
-        curves = curves_of(policies, outcomes, name, scale)
+        curves = curves_of(policies, outcomes, name, units)
         path = os.path.join(folder, f'{name}.svg')
-        if not drawn_by_matplotlib(path, title, up, curves):
-            write_all(folder, {f'{name}.svg': picture(title, 'days, from the least', up, curves)})
+        if not drawn_by_matplotlib(path, title, up, curves, in_words):
+            write_all(folder, {f'{name}.svg': picture(title, 'days, from the least', up, curves, y_scale=Scale(in_words))})
 
 
-def drawn_by_matplotlib(path: str, title: str, up: str, curves: list[Curve]) -> bool:
+def drawn_by_matplotlib(path: str, title: str, up: str, curves: list[Curve], in_words: Callable[[int], str]) -> bool:
     """Whether matplotlib is there and has drawn a picture."""
     try:
         import matplotlib
@@ -172,6 +179,7 @@ def drawn_by_matplotlib(path: str, title: str, up: str, curves: list[Curve]) -> 
     for curve in curves:
         axes.plot(*zip(*curve.points), marker='.', label=curve.name)
     axes.set(title=title, xlabel='days, from the least', ylabel=up)
+    axes.yaxis.set_major_formatter(lambda value, _: in_words(round(value)))
     axes.grid(alpha=0.3)
     axes.legend()
     figure.savefig(path)
@@ -205,7 +213,7 @@ def words_read(argv: Sequence[str] | None) -> tuple[argparse.Namespace, Drawing]
                 policy_of(policy)
             except BadFile as fault:
                 words.error(str(fault))
-        elif policy not in USUAL.split(',') and not policy.isdecimal():
+        elif policy not in USUAL.split(',') and not policy.isdecimal() and function_of(policy) is None:
             words.error(f'"{policy}" is no policy')
     return given, drawing_of(words, given)
 

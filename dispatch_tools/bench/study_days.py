@@ -1,10 +1,11 @@
 """A day by a policy: what is drawn and played, and what it came to. dispatch-tools study does this for many days, in many processes."""
 from __future__ import annotations
 
+import re
 import tempfile
 import threading
 from dataclasses import dataclass
-from typing import NamedTuple
+from typing import NamedTuple, Optional
 
 from dispatch_tools.days.delays import Drawing, drawn_day, Lines, size_of
 from dispatch_tools.days.playing import Played, Program, replanned, Replanning
@@ -52,6 +53,17 @@ class Task(NamedTuple):
     policy: str
 
 
+def function_of(policy: str) -> Optional[str]:
+    """The function that plays a policy, as MODULE:FUNCTION or MODULE:FUNCTION:NUMBER; None where the program does."""
+    if ':' in policy:
+        return policy
+    found = re.fullmatch('(order|fcfs)-([0-9]{1,6})', policy)
+    if found is None:
+        return None
+    name = 'wait_at_most' if found[1] == 'order' else 'first_come_and_wait'
+    return f'dispatch_tools.days.usual:{name}:{found[2]}'
+
+
 class Worker:
     """The network of a study, and days that are played over it."""
 
@@ -83,8 +95,8 @@ class Worker:
             played.tell(now)
             program.run(played.lines)
             played.enter(program.window(now, max(now, end), BUDGET))
-        elif ':' in policy:
-            play_by(policy, played, start, end, 60 * settings.every)
+        elif (function := function_of(policy)) is not None:
+            play_by(function, played, start, end, 60 * settings.every)
         played.tell(None)
         if policy in ('never', 'always') or policy.isdecimal():
             program.run(played.lines)

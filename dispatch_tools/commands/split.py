@@ -8,7 +8,7 @@ of about as many events each, in the order of their least stops. It refuses more
 DIR/region-1, region-2 and so on get a folder `net` with the two files of a network, and a table `Boundary.csv`. The table has a
 record for each cut activity whose tail is in the region: `event here;region here;region there;event there;lower bound;scheduled
 time there`. Each event is in one region. Each activity is in one region or in one table. A change that is cut is kept for ever,
-as a wait is, because a table knows no choices. The file `boards` has the stops at which the region has an end of a cut activity,
+as a wait is, because a table knows no choices: the script prints how many are, and of how many passengers. The file `boards` has the stops at which the region has an end of a cut activity,
 with commas between: give them to the region's server as --boards.
 
 With --date=DAY NET is a timetable in GTFS, which may be too large for one network: dispatch-tools split FEED STOPS DIR --date=DAY
@@ -32,7 +32,7 @@ from dispatch_tools.days.expand import Expanded
 from dispatch_tools.days.trains import PROGRAM, Refused
 from dispatch_tools.days.split import Cut, LARGEST, MOST_REGIONS, parts_of, regions_of, stops_of_feed, stops_of_network
 from dispatch_tools.formats.files import BadFile, speak_utf8, write_all
-from dispatch_tools.formats.giv import network_files, read_network
+from dispatch_tools.formats.giv import decimal, network_files, read_network
 from dispatch_tools.formats.gtfs_rows import Feed
 from dispatch_tools.formats.runtext import MOST_BOARDS
 from dispatch_tools.model.network import Activity, Event, Network
@@ -40,17 +40,24 @@ from dispatch_tools.words import command_line, whole_between
 
 
 class Region(NamedTuple):
-    """The events and activities of a region, the activities that were cut behind its events, and the stops where it has an end of one
-    that was cut."""
+    """The events and activities of a region, the activities that were cut behind its events, those of them that are changes, and the
+    stops where it has an end of one that was cut."""
     events: list[Event]
     activities: list[Activity]
     cuts: list[Cut]
+    changes: list[Activity]
     boards: set[int]
+
+    def __str__(self) -> str:
+        said = f'{len(self.events)} events, {len(self.activities)} activities, {len(self.cuts)} cut'
+        if not self.changes:
+            return said
+        return f'{said} ({len(self.changes)} changes of {decimal(sum(change.weight for change in self.changes))} passengers)'
 
 
 def split(network: Network, region_of: list[int]) -> dict[int, Region]:
     """The regions by number."""
-    regions = {number: Region([], [], [], set()) for number in sorted(set(region_of))}
+    regions = {number: Region([], [], [], [], set()) for number in sorted(set(region_of))}
     for place, event in enumerate(network.events):
         regions[region_of[place]].events.append(event)
     for place, activity in enumerate(network.activities):
@@ -61,6 +68,7 @@ def split(network: Network, region_of: list[int]) -> dict[int, Region]:
         else:
             there = network.events[head]
             here.cuts.append(Cut(activity.tail, region_of[tail], region_of[head], there.id, activity.lower, there.time))
+            here.changes.extend([activity] if activity.kind == 'change' else [])
             here.boards.add(network.events[tail].stop)
             regions[region_of[head]].boards.add(there.stop)
     return regions
@@ -124,7 +132,7 @@ def cut(given: argparse.Namespace, options: Sequence[str]) -> None:
     refuse_large_ones(regions)
     write_regions(regions, given.dir, made)
     for number, region in regions.items():
-        print(f'region {number}: {len(region.events)} events, {len(region.activities)} activities, {len(region.cuts)} cut')
+        print(f'region {number}: {region}')
 
 
 def main(argv: Sequence[str] | None = None) -> int:

@@ -6,7 +6,7 @@ from collections import Counter
 from typing import Iterable, Iterator, NamedTuple, Optional
 
 from dispatch_tools.formats.files import BadFile, in_one_line, text_of
-from dispatch_tools.formats.giv import ACTIVITIES, activity_row, event_row, EVENTS, rows_of_file
+from dispatch_tools.formats.giv import ACTIVITIES, activity_row, decimal, event_row, EVENTS, rows_of_file
 from dispatch_tools.formats.names import numbered
 from dispatch_tools.formats.runtext import due_items
 from dispatch_tools.model.messages import AskPlan, AskTime, DelayActivity, DelayEvent, Drop, First, Keep, Now, Pass, Recall, Said
@@ -118,6 +118,35 @@ def long_changes(files: Files) -> Iterator[Oddity]:
             yield files.at_activity('long', activity, f'passengers would wait {head.time - tail.time} s, more than a day')
 
 
+def leaving_later(files: Files) -> list[Optional[int]]:
+    """For each event by place the passengers who leave its train at it or later, in thousandths; None where a train parts in two."""
+    after: dict[int, list[int]] = {}
+    for place, activity in enumerate(files.network.activities):
+        if activity.kind in ('drive', 'wait'):
+            after.setdefault(files.network.tails[place], []).append(files.network.heads[place])
+    found: list[Optional[int]] = [None] * len(files.network.events)
+    for place in sorted(range(len(found)), key=lambda place: files.network.events[place].time, reverse=True):
+        behind = after.get(place, [])
+        later = 0 if not behind else found[behind[0]] if len(behind) == 1 else None
+        found[place] = None if later is None else later + files.network.events[place].weight
+    return found
+
+
+def crowded_changes(files: Files) -> Iterator[Oddity]:
+    """Changes with more passengers than leave the train that arrives, or than leave the next one behind them."""
+    leaving = leaving_later(files)
+    for place, activity in enumerate(files.network.activities):
+        if activity.kind != 'change':
+            continue
+        arrival, later = files.ends(place)[0], leaving[files.network.heads[place]]
+        if activity.weight > arrival.weight:
+            said = f'{decimal(activity.weight)} passengers change, and {decimal(arrival.weight)} leave the train there (event {arrival.id})'
+            yield files.at_activity('crowd', activity, said)
+        elif later is not None and activity.weight > later:
+            said = f'{decimal(activity.weight)} passengers change, and {decimal(later)} leave the next train behind there'
+            yield files.at_activity('crowd', activity, said)
+
+
 def one_way_headways(files: Files) -> Iterator[Oddity]:
     for place, activity in enumerate(files.network.activities):
         if activity.kind == 'headway' and files.network.pair_by_activity[place] is None:
@@ -190,7 +219,7 @@ def feed_oddities(network: Network, name: str) -> Iterator[Oddity]:
 
 
 def oddities(files: Files, feeds: Iterable[str]) -> Iterator[Oddity]:
-    for find in (swapped_columns, schedule_oddities, jumps, kind_oddities, one_way_headways, long_changes, empty_stops):
+    for find in (swapped_columns, schedule_oddities, jumps, kind_oddities, one_way_headways, long_changes, crowded_changes, empty_stops):
         yield from find(files)
     for feed in feeds:
         yield from feed_oddities(files.network, feed)

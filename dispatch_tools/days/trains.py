@@ -11,7 +11,7 @@ from typing import Iterator, Optional
 from dispatch_tools.formats.gtfs import Call, Day, End, Told, Trip
 from dispatch_tools.formats.gtfs_rows import clock
 from dispatch_tools.formats.names import name_of_trip, named_trip
-from dispatch_tools.model.cuts import in_words, stations_that_part
+from dispatch_tools.model.cuts import Calls, in_words, stations_that_part
 from dispatch_tools.model.network import Event
 
 ONE_PASSENGER = 1000
@@ -153,10 +153,13 @@ def trains_of(
     trains: list[Train] = []
     events: Counter[str] = Counter()
     ways: Counter[tuple[str, ...]] = Counter()
+    calls = Calls()
     for train in chain(all_trains(day, notes), past_midnight(before, notes) if before else ()):
         if window.has(train):
             events[train.trip.route.id] += train.events
-            ways[tuple(stations[call.stop] for call in train.trip.calls)] += 1
+            way = tuple(stations[call.stop] for call in train.trip.calls)
+            ways[way] += 1
+            calls.take(way, (train.trip.route.id, train.trip.direction or way[-1]))
             if events.total() <= limits.events:
                 trains.append(train)
             notes.besides['trains of frequencies without exact times, which leave about so often'] += not train.is_exact
@@ -167,7 +170,7 @@ def trains_of(
         raise Refused(
             f'the network would have {events.total()} events, and may have {limits.events}: choose routes by --routes= '
             f'(most events: {most}), or a part of the day by --from= and --to=; or cut it into regions by dispatch-tools split with --date='
-            f'{in_words(stations_that_part(ways))}'
+            f'{in_words(stations_that_part(ways), calls, limits.events)}'
         )
     trains.sort(key=lambda train: (train.begins, train.name))
     return trains

@@ -1,8 +1,8 @@
 """Finds the stations at which a railway falls into parts. There a network that is too large may be cut."""
 from __future__ import annotations
 
-from collections import Counter
-from typing import Iterable, Iterator, NamedTuple
+from collections import Counter, defaultdict
+from typing import Iterable, Iterator, NamedTuple, Sequence
 
 SHOWN = 3
 
@@ -11,6 +11,26 @@ class Parting(NamedTuple):
     """A station, and the events of the parts that the others fall into without it, from the most."""
     station: str
     events: list[int]
+
+
+class Calls:
+    """Which lines arrive at stations, how often, and which leave: a line is a route and where it goes."""
+
+    def __init__(self) -> None:
+        self.arrivals: dict[str, Counter[tuple[str, str]]] = defaultdict(Counter)
+        self.departures: dict[str, set[tuple[str, str]]] = defaultdict(set)
+
+    def take(self, stations: Sequence[str], line: tuple[str, str]) -> None:
+        """A train of a line that calls at stations."""
+        for station in stations[1:]:
+            self.arrivals[station][line] += 1
+        for station in stations[:-1]:
+            self.departures[station].add(line)
+
+    def changes_at(self, station: str) -> int:
+        """At most so many changes are there: from each arrival one to each line of another route."""
+        leaving = Counter(route for route, _ in self.departures[station])
+        return sum(count * (leaving.total() - leaving[route]) for (route, _), count in self.arrivals[station].items())
 
 
 class Visit(NamedTuple):
@@ -80,9 +100,17 @@ def partings(first: str, legs: dict[str, Counter[str]], order: dict[str, int]) -
             yield Parting(station, whole)
 
 
-def in_words(found: list[Parting]) -> str:
-    """Says to people where to cut."""
+def in_words(found: list[Parting], calls: Calls, most: int) -> str:
+    """Says to people where to cut: first where few people change, among the stations without which no part has too many events."""
     if not found:
         return ' at several stations, none of which parts it alone'
-    shown = '; '.join(f'{one.station}: parts of {", ".join(map(str, one.events[:SHOWN]))}' for one in found[:SHOWN])
-    return f' (stations, and the events of the parts without them: {shown})'
+
+    def dearness(one: Parting) -> tuple[bool, int, int, str]:
+        is_large = one.events[0] > most
+        return is_large, one.events[0] if is_large else 0, calls.changes_at(one.station), one.station
+
+    shown = '; '.join(
+        f'{one.station}: parts of {", ".join(map(str, one.events[:SHOWN]))}, at most {calls.changes_at(one.station)} changes cut'
+        for one in sorted(found, key=dearness)[:SHOWN]
+    )
+    return f' (stations, the events of the parts without them, and the changes there, which would be kept for ever: {shown})'

@@ -170,17 +170,31 @@ def train_marks(frame: Frame, scene: Scene, trains: Trains) -> Iterator[str]:
             yield f'<g class="train" data-t="{number}"><title>{title}</title>{paths}</g>'
 
 
+# About how wide a small letter is, and the longest name that is written.
+LETTER = 6
+LONGEST_NAME = 40
+
+
+def side_of(frame: Frame, x: int, length: int, is_right: bool) -> bool:
+    """Whether a text of this length goes to the right of x: where that is wished and nothing is cut off, or it would lie over the stops."""
+    if is_right:
+        return x + 3 + length <= LEFT + frame.width + RIGHT or x - 3 - length < LEFT
+    return x - 5 - length < LEFT
+
+
 def train_names(frame: Frame, scene: Scene, trains: Trains) -> Iterator[str]:
     """The names of trains at their first stop on the line, where there is room behind the name before."""
     taken: dict[int, int] = {}
-    for number, stretches in trains:
-        place = stretches[0][0]
-        name = scene.train_label(number)
-        x, y = frame.x(scene.times[place]), frame.y(scene.stop(place))
-        if not frame.shows(scene.times[place]) or x < taken.get(y, 0):
+    firsts = sorted((scene.times[stretches[0][0]], number, stretches[0][0]) for number, stretches in trains)
+    for time, number, place in firsts:
+        name = scene.train_label(number)[:LONGEST_NAME]
+        x, y, length = frame.x(time), frame.y(scene.stop(place)), LETTER * len(name)
+        goes_right = side_of(frame, x, length, y == TOP)
+        left = x + 3 if goes_right else x - 5 - length
+        if not frame.shows(time) or left < taken.get(y, 0):
             continue
-        taken[y] = x + 12 + 6 * len(name)
-        across = f'x="{x + 3}"' if y == TOP else f'x="{x - 5}" text-anchor="end"'
+        taken[y] = left + length + LETTER
+        across = f'x="{x + 3}"' if goes_right else f'x="{x - 5}" text-anchor="end"'
         # Below the last stop stand the hours.
         down = y - 4 if y in (TOP, TOP + frame.height) else y + 13
         yield f'<text class="small" {across} y="{down}">{escaped(name)}</text>'
@@ -249,7 +263,9 @@ def clock_mark(frame: Frame, scene: Scene) -> Iterator[str]:
     if clock and frame.shows(clock):
         x = frame.x(clock)
         yield f'<line class="now" x1="{x}" x2="{x}" y1="{TOP - 8}" y2="{TOP + frame.height + 8}"/>'
-        yield f'<text class="small" x="{x + 4}" y="{TOP - 10}">clock {clock_time(clock, True)}</text>'
+        said = f'clock {clock_time(clock, True)}'
+        across = f'x="{x + 4}"' if side_of(frame, x, LETTER * len(said), True) else f'x="{x - 4}" text-anchor="end"'
+        yield f'<text class="small" {across} y="{TOP - 10}">{said}</text>'
 
 
 # ---- The page around
