@@ -190,7 +190,7 @@ class Feeds(InFolder):
         _, lines, _ = self.cut('C', os.path.join(self.folder, 'regions'), f'--date={DATE}')
         self.assertEqual(self.call(from_gtfs, self.feed, DATE, self.net)[0], 0)
         changes = [one for one in read_network(self.net).activities if one.kind == 'change']
-        counts = [re.search(r' cut \(([0-9]+) changes of ([0-9]+) passengers\)', line) for line in lines]
+        counts = [re.search(r' cut \(changes ([0-9]+), passengers ([0-9]+)\)', line) for line in lines]
         self.assertEqual(sum(int(one[1]) for one in counts if one), len(changes))
         self.assertEqual(sum(int(one[2]) for one in counts if one), len(changes))
 

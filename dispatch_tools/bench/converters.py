@@ -1,10 +1,10 @@
-"""Measures the converters of GTFS-Realtime: dispatch-tools converters DISPATCHER [--trips=2630]
+"""Measures the way from a timetable and back, and the converters of GTFS-Realtime: dispatch-tools converters DISPATCHER [--trips=2630]
 
-It makes a timetable of so many trips with twenty calls each, and a day on which a hundred trains are late. The network has 38
-events a trip, and may have 100,000. It prints the seconds of processor and the most memory of both converters. gtfs_rt_out
-writes all trips. gtfs_rt_in reads a message of 3,000 trips beside the feed of the day, and reports those that are not in the
-network. Then it prints the seconds of their parts, as with --every: what a converter reads once, its first message, and one a
-minute later.
+It makes a zip file of so many trips with twenty calls each, and a day on which a hundred trains are late. The network has 38
+events a trip, and may have 100,000. It prints the seconds of processor and the most memory of each step from the zip file to a
+plan that is checked, a picture and a table of new times; and of both converters of GTFS-Realtime. gtfs_rt_out writes all trips.
+gtfs_rt_in reads a message of 3,000 trips beside the feed of the day, and reports those that are not in the network. Then it prints
+the seconds of their parts, as with --every: what a converter reads once, its first message, and one a minute later.
 """
 from __future__ import annotations
 
@@ -15,6 +15,7 @@ import os
 import subprocess
 import tempfile
 import time
+import zipfile
 from typing import Callable, Sequence, TypeVar
 
 from dispatch_tools.bench.measured import measured, Measured
@@ -29,7 +30,7 @@ from dispatch_tools.words import command_line, whole_between
 
 Made = TypeVar('Made')
 
-CALLS, LATE, NOW, IN_MESSAGE = 20, 100, 28_800, 3_000
+CALLS, LATE, NOW, IN_MESSAGE, BUDGET = 20, 100, 28_800, 3_000, 16_384
 
 
 def tool(name: str, *words: str) -> Measured:
@@ -48,6 +49,34 @@ def took(what: str, work: Callable[[], Made]) -> Made:
         made = work()
     print(f'  {what}: {time.process_time() - began:.2f} s', flush=True)
     return made
+
+
+def zipped(folder: str) -> str:
+    """A zip file of the tables in a folder."""
+    name = f'{folder}.zip'
+    with zipfile.ZipFile(name, 'w', zipfile.ZIP_DEFLATED) as file:
+        for table in sorted(os.listdir(folder)):
+            file.write(os.path.join(folder, table), table)
+    return name
+
+
+def there_and_back(program: str, source: str, net: str, late: list[str], folder: str) -> None:
+    """From a zip file to a network, a plan, its check, a picture and new times."""
+    feed, text = os.path.join(folder, 'planned'), os.path.join(folder, 'planned.text')
+    steps = [took_by('from_gtfs', tool('from_gtfs', source, DATE, net))]
+    with open(feed, 'w', encoding='ascii') as file:
+        file.writelines([*late, f'plan {BUDGET}\n', 'adopt\n'])
+    steps.append(took_by('run, with a plan', measured([os.path.abspath(program), 'run', net, feed], folder=folder, output='planned.text')))
+    steps.append(took_by('check', measured([program, 'check', net, text])))
+    steps.append(took_by('view', tool('view', net, text)))
+    steps.append(took_by('to_gtfs', tool('to_gtfs', net, text, os.path.join(folder, 'late'), f'--feed={source}')))
+    print(f'from end to end: {sum(steps):.2f} s', flush=True)
+
+
+def took_by(what: str, done: Measured) -> float:
+    """Prints what a step took, and gives its seconds."""
+    shown(what, done)
+    return done.seconds
 
 
 def parts_of_in(net: str, feed: str, message: Message) -> None:
@@ -77,10 +106,10 @@ def main(argv: Sequence[str] | None = None) -> int:
         source, net, feed, text, out, more = (os.path.join(folder, name) for name in ('gtfs', 'net', 'feed', 'text', 'out.pb', 'more.pb'))
         agency = ['agency_name,agency_url,agency_timezone', 'X,https://example.org,Europe/Berlin']
         write_feed(source, {**large_feed(given.trips, CALLS), 'agency.txt': agency})
-        shown('from_gtfs', tool('from_gtfs', source, DATE, net))
+        late = [f'delay event {1 + 38 * (number * given.trips // LATE)} 300\n' for number in range(LATE)]
+        there_and_back(given.dispatcher, zipped(source), net, late, folder)
         with open(feed, 'w', encoding='ascii') as file:
-            file.writelines(f'delay event {1 + 38 * (number * given.trips // LATE)} 300\n' for number in range(LATE))
-            file.write(f'now {NOW}\n')
+            file.writelines([*late, f'now {NOW}\n'])
         with open(text, 'wb') as file:
             subprocess.run([given.dispatcher, 'run', net, feed], stdout=file, stderr=subprocess.DEVNULL, check=True)
         shown('gtfs_rt_out', tool('gtfs_rt_out', net, text, out))

@@ -52,7 +52,8 @@ class Region(NamedTuple):
         said = f'{len(self.events)} events, {len(self.activities)} activities, {len(self.cuts)} cut'
         if not self.changes:
             return said
-        return f'{said} ({len(self.changes)} changes of {decimal(sum(change.weight for change in self.changes))} passengers)'
+        people = sum(change.weight for change in self.changes)
+        return f'{said} (changes {len(self.changes)}, passengers {decimal(people)})'
 
 
 def split(network: Network, region_of: list[int]) -> dict[int, Region]:
