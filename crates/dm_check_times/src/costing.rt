@@ -54,8 +54,8 @@ fn priced_weights(net: &Network, rows: &Rows, times: &[Secs]) -> Cost
     total
 }
 
-/// What the lateness of one event costs: nothing unless it is an arrival.
-pub(crate) fn event_cost(net: &Network, times: &[Secs], i: usize) -> Cost
+/// What the lateness of one event costs, in thousandths of passenger seconds: nothing unless it is an arrival.
+pub fn event_cost(net: &Network, times: &[Secs], i: usize) -> Cost
     requires as_many { length times.now ≡ length net.now.events }
     requires early { AreBelowLimit times.now }
     requires is_event { i < length net.now.events }
@@ -73,8 +73,8 @@ pub(crate) fn event_cost(net: &Network, times: &[Secs], i: usize) -> Cost
     }
 }
 
-/// The weight of a change that its passed head has missed for good.
-pub(crate) fn missed_weight(net: &Network, rows: &Rows, times: &[Secs], a: usize) -> Milli
+/// The weight of a change that its passed head has missed for good, in thousandths of passengers, and else 0.
+pub fn missed_weight(net: &Network, rows: &Rows, times: &[Secs], a: usize) -> Milli
     requires sized { IsSized net.now rows.now }
     requires as_many { length times.now ≡ length net.now.events }
     requires early { AreBelowLimit times.now }

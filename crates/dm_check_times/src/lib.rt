@@ -61,7 +61,7 @@ mod rows;
 
 pub use changes::changes_of;
 pub use charges::Charges;
-pub use costing::{comes_too_early, cost_of};
+pub use costing::{comes_too_early, cost_of, event_cost, missed_weight};
 pub use keeping::keep_up;
 pub use kept_cost::KeptCost;
 pub use kept_timetable::KeptTimetable;

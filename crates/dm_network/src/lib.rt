@@ -12,6 +12,8 @@
 //! `out_row` those with that tail; each counts one step. `reveal` tells what holds of every network, and that the ids of its
 //! events are below 2^32.
 //!
+//! [`least_double`] tells exactly which number of a list is the least that stands twice.
+//!
 //! `Network::search` finds an order of all events in which the held activities go forward, or a cycle of held activities. It
 //! works over the network's own arrays and takes no memory.
 #![tactic(auto)]
@@ -28,3 +30,4 @@ mod records;
 
 pub use network::Network;
 pub use parts::{Activity, Event, NetFault, Pair};
+pub use records::least_double;

@@ -9,8 +9,8 @@ use crate::parts::{Activity, Event, NetFault};
 use dm_base::{ActId, ActKind, ActRow, EventRow};
 use std::alloc::{AllocError, Global};
 
-/// The least number that stands twice.
-fn least_double(mut ids: Vec<u32>) -> Option<u32>
+/// The least number that stands twice. It takes no memory but that of the list.
+pub fn least_double(mut ids: Vec<u32>) -> Option<u32>
     ensures { MatchOption result (NoneStandsTwice ids.items) (λ id. IsLeastDouble ids.items id) }
 {
     ids.sort_unstable();

@@ -13,6 +13,7 @@ use Rattle.dm_rows.specs.Decide.{free_choices_of, choice_of, IsChoiceList, with_
 use Rattle.dm_tree.specs.declared.forms.Node.TheVariants.{Inner, Cycle, Bound, Open}
 use Rattle.dm_tree.specs.declared.forms.Mark.TheVariants.{Optimal, Open as OpenMark}
 use Rattle.dm_tree.specs.declared.plans.Plan.{Plan}
+use Rattle.dm_tree.specs.declared.adopting.Chosen.{Chosen}
 use Rattle.dm_tree.specs.Trees.{Shape, preorder, IsProper, IsWhole, StandsAt}
 use Rattle.dm_tree.specs.Relaxed.{IsRelaxedLeast, relaxed_cost_of, RelaxedCosts, IsRelaxedCycle, HasNoRelaxedCycle, IsViolated}
 
@@ -130,6 +131,15 @@ pub record IsTruePlan (task : Task) (plan : Plan) : Type 0 where
   pub mark : (plan.mark ≡ Optimal) ↔ HasNoOpen shape
   pub size : length plan.tree ≤ task.budget
   pub used : plan.mark ≡ OpenMark → task.budget < length plan.tree + 2
+
+-- what an adoption takes of a plan for the rows after so many entries
+abbrev pub chosen : ℕ → List Decision → Chosen
+chosen entry choices = record { entry = entry; choices = choices }
+
+-- Choices that may be adopted: free choices of the rows, in order and none twice, with which the rows have no cycle.
+pub record MayBeAdopted (net : Net) (rows : RowsValue) (choices : List Decision) : Type 0 where
+  pub free : AreSomeOf (free_choices_of net rows) (map choice_of choices)
+  pub no_cycle : HasNoCycle net (with_decisions net rows choices)
 
 -- Choices that cost c are optimal among those allowed where no choices allowed cost less.
 pub record IsOptimal (task : Task) (choices : List Decision) (c : ℕ) : Type 0 where

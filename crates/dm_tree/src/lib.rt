@@ -15,6 +15,7 @@
 //! - [`Tree::second_child`] leads past the first child's tree, and [`Tree::child_towards`] leads from the root to any node,
 //!   choice by choice. Both take no memory. The decisions on the way are the path of the node.
 //! - [`turn_back`] leads from a leaf's path to that of the next node, or tells that there is none.
+//! - [`Chosen::copied`] copies what an adoption takes of a plan.
 //! - [`nodes`] counts the nodes of a tree. A [`Partial`] is a tree in which holes may stand.
 //!
 //! Laws:
@@ -35,7 +36,7 @@ mod plans;
 mod walks;
 mod whole;
 
-pub use adopting::AdoptRefusal;
+pub use adopting::{AdoptRefusal, Chosen};
 pub use assembly::assemble;
 pub use forms::{AssembleFault, Child, Leaf, Mark, Node};
 pub use partial::Partial;
