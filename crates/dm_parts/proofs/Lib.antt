@@ -2,3 +2,4 @@ pub mod Alike
 pub mod Adding
 pub mod Listed
 pub mod WorkedParts
+pub mod Counting

@@ -2,6 +2,8 @@
 pub mod Weights
 pub mod Shares
 pub mod Parts
+pub mod Kinds
+pub mod Sizes
 pub mod Sums
 pub mod Laws
 -- What these give on a small network.

@@ -7,7 +7,8 @@
 //!
 //! # What is promised
 //!
-//! The definitions say what the network within a share is, what a true part is, and what a true plan by parts is.
+//! The definitions say what the network within a share is, what a true part is, and what a true plan by parts is. An [`AnyPlan`]
+//! is a plan of either kind: it tells the entry and the choices that an adoption takes. [`nodes_in`] counts the nodes of parts.
 //!
 //! Laws of `laws`:
 //!
@@ -19,9 +20,13 @@
 //! - A worked plan by parts is true. One that counts a part twice is not.
 #![tactic(auto)]
 
+mod kinds;
 pub mod laws;
 mod parts;
 mod shares;
+mod sizes;
 
+pub use kinds::AnyPlan;
 pub use parts::{Part, PartNode, PlanByParts};
 pub use shares::Share;
+pub use sizes::nodes_in;
