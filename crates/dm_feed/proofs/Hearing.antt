@@ -9,7 +9,7 @@ use Rattle.dm_base.specs.Numbers.{whole_value}
 use Rattle.dm_rows.specs.declared.messages.Message.{Message}
 use Rattle.dm_rows.specs.declared.messages.Message.TheVariants as message
 use Rattle.dm_feed.specs.declared.vocabulary.Word.{Word}
-use Rattle.dm_feed.specs.declared.vocabulary.Word.TheVariants.{Delay, Event, Activity, Pass, Recall, Keep, Drop, First, Now, Time, Cost, Read, Plan, Adopt}
+use Rattle.dm_feed.specs.declared.vocabulary.Word.TheVariants.{Delay, Event, Activity, Pass, Recall, Keep, Drop, First, Now, Time, Cost, Read, Plan, Solve, Adopt}
 use Rattle.dm_feed.specs.declared.grammar.Line.{Line}
 use Rattle.dm_feed.specs.declared.grammar.Line.TheVariants as line
 use Rattle.dm_feed.specs.declared.grammar.Heard.{Heard}
@@ -63,6 +63,7 @@ word_spelled Time = refl
 word_spelled Cost = refl
 word_spelled Read = refl
 word_spelled Plan = refl
+word_spelled Solve = refl
 word_spelled Adopt = refl
 
 pub named : (text : List ℕ) (w : Word) → text ≡ spelling_of_word w → word_named text ≡ Some w
@@ -90,6 +91,7 @@ other_in_six text n other Time e = let m = ap length e in omega arith
 other_in_six text n other Cost e = let m = ap length e in omega arith
 other_in_six text n other Read e = let m = ap length e in omega arith
 other_in_six text n other Plan e = let m = ap length e in omega arith
+other_in_six text n other Solve e = let m = ap length e in omega arith
 other_in_six text n other Adopt e = let m = ap length e in omega arith
 
 other_in_more : (text : List ℕ) → 6 < length text → text ≢ codes "activity" → (w : Word) → text ≢ spelling_of_word w
@@ -106,6 +108,7 @@ other_in_more text n other Time e = let m = ap length e in omega arith
 other_in_more text n other Cost e = let m = ap length e in omega arith
 other_in_more text n other Read e = let m = ap length e in omega arith
 other_in_more text n other Plan e = let m = ap length e in omega arith
+other_in_more text n other Solve e = let m = ap length e in omega arith
 other_in_more text n other Adopt e = let m = ap length e in omega arith
 
 -- one word has six letters, and one has more
@@ -274,6 +277,8 @@ shows Cost first texts said is e = made_alone line.CostNow said first texts (λ 
 shows Read first texts said is e = made_alone line.Read said first texts (λ none. record { spelled = tt; parts = (is, subst (StandForAll []) (sym none) tt) }) e
 shows Plan first texts said is e =
     made (λ n. line.Plan n) (only value_in texts) said (first ∷ texts) (λ n q. record { spelled = tt; parts = (is, value_texts n texts q) }) e
+shows Solve first texts said is e =
+    made (λ n. line.Solve n) (only value_in texts) said (first ∷ texts) (λ n q. record { spelled = tt; parts = (is, value_texts n texts q) }) e
 shows Adopt first texts said is e = made_alone line.Adopt said first texts (λ none. record { spelled = tt; parts = (is, subst (StandForAll []) (sym none) tt) }) e
 
 pub shows_named : (first : List ℕ) (texts : List (List ℕ)) (said : Line) (o : Option Word) → word_named first ≡ o → line_with o texts ≡ Some said → Shows said (first ∷ texts)
@@ -311,6 +316,7 @@ reads (line.Say m) first texts spelled h = reads_message m first texts spelled h
 reads (line.Time e) first texts spelled h = begun Time first texts _ h.0 (ap (option_map (λ n. line.Time (event n))) (texts_id e.0 texts h.1))
 reads line.CostNow first texts spelled h = begun Cost first texts _ h.0 (alone_none line.CostNow texts h.1)
 reads (line.Plan b) first texts spelled h = begun Plan first texts _ h.0 (ap (option_map (λ n. line.Plan n)) (texts_value b texts h.1))
+reads (line.Solve b) first texts spelled h = begun Solve first texts _ h.0 (ap (option_map (λ n. line.Solve n)) (texts_value b texts h.1))
 reads line.Adopt first texts spelled h = begun Adopt first texts _ h.0 (alone_none line.Adopt texts h.1)
 reads line.Read first texts spelled h = begun Read first texts _ h.0 (alone_none line.Read texts h.1)
 
@@ -334,6 +340,7 @@ begins (line.Say (message.Adopt ds)) = record { first = Adopt; rest = _; are = r
 begins (line.Time e) = record { first = Time; rest = _; are = refl }
 begins line.CostNow = record { first = Cost; rest = _; are = refl }
 begins (line.Plan b) = record { first = Plan; rest = _; are = refl }
+begins (line.Solve b) = record { first = Solve; rest = _; are = refl }
 begins line.Adopt = record { first = Adopt; rest = _; are = refl }
 begins line.Read = record { first = Read; rest = _; are = refl }
 
@@ -352,6 +359,7 @@ letter Time = omega arith
 letter Cost = omega arith
 letter Read = omega arith
 letter Plan = omega arith
+letter Solve = omega arith
 letter Adopt = omega arith
 
 pub no_words : (w : Word) (rest : List Part) (texts : List (List ℕ)) → SayNothing texts → StandForAll (word w ∷ rest) texts → ⊥

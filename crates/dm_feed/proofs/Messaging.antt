@@ -234,6 +234,7 @@ line_says texts w first rest l said are n found says =
     says_is (line.Time e') said e = absurd cc
     says_is line.CostNow said e = absurd cc
     says_is (line.Plan b) said e = absurd cc
+    says_is (line.Solve b) said e = absurd cc
     says_is line.Adopt said e = absurd cc
     says_is line.Read said e = absurd cc
 

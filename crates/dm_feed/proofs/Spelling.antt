@@ -14,7 +14,7 @@ use Rattle.dm_base.proofs.Decimals.{IsDigits-decimal, whole_value-decimal}
 use Rattle.dm_rows.specs.declared.messages.Decision.{Decision}
 use Rattle.dm_rows.specs.declared.messages.Message.TheVariants as message
 use Rattle.dm_feed.specs.declared.vocabulary.Word.{Word}
-use Rattle.dm_feed.specs.declared.vocabulary.Word.TheVariants.{Delay, Event, Activity, Pass, Recall, Keep, Drop, First, Now, Time, Cost, Read, Plan, Adopt}
+use Rattle.dm_feed.specs.declared.vocabulary.Word.TheVariants.{Delay, Event, Activity, Pass, Recall, Keep, Drop, First, Now, Time, Cost, Read, Plan, Solve, Adopt}
 use Rattle.dm_feed.specs.declared.grammar.Line.{Line}
 use Rattle.dm_feed.specs.declared.grammar.Line.TheVariants as line
 use Rattle.dm_feed.specs.declared.grammar.Heard.{Heard}
@@ -56,6 +56,7 @@ word_solid Time = (omega arith, refl)
 word_solid Cost = (omega arith, refl)
 word_solid Read = (omega arith, refl)
 word_solid Plan = (omega arith, refl)
+word_solid Solve = (omega arith, refl)
 word_solid Adopt = (omega arith, refl)
 
 digits_solid : (text : List ℕ) → IsDigits text → IsSolid text
@@ -120,6 +121,7 @@ part_short (word Time) fits = omega arith
 part_short (word Cost) fits = omega arith
 part_short (word Read) fits = omega arith
 part_short (word Plan) fits = omega arith
+part_short (word Solve) fits = omega arith
 part_short (word Adopt) fits = omega arith
 part_short (id n) fits = length-decimal-le 20 n (omega arith) (omega (arith, fits)) (omega (arith, fits))
 part_short (value n) fits = length-decimal-le 20 n (omega arith) (omega (arith, fits)) (omega (arith, fits))
@@ -151,6 +153,7 @@ few_parts (line.Say (message.Adopt ds)) h = absurd h
 few_parts (line.Time e) h = omega arith
 few_parts line.CostNow h = omega arith
 few_parts (line.Plan b) h = omega arith
+few_parts (line.Solve b) h = omega arith
 few_parts line.Adopt h = omega arith
 few_parts line.Read h = omega arith
 

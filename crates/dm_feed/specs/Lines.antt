@@ -6,7 +6,7 @@ use Rattle.dm_rows.specs.declared.messages.Decision.{Decision}
 use Rattle.dm_rows.specs.declared.messages.Decision.TheVariants as decision
 use Rattle.dm_rows.specs.declared.messages.Message.{Message}
 use Rattle.dm_rows.specs.declared.messages.Message.TheVariants as message
-use Rattle.dm_feed.specs.declared.vocabulary.Word.TheVariants.{Delay, Event, Activity, Pass, Recall, Keep, Drop, First, Now, Time, Cost, Read, Plan, Adopt}
+use Rattle.dm_feed.specs.declared.vocabulary.Word.TheVariants.{Delay, Event, Activity, Pass, Recall, Keep, Drop, First, Now, Time, Cost, Read, Plan, Solve, Adopt}
 use Rattle.dm_feed.specs.declared.grammar.Line.{Line}
 use Rattle.dm_feed.specs.declared.grammar.Line.TheVariants as line
 use Rattle.dm_feed.specs.declared.grammar.Heard.{Heard}
@@ -35,6 +35,7 @@ parts_of_line (line.Say m) = parts_of_message m
 parts_of_line (line.Time e) = word Time ∷ id e.0 ∷ []
 parts_of_line line.CostNow = word Cost ∷ []
 parts_of_line (line.Plan b) = word Plan ∷ value b ∷ []
+parts_of_line (line.Solve b) = word Solve ∷ value b ∷ []
 parts_of_line line.Adopt = word Adopt ∷ []
 parts_of_line line.Read = word Read ∷ []
 
@@ -55,6 +56,7 @@ IsSpelledLine (line.Say m) = IsSaid m
 IsSpelledLine (line.Time e) = Unit {0}
 IsSpelledLine line.CostNow = Unit {0}
 IsSpelledLine (line.Plan b) = Unit {0}
+IsSpelledLine (line.Solve b) = Unit {0}
 IsSpelledLine line.Adopt = Unit {0}
 IsSpelledLine line.Read = Unit {0}
 

@@ -2,7 +2,7 @@
 use Rattle.std.specs.Prelude.{ℕ, ◌==◌, not, List, length, filter, codes}
 use Rattle.std.specs.List.{slice_split}
 use Rattle.dm_feed.specs.declared.vocabulary.Word.{Word}
-use Rattle.dm_feed.specs.declared.vocabulary.Word.TheVariants.{Delay, Event, Activity, Pass, Recall, Keep, Drop, First, Now, Time, Cost, Read, Plan, Adopt}
+use Rattle.dm_feed.specs.declared.vocabulary.Word.TheVariants.{Delay, Event, Activity, Pass, Recall, Keep, Drop, First, Now, Time, Cost, Read, Plan, Solve, Adopt}
 
 abbrev pub spelling_of_word : Word → List ℕ
 spelling_of_word Delay = codes "delay"
@@ -18,6 +18,7 @@ spelling_of_word Time = codes "time"
 spelling_of_word Cost = codes "cost"
 spelling_of_word Read = codes "read"
 spelling_of_word Plan = codes "plan"
+spelling_of_word Solve = codes "solve"
 spelling_of_word Adopt = codes "adopt"
 
 -- the words in bytes: what stands between spaces, where that is not empty

@@ -18,7 +18,10 @@ pub enum Line {
     /// A plan with a search tree of at most so many nodes.
     Plan(u64),
 
-    /// The latest plan is to be adopted.
+    /// A plan by parts whose parts have at most so many nodes together.
+    Solve(u64),
+
+    /// The latest plan of either kind is to be adopted.
     Adopt,
 
     /// The number of entries at present.

@@ -98,6 +98,7 @@ pub fn put_line<K: Sink>(sink: &mut K, page: &mut Page, line: &Line) -> Result<(
         Line::Time(event) => page.put_number(sink, "time ", event.0 as u128),
         Line::CostNow => page.put_bytes(sink, b"cost"),
         Line::Plan(nodes) => page.put_number(sink, "plan ", *nodes as u128),
+        Line::Solve(nodes) => page.put_number(sink, "solve ", *nodes as u128),
         Line::Adopt => page.put_bytes(sink, b"adopt"),
         Line::Read => page.put_bytes(sink, b"read"),
     }

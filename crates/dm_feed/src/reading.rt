@@ -100,6 +100,7 @@ pub(crate) fn line_behind(word: Word, words: &[u8]) -> Option<Line>
         Word::Cost => alone(Line::CostNow, words),
         Word::Read => alone(Line::Read, words),
         Word::Plan => Some(Line::Plan(one_value(words)?)),
+        Word::Solve => Some(Line::Solve(one_value(words)?)),
         Word::Adopt => alone(Line::Adopt, words),
         Word::Event | Word::Activity => None,
     }

@@ -18,6 +18,7 @@ pub enum Word {
     Cost,
     Read,
     Plan,
+    Solve,
     Adopt,
 }
 
@@ -39,6 +40,7 @@ pub(crate) fn word_of(text: &[u8]) -> Option<Word>
         b"cost" => Word::Cost,
         b"read" => Word::Read,
         b"plan" => Word::Plan,
+        b"solve" => Word::Solve,
         b"adopt" => Word::Adopt,
         _ => return None,
     };

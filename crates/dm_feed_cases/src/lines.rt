@@ -39,6 +39,13 @@ const SPELLINGS: &[(&[u8], &[u8])] = &[
     (b"plan 18446744073709551615", b"plan 18446744073709551615"),
     (b"plan 18446744073709551616", b""),
     (b"plan", b""),
+    (b"solve 0", b"solve 0"),
+    (b" solve  0100 ", b"solve 100"),
+    (b"solve 18446744073709551615", b"solve 18446744073709551615"),
+    (b"solve 18446744073709551616", b""),
+    (b"solve", b""),
+    (b"solve x", b""),
+    (b"solve 1 2", b""),
     (b"adopt", b"adopt"),
     (b"adopt keep 5", b""),
     (b"Adopt", b""),
@@ -66,7 +73,7 @@ fn each_line_is_heard_and_printed(rt: HostRuntime) -> Result<(), Fail> {
 
 #[test]
 fn what_lines_say(rt: HostRuntime) -> Result<(), Fail> {
-    let said: [(&[u8], Heard); 6] = [
+    let said: [(&[u8], Heard); 7] = [
         (
             b"delay event 1 60",
             Heard::Line(Line::Say(Message::DelayEvent(EventId(1), 60))),
@@ -80,6 +87,7 @@ fn what_lines_say(rt: HostRuntime) -> Result<(), Fail> {
             Heard::Line(Line::Say(Message::First(EventId(5), EventId(3)))),
         ),
         (b"plan 100", Heard::Line(Line::Plan(100))),
+        (b"solve 100", Heard::Line(Line::Solve(100))),
         (b"   ", Heard::Blank),
         (b" # delay event 1 60", Heard::Blank),
     ];
@@ -121,6 +129,7 @@ const NO_MESSAGES: &[&[u8]] = &[
     b"time 3",
     b"cost",
     b"plan 1",
+    b"solve 1",
     b"# note",
 ];
 

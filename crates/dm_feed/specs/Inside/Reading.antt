@@ -13,7 +13,7 @@ use Rattle.dm_rows.specs.declared.messages.Decision.TheVariants as decision
 use Rattle.dm_rows.specs.declared.messages.Message.{Message}
 use Rattle.dm_rows.specs.declared.messages.Message.TheVariants as message
 use Rattle.dm_feed.specs.declared.vocabulary.Word.{Word}
-use Rattle.dm_feed.specs.declared.vocabulary.Word.TheVariants.{Delay, Event, Activity, Pass, Recall, Keep, Drop, First, Now, Time, Cost, Read, Plan, Adopt}
+use Rattle.dm_feed.specs.declared.vocabulary.Word.TheVariants.{Delay, Event, Activity, Pass, Recall, Keep, Drop, First, Now, Time, Cost, Read, Plan, Solve, Adopt}
 use Rattle.dm_feed.specs.declared.grammar.Line.{Line}
 use Rattle.dm_feed.specs.declared.grammar.Line.TheVariants as line
 use Rattle.dm_feed.specs.declared.grammar.Heard.{Heard}
@@ -23,7 +23,7 @@ use Rattle.dm_feed.specs.Parts.{largest_id, largest_value}
 
 -- the words that lines are made of
 abbrev pub every_word : List Word
-every_word = Delay ∷ Event ∷ Activity ∷ Pass ∷ Recall ∷ Keep ∷ Drop ∷ First ∷ Now ∷ Time ∷ Cost ∷ Read ∷ Plan ∷ Adopt ∷ []
+every_word = Delay ∷ Event ∷ Activity ∷ Pass ∷ Recall ∷ Keep ∷ Drop ∷ First ∷ Now ∷ Time ∷ Cost ∷ Read ∷ Plan ∷ Solve ∷ Adopt ∷ []
 
 -- the word that is spelled so
 abbrev pub word_named : List ℕ → Option Word
@@ -97,6 +97,7 @@ line_behind Time texts = option_map (λ n. line.Time (event n)) (only id_in text
 line_behind Cost texts = alone line.CostNow texts
 line_behind Read texts = alone line.Read texts
 line_behind Plan texts = option_map (λ n. line.Plan n) (only value_in texts)
+line_behind Solve texts = option_map (λ n. line.Solve n) (only value_in texts)
 line_behind Adopt texts = alone line.Adopt texts
 
 -- the line that begins with what the text names
@@ -125,6 +126,7 @@ message_of (line.Say m) = Some m
 message_of (line.Time e) = None
 message_of line.CostNow = None
 message_of (line.Plan b) = None
+message_of (line.Solve b) = None
 message_of line.Adopt = None
 message_of line.Read = None
 
