@@ -15,7 +15,7 @@ use Rattle.dm_feed.specs.DueItems.{DueItem}
 use Rattle.dm_cert.specs.declared.replies.LogItem.{LogItem}
 use Rattle.dm_cert.specs.declared.replies.LogItem.TheVariants.{Malformed, Answered}
 use Rattle.dm_cert.specs.declared.replies.Reply.{Reply}
-use Rattle.dm_cert.specs.declared.replies.Reply.TheVariants.{Ok, Refused, Time, Cost, Read, Planned, Old, NoPlan, Plans, Range}
+use Rattle.dm_cert.specs.declared.replies.Reply.TheVariants.{Ok, Refused, Time, Cost, Read, Planned, Solved, Old, NoPlan, Plans, Range}
 use Rattle.dm_cert.specs.Answers.{Setting}
 use Rattle.dm_cert.specs.Logs.{entered, kind_of_reply, line_of, due_of, IsTrueLog}
 use Rattle.dm_cert.specs.CoreRun.{line_due, LinesRise, AnswerFirst}
@@ -38,6 +38,7 @@ ok_of (Time m x) n e = absurd (cc)
 ok_of (Cost m c) n e = absurd (cc)
 ok_of (Read m) n e = absurd (cc)
 ok_of (Planned p) n e = absurd (cc)
+ok_of (Solved p) n e = absurd (cc)
 ok_of (Old m) n e = absurd (cc)
 ok_of NoPlan n e = absurd (cc)
 ok_of Plans n e = absurd (cc)

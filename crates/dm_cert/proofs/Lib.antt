@@ -2,6 +2,7 @@ pub mod DecisionsRead
 pub mod DueLines
 pub mod Grown
 pub mod HeadingsRead
+pub mod IdsRead
 pub mod Holding
 pub mod Leaves
 pub mod LeavesFill
@@ -9,12 +10,18 @@ pub mod LineFeeds
 pub mod Lined
 pub mod ListsOfLogs
 pub mod NodesRead
+pub mod SolvedLinesRead
 pub mod Numbers
 pub mod OneDispatcher
 pub mod Options
 pub mod PathsRead
 pub mod Staged
+pub mod PartsStaged
 pub mod SpelledPlans
+pub mod SpelledSolved
+pub mod SolvedTold
+pub mod SpelledTrue
+pub mod SolvedPrinted
 pub mod Stepping
 pub mod TakingBack
 pub mod ToldTexts

@@ -61,10 +61,10 @@ path_no_feed (d ∷ path) fits =
 pub choice_no_feed : (d : Decision) → FitsDecision d → NoFeed (codes "choice" ++ (spelling_of_decision d ++ []))
 choice_no_feed d fits = no_feed_append (codes "choice") (spelling_of_decision d ++ []) refl (no_feed_append (spelling_of_decision d) [] (decision_no_feed d fits) refl)
 
-number_no_feed : (n : ℕ) (rest : List ℕ) → n ≤ largest_cost → NoFeed rest → NoFeed (decimal n ++ rest)
+pub number_no_feed : (n : ℕ) (rest : List ℕ) → n ≤ largest_cost → NoFeed rest → NoFeed (decimal n ++ rest)
 number_no_feed n rest fits none = no_feed_append (decimal n) rest (no_feed_decimal n (omega arith)) none
 
-mark_no_feed : (m : Mark) → NoFeed (mark_text m)
+pub mark_no_feed : (m : Mark) → NoFeed (mark_text m)
 mark_no_feed mark.Optimal = refl
 mark_no_feed mark.Open = refl
 

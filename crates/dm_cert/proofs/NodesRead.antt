@@ -121,14 +121,14 @@ node_spelled (Bound c) is = sym (simp (append_assoc, append-nil))
 node_spelled (Open c) is = sym (simp (append_assoc, append-nil))
 node_spelled Hole is = absurd is
 
-no_change_in_pair : (rest : List ℕ) → change_in (codes "inner pair " ++ rest) ≡ None
+pub no_change_in_pair : (rest : List ℕ) → change_in (codes "inner pair " ++ rest) ≡ None
 unfolding behind
 no_change_in_pair rest = refl
 
-change_back : (a : ActId) → a.0 ≤ largest_id → change_in (codes "inner change " ++ (decimal a.0 ++ [])) ≡ Some (Inner (Change a), [])
+pub change_back : (a : ActId) → a.0 ≤ largest_id → change_in (codes "inner change " ++ (decimal a.0 ++ [])) ≡ Some (Inner (Change a), [])
 change_back a fits = rw (number_behind_back largest_id a.0 (codes "inner change ") [] fits (omega arith) refl) refl
 
-pair_back : (i j : EventId) → i.0 ≤ largest_id → j.0 ≤ largest_id → i.0 < j.0 →
+pub pair_back : (i j : EventId) → i.0 ≤ largest_id → j.0 ≤ largest_id → i.0 < j.0 →
     pair_in (codes "inner pair " ++ (decimal i.0 ++ (codes " " ++ (decimal j.0 ++ [])))) ≡ Some (Inner (Pair i j), [])
 pair_back i j p q lt =
     rw (
@@ -151,7 +151,7 @@ pub record HasNode (line : List ℕ) (n : Node) (rest : List ℕ) : Type 0 where
   pub is_node : IsSpelledNode n
   pub fits : FitsNode n
 
-node_is : (line : List ℕ) (n : Node) → node_in_front line ≡ Some (n, []) → HasNode line n []
+pub node_is : (line : List ℕ) (n : Node) → node_in_front line ≡ Some (n, []) → HasNode line n []
 node_is line n e =
     elim (or_some (change_in line) (or_else (pair_in line) (end_in line)) (n, []) e) [
       | inl change ↦ at_change (map_some (λ p. (Inner (Change (act p.0)), p.1)) (number_behind largest_id (codes "inner change ") line) (n, []) change)

@@ -49,7 +49,7 @@ pub record HasLine {V : Type 0} (spells : V → List ℕ → Type 0) (text : V �
   pub one_line : HasNoLineFeed line
   pub spelled : spells v line
 
-abbrev next_place : Place → List ℕ → Place
+abbrev pub next_place : Place → List ℕ → Place
 next_place place rest = record { left = rest; line = place.line + 1 }
 
 -- where the text of a value stands, the line tells the value
@@ -66,11 +66,11 @@ line_stands spells text v place rest has left = record {
 }
 
 pub record TimesStand {V : Type 0} (spells : V → List ℕ → Type 0) (n : ℕ) (held vs : List V) (place : Place) (rest : List ℕ) : Type 0 where
-  next : Place
-  left : next.left ≡ rest
-  told : Times {F = CertFault} n (λ before. Line cut_line misshapen_line spells) held place (Ok (held ++ vs, next))
+  pub next : Place
+  pub left : next.left ≡ rest
+  pub told : Times {F = CertFault} n (λ before. Line cut_line misshapen_line spells) held place (Ok (held ++ vs, next))
 
-times_stand : {V : Type 0} (spells : V → List ℕ → Type 0) (text : V → List ℕ) (held vs : List V) (place : Place) (rest : List ℕ) → All (HasLine spells text) vs →
+pub times_stand : {V : Type 0} (spells : V → List ℕ → Type 0) (text : V → List ℕ) (held vs : List V) (place : Place) (rest : List ℕ) → All (HasLine spells text) vs →
     place.left ≡ flat_map text vs ++ rest → TimesStand spells (length vs) held vs place rest
 times_stand {V} spells text held [] place rest has left = record { next = place; left = left; told = (append-nil held, refl) }
 times_stand {V} spells text held (v ∷ vs) place rest has left =
@@ -190,7 +190,7 @@ pub record TreeStands (b : Bool) (nodes : List Node) (place : Place) (rest : Lis
       (Then {W = List Node} (TellsNodes (cond b (length (leaves_in nodes)) (length nodes))) (λ read. Finds (ShowsNodes read) no_tree) place (Ok (nodes, next)))
   few : cond b (length (leaves_in nodes)) (length nodes) ≤ length (cond b (flat_map leaf_text (leaves_in nodes)) (flat_map node_text nodes))
 
-lines_long : {V : Type 0} (spells : V → List ℕ → Type 0) (text : V → List ℕ) (vs : List V) → All (HasLine spells text) vs → length vs ≤ length (flat_map text vs)
+pub lines_long : {V : Type 0} (spells : V → List ℕ → Type 0) (text : V → List ℕ) (vs : List V) → All (HasLine spells text) vs → length vs ≤ length (flat_map text vs)
 lines_long spells text [] has = omega arith
 lines_long spells text (v ∷ vs) has =
     let here = All-head (HasLine spells text) v vs has in
@@ -235,7 +235,7 @@ pub record PlanStands (version entry : ℕ) (plan : Plan) (place : Place) (rest 
   pub left : next.left ≡ rest
   pub told : TellsPlan version entry place (Ok (plan, next))
 
-all_choices : (choices : List Decision) → All FitsDecision choices → All (HasLine IsChoiceLine choice_text) choices
+pub all_choices : (choices : List Decision) → All FitsDecision choices → All (HasLine IsChoiceLine choice_text) choices
 all_choices [] fits = All-nil (HasLine IsChoiceLine choice_text)
 all_choices (d ∷ ds) fits =
     All-cons (HasLine IsChoiceLine choice_text) d ds (choice_line d (All-head FitsDecision d ds fits)) (all_choices ds (All-tail FitsDecision d ds fits))
@@ -301,7 +301,7 @@ few_lines version plan bytes rest fits short left =
 
 -- ---- one plan alone is told
 
-reads_one : {V : Type 0} (spells : V → List ℕ → Type 0) (read : List ℕ → Option V) → ((line : List ℕ) → Reads spells line (read line)) → SpellOne spells
+pub reads_one : {V : Type 0} (spells : V → List ℕ → Type 0) (read : List ℕ → Option V) → ((line : List ℕ) → Reads spells line (read line)) → SpellOne spells
 reads_one spells read reads = λ line v w p q. let e : Some v ≡ Some w = sym ((reads line).back v p) ∙ (reads line).back w q in cc
 
 path_one : (xs ys : List Decision) → All FitsDecision xs → All FitsDecision ys → flat_map spelling_of_decision xs ≡ flat_map spelling_of_decision ys → xs ≡ ys

@@ -22,18 +22,20 @@ use Rattle.dm_rows.specs.Resolve.{after}
 use Rattle.dm_rows.specs.Refuse.{IsNow, RefusesDecision, RefusesAtOnce, PassesAtOnce, RefusesNothing, Refuses}
 use Rattle.dm_rows.specs.History.{IsLegal}
 use Rattle.dm_feed.specs.declared.grammar.Line.{Line}
-use Rattle.dm_feed.specs.declared.grammar.Line.TheVariants.{Say, Time as AskTime, CostNow as AskCost, Plan as AskPlan, Adopt as AskAdopt, Read as AskRead}
+use Rattle.dm_feed.specs.declared.grammar.Line.TheVariants.{Say, Time as AskTime, CostNow as AskCost, Plan as AskPlan, Solve as AskSolve, Adopt as AskAdopt, Read as AskRead}
 use Rattle.dm_feed.specs.DueItems.{DueItem}
 use Rattle.dm_tree.specs.declared.plans.Plan.{Plan}
-use Rattle.dm_tree.specs.Plans.{whole_task, IsTruePlan}
+use Rattle.dm_tree.specs.declared.adopting.Chosen.{Chosen}
+use Rattle.dm_tree.specs.Plans.{MayBeAdopted}
+use Rattle.dm_parts.specs.declared.parts.PlanByParts.{PlanByParts}
 use Rattle.dm_cert.specs.declared.replies.Reply.{Reply}
-use Rattle.dm_cert.specs.declared.replies.Reply.TheVariants.{Ok, Refused, Time, Cost, Read, Planned, Old, NoPlan, Plans, Range}
+use Rattle.dm_cert.specs.declared.replies.Reply.TheVariants.{Ok, Refused, Time, Cost, Read, Planned, Solved, Old, NoPlan, Plans, Range}
 use Rattle.dm_cert.specs.declared.replies.LogItem.{LogItem}
 use Rattle.dm_cert.specs.declared.replies.LogItem.TheVariants.{Malformed, Answered}
 use Rattle.dm_cert.specs.Answers.{Setting, rows_after, IsEntry, plan_after, plan_after_reply, latest_plan, IsAdopted, IsTrueReply, IsTrueAnswer}
 use Rattle.dm_cert.specs.Logs.{Kind, free, told, entered, kind_of, line_of, due_of, Follows, names, AreTrueAnswers, IsTrueLog}
 use Rattle.dm_cert.specs.CoreRun.{LinesRise, AnswerFirst, IsPresent, IsToEnter, IsItemToEnter, EntersNext, AnswersNow, CoreState, CoreStep, CoreRun, nothing_yet, IsReached}
-use Rattle.dm_tree.proofs.Admitted.{true_plans_are_admitted}
+use Rattle.dm_tree.proofs.Admitted.{free_choices_are_admitted}
 use Rattle.dm_cert.proofs.Numbers.{last_number, one_name, count_push, names_itself, names_no_other, unnamed_above}
 use Rattle.dm_cert.proofs.TrueLogs.{answers_grow, numbers_within, log_grows, log_push}
 use Rattle.dm_cert.proofs.ListsOfLogs.{get_set_same, get_set_other, sum_set, HasPart, has_part, total_names, empty_at}
@@ -124,26 +126,35 @@ module _ (net : Net) (rows : RowsValue) (n : ℕ) (m : Message) (nothing : Refus
 
 -- ---- the latest plan is a true one
 
--- for some budget the plan is a true plan of the rows at its entry
-record IsGood (s : Setting) (h : List Entry) (plan : Plan) : Type 0 where
-  budget : ℕ
-  is_true : IsTruePlan (whole_task s.net (rows_after s h plan.entry) s.penalty budget) plan
-
-abbrev IsGoodOrNone : Setting → List Entry → Option Plan → Type 0
+-- the latest plan, where there is one, may be adopted for the rows that it is for
+abbrev IsGoodOrNone : Setting → List Entry → Option Chosen → Type 0
 IsGoodOrNone s h None = Unit {0}
-IsGoodOrNone s h (Some plan) = IsGood s h plan
+IsGoodOrNone s h (Some plan) = MayBeAdopted s.net (rows_after s h plan.entry) plan.choices
 
-planned_is_good : (s : Setting) (h : List Entry) (feed : ℕ) (before : List LogItem) (line : ℕ) (plan : Plan) (said : Line) → IsTrueReply s h feed before line said (Planned plan) → IsGood s h plan
-planned_is_good s h feed before line plan (AskPlan budget) t = record { budget = budget; is_true = t.is_true }
+planned_is_good : (s : Setting) (h : List Entry) (feed : ℕ) (before : List LogItem) (line : ℕ) (plan : Plan) (said : Line) → IsTrueReply s h feed before line said (Planned plan)
+    → MayBeAdopted s.net (rows_after s h plan.entry) plan.choices
+planned_is_good s h feed before line plan (AskPlan budget) t = record { free = t.is_true.choices; no_cycle = t.is_true.cost.no_cycle }
+planned_is_good s h feed before line plan (AskSolve budget) t = absurd t
 planned_is_good s h feed before line plan (Say m) t = absurd t
 planned_is_good s h feed before line plan (AskTime event) t = absurd t
 planned_is_good s h feed before line plan AskCost t = absurd t
 planned_is_good s h feed before line plan AskAdopt t = absurd t
 planned_is_good s h feed before line plan AskRead t = absurd t
 
-good_after_reply : (s : Setting) (h : List Entry) (feed : ℕ) (before : List LogItem) (line : ℕ) (said : Line) (latest : Option Plan) (reply : Reply) → IsTrueReply s h feed before line said reply
+solved_is_good : (s : Setting) (h : List Entry) (feed : ℕ) (before : List LogItem) (line : ℕ) (plan : PlanByParts) (said : Line) → IsTrueReply s h feed before line said (Solved plan)
+    → MayBeAdopted s.net (rows_after s h plan.entry) plan.choices
+solved_is_good s h feed before line plan (AskSolve budget) t = record { free = t.is_true.choices; no_cycle = t.is_true.cost.no_cycle }
+solved_is_good s h feed before line plan (AskPlan budget) t = absurd t
+solved_is_good s h feed before line plan (Say m) t = absurd t
+solved_is_good s h feed before line plan (AskTime event) t = absurd t
+solved_is_good s h feed before line plan AskCost t = absurd t
+solved_is_good s h feed before line plan AskAdopt t = absurd t
+solved_is_good s h feed before line plan AskRead t = absurd t
+
+good_after_reply : (s : Setting) (h : List Entry) (feed : ℕ) (before : List LogItem) (line : ℕ) (said : Line) (latest : Option Chosen) (reply : Reply) → IsTrueReply s h feed before line said reply
     → IsGoodOrNone s h latest → IsGoodOrNone s h (plan_after_reply latest reply)
 good_after_reply s h feed before line said latest (Planned plan) t good = planned_is_good s h feed before line plan said t
+good_after_reply s h feed before line said latest (Solved plan) t good = solved_is_good s h feed before line plan said t
 good_after_reply s h feed before line said latest (Ok n) t good = good
 good_after_reply s h feed before line said latest (Refused at) t good = good
 good_after_reply s h feed before line said latest (Time n x) t good = good
@@ -154,11 +165,11 @@ good_after_reply s h feed before line said latest NoPlan t good = good
 good_after_reply s h feed before line said latest Plans t good = good
 good_after_reply s h feed before line said latest (Range v) t good = good
 
-good_after : (s : Setting) (h : List Entry) (feed : ℕ) (before : List LogItem) (latest : Option Plan) (x : LogItem) → IsTrueAnswer s h feed before x → IsGoodOrNone s h latest → IsGoodOrNone s h (plan_after latest x)
+good_after : (s : Setting) (h : List Entry) (feed : ℕ) (before : List LogItem) (latest : Option Chosen) (x : LogItem) → IsTrueAnswer s h feed before x → IsGoodOrNone s h latest → IsGoodOrNone s h (plan_after latest x)
 good_after s h feed before latest (Malformed line) t good = good
 good_after s h feed before latest (Answered line said reply) t good = good_after_reply s h feed before line said latest reply t good
 
-goods : (s : Setting) (h : List Entry) (feed : ℕ) (before : List LogItem) (latest : Option Plan) (items : List LogItem) → AreTrueAnswers s h feed before items → IsGoodOrNone s h latest
+goods : (s : Setting) (h : List Entry) (feed : ℕ) (before : List LogItem) (latest : Option Chosen) (items : List LogItem) → AreTrueAnswers s h feed before items → IsGoodOrNone s h latest
     → IsGoodOrNone s h (fold plan_after latest items)
 goods s h feed before latest [] t good = good
 goods s h feed before latest (x ∷ items) t good =
@@ -172,16 +183,15 @@ pub record IsAdmitted (s : Setting) (h : List Entry) (m : Message) : Type 0 wher
   pub passes : (r : Refusal) → Refuses s.net (rows_after s h (length h)) (length h) m r → ⊥
 
 module _ (s : Setting) (network : IsNetwork s.net) (h : List Entry) (legal : IsLegal s.net s.start h) (feed : ℕ) (before : List LogItem) (answers : AreTrueAnswers s h feed [] before) where
-  adopted_is_admitted : (m : Message) (latest : Option Plan) → IsGoodOrNone s h latest → IsSomeAnd latest (λ plan. IsPresent h m plan) → IsAdmitted s h m
+  adopted_is_admitted : (m : Message) (latest : Option Chosen) → IsGoodOrNone s h latest → IsSomeAnd latest (λ plan. IsPresent h m plan) → IsAdmitted s h m
   adopted_is_admitted m None good to_enter = absurd to_enter
   adopted_is_admitted m (Some plan) good to_enter =
       let rows : RowsValue = rows_after s h (length h) in
-      let plan_true : IsTruePlan (whole_task s.net rows s.penalty good.budget) plan =
-      subst (λ (n : ℕ). IsTruePlan (whole_task s.net (rows_after s h n) s.penalty good.budget) plan) to_enter.present good.is_true in
+      let here : MayBeAdopted s.net (rows_after s h (length h)) plan.choices = subst (λ (n : ℕ). MayBeAdopted s.net (rows_after s h n) plan.choices) to_enter.present good in
       record {
         room = to_enter.room;
         passes = subst (λ (message : Message). (r : Refusal) → Refuses s.net rows (length h) message r → ⊥) to_enter.choices
-            (true_plans_are_admitted s.net rows s.penalty good.budget (length h) plan network to_enter.room plan_true);
+            (free_choices_are_admitted s.net rows network plan.choices here.free (length h) to_enter.room here.no_cycle);
       }
 
   said_is_admitted : (said : Line) (m : Message) → IsToEnter s h before said m → IsAdmitted s h m
@@ -191,6 +201,7 @@ module _ (s : Setting) (network : IsNetwork s.net) (h : List Entry) (legal : IsL
   said_is_admitted (AskTime event) m t = absurd t
   said_is_admitted AskCost m t = absurd t
   said_is_admitted (AskPlan budget) m t = absurd t
+  said_is_admitted (AskSolve budget) m t = absurd t
   said_is_admitted AskRead m t = absurd t
 
   pub item_is_admitted : (x : LogItem) (m : Message) → IsItemToEnter s h before x m → IsAdmitted s h m
@@ -210,7 +221,7 @@ module _ (s : Setting) (h : List Entry) (feed : ℕ) (before : List LogItem) (li
       subst (λ (message : Message). IsTrueReply s (h ++ entry_of message ∷ []) feed before line (Say own) (Ok n)) t.0 (last_is_entry h (entry_of own) n is)
   entered_said AskAdopt m t = adopted (latest_plan before) t
     where
-      adopted : (latest : Option Plan) → IsSomeAnd latest (λ plan. IsPresent h m plan)
+      adopted : (latest : Option Chosen) → IsSomeAnd latest (λ plan. IsPresent h m plan)
           → IsSomeAnd latest (λ plan. IsAdopted (h ++ entry_of m ∷ []) feed line n plan)
       adopted None t = absurd t
       adopted (Some plan) t =
@@ -222,6 +233,7 @@ module _ (s : Setting) (h : List Entry) (feed : ℕ) (before : List LogItem) (li
   entered_said (AskTime event) m t = absurd t
   entered_said AskCost m t = absurd t
   entered_said (AskPlan budget) m t = absurd t
+  entered_said (AskSolve budget) m t = absurd t
   entered_said AskRead m t = absurd t
 
 pub entered_answer : (s : Setting) (h : List Entry) (feed : ℕ) (before : List LogItem) (x : LogItem) (n : ℕ) (m : Message) → n ≡ length h + 1 → kind_of x ≡ entered n → IsItemToEnter s h before x m

@@ -13,9 +13,9 @@ use Rattle.dm_rows.specs.declared.messages.Refusal.{Refusal}
 use Rattle.dm_rows.specs.Refuse.{Refuses}
 use Rattle.dm_rows.specs.History.{IsLegal}
 use Rattle.dm_feed.specs.declared.grammar.Line.{Line}
-use Rattle.dm_feed.specs.declared.grammar.Line.TheVariants.{Say, Time as AskTime, CostNow as AskCost, Plan as AskPlan, Adopt as AskAdopt, Read as AskRead}
+use Rattle.dm_feed.specs.declared.grammar.Line.TheVariants.{Say, Time as AskTime, CostNow as AskCost, Plan as AskPlan, Solve as AskSolve, Adopt as AskAdopt, Read as AskRead}
 use Rattle.dm_feed.specs.DueItems.{DueItem}
-use Rattle.dm_tree.specs.declared.plans.Plan.{Plan}
+use Rattle.dm_tree.specs.declared.adopting.Chosen.{Chosen}
 use Rattle.dm_cert.specs.declared.replies.Reply.{Reply}
 use Rattle.dm_cert.specs.declared.replies.Reply.TheVariants.{Ok}
 use Rattle.dm_cert.specs.declared.replies.LogItem.{LogItem}
@@ -234,7 +234,7 @@ module _ (s : Setting) (g : List Entry) (e : Entry) (legal : IsLegal s.net s.sta
       }
   entering_said AskAdopt t = adopting (latest_plan before) refl t
     where
-      adopting : (latest : Option Plan) → latest_plan before ≡ latest → IsSomeAnd latest (λ plan. IsAdopted (g ++ e ∷ []) feed line n plan)
+      adopting : (latest : Option Chosen) → latest_plan before ≡ latest → IsSomeAnd latest (λ plan. IsAdopted (g ++ e ∷ []) feed line n plan)
           → EntersNext s g (g ++ e ∷ []) feed before (Answered line AskAdopt (Ok n)) n
       adopting None is_latest t = absurd t
       adopting (Some plan) is_latest t =
@@ -244,13 +244,14 @@ module _ (s : Setting) (g : List Entry) (e : Entry) (legal : IsLegal s.net s.sta
           let present : plan.entry ≡ length g = omega arith in
           record {
             message = AdoptAll plan.choices;
-            to_enter = subst (λ (o : Option Plan). IsSomeAnd o (λ p. IsPresent g (AdoptAll plan.choices) p)) (sym is_latest) (record { present = present; room = room; choices = refl });
+            to_enter = subst (λ (o : Option Chosen). IsSomeAnd o (λ p. IsPresent g (AdoptAll plan.choices) p)) (sym is_latest) (record { present = present; room = room; choices = refl });
             number = is;
             grown = ap (λ (x : Entry). g ++ x ∷ []) (sym same);
           }
   entering_said (AskTime event) t = absurd t
   entering_said AskCost t = absurd t
   entering_said (AskPlan budget) t = absurd t
+  entering_said (AskSolve budget) t = absurd t
   entering_said AskRead t = absurd t
 
 pub entering_answer : (s : Setting) (g : List Entry) (e : Entry) → IsLegal s.net s.start (g ++ e ∷ []) → (feed : ℕ) (before : List LogItem) (x : LogItem) (n : ℕ) → n ≡ length g + 1

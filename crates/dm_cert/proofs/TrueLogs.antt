@@ -10,10 +10,11 @@ use Rattle.dm_rows.specs.Refuse.{Refuses}
 use Rattle.dm_rows.specs.Timetable.{IsLeast}
 use Rattle.dm_rows.specs.Cost.{Costs}
 use Rattle.dm_feed.specs.declared.grammar.Line.{Line}
-use Rattle.dm_feed.specs.declared.grammar.Line.TheVariants.{Say, Time as AskTime, CostNow as AskCost, Plan as AskPlan, Adopt as AskAdopt, Read as AskRead}
+use Rattle.dm_feed.specs.declared.grammar.Line.TheVariants.{Say, Time as AskTime, CostNow as AskCost, Plan as AskPlan, Solve as AskSolve, Adopt as AskAdopt, Read as AskRead}
 use Rattle.dm_tree.specs.Plans.{whole_task, IsTruePlan}
+use Rattle.dm_parts.specs.Parts.{IsTruePlanByParts}
 use Rattle.dm_cert.specs.declared.replies.Reply.{Reply}
-use Rattle.dm_cert.specs.declared.replies.Reply.TheVariants.{Ok, Refused, Time, Cost, Read, Planned, Old, NoPlan, Plans, Range}
+use Rattle.dm_cert.specs.declared.replies.Reply.TheVariants.{Ok, Refused, Time, Cost, Read, Planned, Solved, Old, NoPlan, Plans, Range}
 use Rattle.dm_cert.specs.declared.replies.LogItem.{LogItem}
 use Rattle.dm_cert.specs.declared.replies.LogItem.TheVariants.{Malformed, Answered}
 use Rattle.dm_cert.specs.Answers.{Setting, rows_after, IsEntry, latest_plan, IsAdopted, IsOld, HasNoRoom, IsTrueReply, IsTrueAnswer}
@@ -104,6 +105,16 @@ module _ (s : Setting) (h k : List Entry) (n : ℕ) (a : AreAlike n h k) (feed :
         fewer = t.fewer;
         is_true = subst (λ (r : RowsValue). IsTruePlan (whole_task s.net r s.penalty budget) plan) (rows_alike s plan.entry h k b) t.is_true;
       }
+  reply_alike (AskSolve budget) (Range v) w t = t
+  reply_alike (AskSolve budget) Plans w t = t
+  reply_alike (AskSolve budget) (Solved plan) w t =
+      let b = alike_below plan.entry n h k a w in
+      record {
+        within = b.in_other;
+        in_range = t.in_range;
+        fewer = t.fewer;
+        is_true = subst (λ (r : RowsValue). IsTruePlanByParts (whole_task s.net r s.penalty budget) plan) (rows_alike s plan.entry h k b) t.is_true;
+      }
   reply_alike AskAdopt NoPlan w t = t
   reply_alike AskAdopt (Ok e) w t =
       some_and (latest_plan before) (λ plan. IsAdopted h feed line e plan) (λ plan. IsAdopted k feed line e plan) (λ plan is. record { next = is.next; entry = entry_alike n e h k _ a w is.entry }) t
@@ -137,6 +148,9 @@ module _ (s : Setting) (h : List Entry) (feed : ℕ) (before : List LogItem) (li
   reply_within (AskPlan budget) (Range v) t = tt
   reply_within (AskPlan budget) Plans t = tt
   reply_within (AskPlan budget) (Planned plan) t = t.within
+  reply_within (AskSolve budget) (Range v) t = tt
+  reply_within (AskSolve budget) Plans t = tt
+  reply_within (AskSolve budget) (Solved plan) t = t.within
   reply_within AskAdopt NoPlan t = tt
   reply_within AskAdopt (Ok e) t = some_within (latest_plan before) (λ plan. IsAdopted h feed line e plan) e (length h) (λ plan is. entry_within h e _ is.entry) t
   reply_within AskAdopt (Old e) t = some_within (latest_plan before) (λ plan. IsOld h e plan) e (length h) (λ plan is. is.within) t

@@ -15,11 +15,16 @@ use Rattle.dm_rows.specs.Cost.{Costs}
 use Rattle.dm_rows.specs.Refuse.{Refuses}
 use Rattle.dm_rows.specs.History.{rows_at}
 use Rattle.dm_feed.specs.declared.grammar.Line.{Line}
-use Rattle.dm_feed.specs.declared.grammar.Line.TheVariants.{Say, Time as AskTime, CostNow as AskCost, Plan as AskPlan, Adopt as AskAdopt, Read as AskRead}
+use Rattle.dm_feed.specs.declared.grammar.Line.TheVariants.{Say, Time as AskTime, CostNow as AskCost, Plan as AskPlan, Solve as AskSolve, Adopt as AskAdopt, Read as AskRead}
 use Rattle.dm_tree.specs.declared.plans.Plan.{Plan}
+use Rattle.dm_tree.specs.declared.adopting.Chosen.{Chosen}
 use Rattle.dm_tree.specs.Plans.{whole_task, IsTruePlan}
+use Rattle.dm_parts.specs.declared.parts.PlanByParts.{PlanByParts}
+use Rattle.dm_parts.specs.Parts.{IsTruePlanByParts}
+use Rattle.dm_parts.specs.declared.kinds.AnyPlan.{AnyPlan}
+use Rattle.dm_parts.specs.declared.kinds.AnyPlan.TheVariants.{Whole, ByParts}
 use Rattle.dm_cert.specs.declared.replies.Reply.{Reply}
-use Rattle.dm_cert.specs.declared.replies.Reply.TheVariants.{Ok, Refused, Time, Cost, Read, Planned, Old, NoPlan, Plans, Range}
+use Rattle.dm_cert.specs.declared.replies.Reply.TheVariants.{Ok, Refused, Time, Cost, Read, Planned, Solved, Old, NoPlan, Plans, Range}
 use Rattle.dm_cert.specs.declared.replies.LogItem.{LogItem}
 use Rattle.dm_cert.specs.declared.replies.LogItem.TheVariants.{Malformed, Answered}
 
@@ -44,31 +49,38 @@ rows_after s history n = rows_at s.net s.start history n
 abbrev pub IsEntry : List Entry → ℕ → Entry → Type 0
 IsEntry history n entry = (0 < n) × (slice_get history (n - 1) ≡ Some entry)
 
--- ---- the plans that a feed has had
+-- ---- the plans that a feed has had, of either kind
 
 abbrev pub is_plan_reply : Reply → Bool
 is_plan_reply (Planned plan) = true
+is_plan_reply (Solved plan) = true
 is_plan_reply _ = false
 
--- the item is a plan
+-- the item is a plan, or a plan by parts
 abbrev pub is_plan : LogItem → Bool
 is_plan (Malformed line) = false
 is_plan (Answered line said reply) = is_plan_reply reply
 
+-- the reply that gives a plan
+abbrev pub reply_with : AnyPlan → Reply
+reply_with (Whole plan) = Planned plan
+reply_with (ByParts plan) = Solved plan
+
 -- the latest plan, where this one was the latest before the reply, before the item
-abbrev pub plan_after_reply : Option Plan → Reply → Option Plan
-plan_after_reply latest (Planned plan) = Some plan
+abbrev pub plan_after_reply : Option Chosen → Reply → Option Chosen
+plan_after_reply latest (Planned plan) = Some (record { entry = plan.entry; choices = plan.choices })
+plan_after_reply latest (Solved plan) = Some (record { entry = plan.entry; choices = plan.choices })
 plan_after_reply latest _ = latest
 
-abbrev pub plan_after : Option Plan → LogItem → Option Plan
+abbrev pub plan_after : Option Chosen → LogItem → Option Chosen
 plan_after latest (Malformed line) = latest
 plan_after latest (Answered line said reply) = plan_after_reply latest reply
 
--- the last plan among the items, or None where there is none
-abbrev pub latest_plan : List LogItem → Option Plan
+-- the last plan of either kind among the items, or None where there is none
+abbrev pub latest_plan : List LogItem → Option Chosen
 latest_plan before = fold plan_after None before
 
--- a plan may be asked to have so many nodes
+-- a plan of either kind may be asked to have so many nodes
 abbrev pub IsBudget : Setting → ℕ → Type 0
 IsBudget s budget = (1 ≤ budget) × (budget ≤ plan_limit s.version)
 
@@ -110,23 +122,31 @@ pub record IsPlanFor (s : Setting) (history : List Entry) (before : List LogItem
   pub fewer : count_by is_plan before < s.plans
   pub is_true : IsTruePlan (whole_task s.net (rows_after s history plan.entry) s.penalty budget) plan
 
+-- a true plan by parts of the rows at its entry, of so many nodes at most, for a feed that has had fewer plans than it may have
+pub record IsSolvedFor (s : Setting) (history : List Entry) (before : List LogItem) (budget : ℕ) (plan : PlanByParts) :
+    Type 0 where
+  pub within : plan.entry ≤ length history
+  pub in_range : IsBudget s budget
+  pub fewer : count_by is_plan before < s.plans
+  pub is_true : IsTruePlanByParts (whole_task s.net (rows_after s history plan.entry) s.penalty budget) plan
+
 -- the feed has had all its plans
 pub record HasAllPlans (s : Setting) (before : List LogItem) (budget : ℕ) : Type 0 where
   pub in_range : IsBudget s budget
   pub all : count_by is_plan before ≡ s.plans
 
 -- the plan's choices are entered behind the entries that it is for
-pub record IsAdopted (history : List Entry) (feed line n : ℕ) (plan : Plan) : Type 0 where
+pub record IsAdopted (history : List Entry) (feed line n : ℕ) (plan : Chosen) : Type 0 where
   pub next : n ≡ plan.entry + 1
   pub entry : IsEntry history n (record { feed = feed; line = line; message = AdoptAll plan.choices })
 
 -- the history has more entries than the plan is for
-pub record IsOld (history : List Entry) (n : ℕ) (plan : Plan) : Type 0 where
+pub record IsOld (history : List Entry) (n : ℕ) (plan : Chosen) : Type 0 where
   pub within : n ≤ length history
   pub older : plan.entry < n
 
 -- the plan is for the rows of a full history
-pub record HasNoRoom (history : List Entry) (n : ℕ) (why : Refusal) (plan : Plan) : Type 0 where
+pub record HasNoRoom (history : List Entry) (n : ℕ) (why : Refusal) (plan : Chosen) : Type 0 where
   pub within : n ≤ length history
   pub full : n ≡ ENTRIES
   pub present : n ≡ plan.entry
@@ -147,6 +167,9 @@ IsTrueReply s history feed before line AskRead (Read n) = n ≤ length history
 IsTrueReply s history feed before line (AskPlan budget) (Range v) = IsOutOfRange s budget × (v ≡ budget)
 IsTrueReply s history feed before line (AskPlan budget) Plans = HasAllPlans s before budget
 IsTrueReply s history feed before line (AskPlan budget) (Planned plan) = IsPlanFor s history before budget plan
+IsTrueReply s history feed before line (AskSolve budget) (Range v) = IsOutOfRange s budget × (v ≡ budget)
+IsTrueReply s history feed before line (AskSolve budget) Plans = HasAllPlans s before budget
+IsTrueReply s history feed before line (AskSolve budget) (Solved plan) = IsSolvedFor s history before budget plan
 IsTrueReply s history feed before line AskAdopt NoPlan = latest_plan before ≡ None
 IsTrueReply s history feed before line AskAdopt (Ok n) =
     IsSomeAnd (latest_plan before) (λ plan. IsAdopted history feed line n plan)

@@ -11,7 +11,7 @@ use Rattle.dm_rows.specs.History.{IsLegal}
 use Rattle.dm_feed.specs.declared.grammar.Line.{Line}
 use Rattle.dm_feed.specs.declared.grammar.Line.TheVariants.{Say, Adopt as AskAdopt}
 use Rattle.dm_feed.specs.DueItems.{DueItem, item}
-use Rattle.dm_tree.specs.declared.plans.Plan.{Plan}
+use Rattle.dm_tree.specs.declared.adopting.Chosen.{Chosen}
 use Rattle.dm_cert.specs.declared.replies.LogItem.{LogItem}
 use Rattle.dm_cert.specs.declared.replies.LogItem.TheVariants.{Malformed, Answered}
 use Rattle.dm_cert.specs.declared.replies.FeedLog.{FeedLog}
@@ -36,7 +36,7 @@ pub record AnswerFirst (due : List DueItem) (items : List LogItem) : Type 0 wher
 -- ---- a step
 
 -- the plan is for the present rows, the history is not full, and its choices are the message
-pub record IsPresent (history : List Entry) (message : Message) (plan : Plan) : Type 0 where
+pub record IsPresent (history : List Entry) (message : Message) (plan : Chosen) : Type 0 where
   pub present : plan.entry ≡ length history
   pub room : length history < ENTRIES
   pub choices : AdoptAll plan.choices ≡ message

@@ -5,6 +5,8 @@ pub mod Logs
 pub mod CoreRun
 pub mod PlanTexts
 pub mod PlansRead
+pub mod SolvedTexts
+pub mod SolvedRead
 pub mod PlanLaws
 pub mod RunTexts
 pub mod Runs

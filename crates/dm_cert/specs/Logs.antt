@@ -5,7 +5,7 @@ use Rattle.dm_rows.specs.declared.messages.Entry.{Entry}
 use Rattle.dm_feed.specs.declared.grammar.Heard.TheVariants.{Line as Spoken, Malformed as Unheard}
 use Rattle.dm_feed.specs.DueItems.{DueItem, item, EndsWith}
 use Rattle.dm_cert.specs.declared.replies.Reply.{Reply}
-use Rattle.dm_cert.specs.declared.replies.Reply.TheVariants.{Ok, Refused, Time, Cost, Read, Planned, Old, NoPlan, Plans, Range}
+use Rattle.dm_cert.specs.declared.replies.Reply.TheVariants.{Ok, Refused, Time, Cost, Read, Planned, Solved, Old, NoPlan, Plans, Range}
 use Rattle.dm_cert.specs.declared.replies.LogItem.{LogItem}
 use Rattle.dm_cert.specs.declared.replies.LogItem.TheVariants.{Malformed, Answered}
 use Rattle.dm_cert.specs.declared.replies.FeedLog.{FeedLog}
@@ -27,6 +27,7 @@ kind_of_reply (Time n time) = told n
 kind_of_reply (Cost n cost) = told n
 kind_of_reply (Read n) = told n
 kind_of_reply (Planned plan) = told plan.entry
+kind_of_reply (Solved plan) = told plan.entry
 kind_of_reply (Old n) = told n
 kind_of_reply NoPlan = free
 kind_of_reply Plans = free

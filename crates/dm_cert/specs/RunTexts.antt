@@ -10,6 +10,8 @@ use Rattle.dm_rows.specs.declared.messages.Entry.{Entry}
 use Rattle.dm_rows.specs.declared.messages.Refusal.{Refusal}
 use Rattle.dm_rows.specs.declared.messages.Refusal.TheVariants as refusal
 use Rattle.dm_rows.specs.Timetable.{time_at}
+use Rattle.dm_feed.specs.declared.grammar.Line.{Line}
+use Rattle.dm_feed.specs.declared.grammar.Line.TheVariants as line
 use Rattle.dm_feed.specs.declared.feed.FeedStop.{FeedStop}
 use Rattle.dm_feed.specs.declared.feed.FeedStop.TheVariants.{End, Fault, Long}
 use Rattle.dm_feed.specs.Parts.{Fits, largest_id, largest_value}
@@ -21,6 +23,7 @@ use Rattle.dm_cert.specs.declared.replies.LogItem.{LogItem}
 use Rattle.dm_cert.specs.declared.replies.LogItem.TheVariants.{Malformed, Answered}
 use Rattle.dm_cert.specs.declared.replies.FeedLog.{FeedLog}
 use Rattle.dm_cert.specs.PlanTexts.{line_end, spelling_of_plan, FitsPlan, largest_cost}
+use Rattle.dm_cert.specs.SolvedTexts.{spelling_of_solved, IsSpelledSolved, FitsSolved}
 
 -- ---- log items
 
@@ -42,7 +45,7 @@ reason_text (refusal.Cycle ids) = joined (codes "cycle" ∷ flat_map spaced_id i
 reason_text (refusal.Full n) = codes "full"
 reason_text refusal.OutOfMemory = []
 
--- the answer to a line and its line end, and of a plan all its lines
+-- the answer to a line and its line end, and of a plan of either kind all its lines
 unfoldable pub reply_text : ℕ → Reply → List ℕ
 reply_text version (reply.Ok n) = joined (decimal n ∷ codes " ok" ∷ line_end ∷ [])
 reply_text version (reply.Refused at) = joined (decimal at.entry ∷ codes " refused " ∷ reason_text at.why ∷ line_end ∷ [])
@@ -50,6 +53,7 @@ reply_text version (reply.Time n x) = joined (decimal n ∷ codes " time " ∷ d
 reply_text version (reply.Cost n c) = joined (decimal n ∷ codes " cost " ∷ decimal c ∷ line_end ∷ [])
 reply_text version (reply.Read n) = joined (decimal n ∷ codes " read" ∷ line_end ∷ [])
 reply_text version (reply.Planned plan) = joined (decimal plan.entry ∷ codes " " ∷ spelling_of_plan version plan ∷ [])
+reply_text version (reply.Solved plan) = joined (decimal plan.entry ∷ codes " " ∷ spelling_of_solved plan ∷ [])
 reply_text version (reply.Old n) = joined (decimal n ∷ codes " old" ∷ line_end ∷ [])
 reply_text version reply.NoPlan = joined (codes "noplan" ∷ line_end ∷ [])
 reply_text version reply.Plans = joined (codes "plans" ∷ line_end ∷ [])
@@ -169,6 +173,7 @@ IsSpelledReply (reply.Time n x) = Unit {0}
 IsSpelledReply (reply.Cost n c) = Unit {0}
 IsSpelledReply (reply.Read n) = Unit {0}
 IsSpelledReply (reply.Planned plan) = Unit {0}
+IsSpelledReply (reply.Solved plan) = IsSpelledSolved plan
 IsSpelledReply (reply.Old n) = Unit {0}
 IsSpelledReply reply.NoPlan = Unit {0}
 IsSpelledReply reply.Plans = Unit {0}
@@ -181,6 +186,22 @@ IsSpelledItem (Answered line said answer) = IsSpelledLine said × IsSpelledReply
 
 abbrev pub IsSpelledLog : FeedLog → Type 0
 IsSpelledLog log = All IsSpelledItem log.items
+
+-- Version 1 has no words for plans by parts: neither the line that asks for one nor the answer.
+abbrev pub KnowsLine : ℕ → Line → Type 0
+KnowsLine version (line.Solve budget) = version ≡ 2
+KnowsLine version _ = Unit {0}
+
+abbrev pub KnowsReply : ℕ → Reply → Type 0
+KnowsReply version (reply.Solved plan) = version ≡ 2
+KnowsReply version _ = Unit {0}
+
+abbrev pub KnowsItem : ℕ → LogItem → Type 0
+KnowsItem version (Malformed line) = Unit {0}
+KnowsItem version (Answered line said answer) = KnowsLine version said × KnowsReply version answer
+
+abbrev pub KnowsLog : ℕ → FeedLog → Type 0
+KnowsLog version log = All (KnowsItem version) log.items
 
 -- every item has a spelling, and there is a time for each event
 pub record IsSpelledRun (run : Run) : Type 0 where
@@ -211,6 +232,7 @@ FitsReply (reply.Time n x) = (n ≤ largest_id) × (x ≤ largest_value)
 FitsReply (reply.Cost n c) = (n ≤ largest_id) × (c ≤ largest_cost)
 FitsReply (reply.Read n) = n ≤ largest_id
 FitsReply (reply.Planned plan) = (plan.entry ≤ largest_id) × FitsPlan plan
+FitsReply (reply.Solved plan) = (plan.entry ≤ largest_id) × FitsSolved plan
 FitsReply (reply.Old n) = n ≤ largest_id
 FitsReply reply.NoPlan = Unit {0}
 FitsReply reply.Plans = Unit {0}

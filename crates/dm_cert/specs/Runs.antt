@@ -13,7 +13,7 @@ use Rattle.dm_cert.specs.declared.replies.FeedLog.{FeedLog}
 use Rattle.dm_cert.specs.Answers.{Setting}
 use Rattle.dm_cert.specs.Logs.{AreTrueLogs}
 use Rattle.dm_cert.specs.PlanTexts.{IsVersion}
-use Rattle.dm_cert.specs.RunTexts.{Run, run_text, IsSpelledRun, FitsRun}
+use Rattle.dm_cert.specs.RunTexts.{Run, run_text, KnowsLog, IsSpelledRun, FitsRun}
 
 -- ---- notes of boards
 
@@ -55,12 +55,14 @@ pub record IsTrueRun (version plans : ℕ) (start : RowsValue) (run : Run) : Typ
   pub least : IsLeast run.net (rows_at_end start run) run.times
   pub cost : run.cost ≡ cost_of run.net (rows_at_end start run) run.times run.penalty
 
--- the text is the spelling of the run in this version, and the run is true from these rows, where a feed may have so many plans
+-- The text is the spelling of the run in this version, which has words for all its items, and the run is true from these rows,
+-- where a feed may have so many plans.
 pub record IsTextOf (version plans : ℕ) (start : RowsValue) (run : Run) (text : List ℕ) : Type 0 where
   pub is_version : IsVersion version
   pub is_true : IsTrueRun version plans start run
   pub fits : FitsRun run
   pub is_spelled : IsSpelledRun run
+  pub known : All (KnowsLog version) run.logs
   pub spelled : text ≡ run_text version run
 
 -- The text is the spelling, in one of the versions, of a true run of this network from these rows at this penalty, where a feed

@@ -4,10 +4,11 @@ use Rattle.dm_rows.specs.declared.messages.Entry.{Entry}
 use Rattle.dm_rows.specs.declared.messages.Message.{Message}
 use Rattle.dm_rows.specs.declared.messages.Message.TheVariants.{DelayEvent}
 use Rattle.dm_rows.specs.Examples.{event_id, connection, at_start}
-use Rattle.dm_feed.specs.declared.grammar.Line.TheVariants.{Say, Plan}
+use Rattle.dm_feed.specs.declared.grammar.Line.TheVariants.{Say, Plan, Solve}
 use Rattle.dm_feed.specs.declared.feed.FeedStop.TheVariants.{End}
 use Rattle.dm_tree.specs.Worked.{worked_plan}
-use Rattle.dm_cert.specs.declared.replies.Reply.TheVariants.{Ok, Planned}
+use Rattle.dm_parts.specs.Worked.{worked_plan_by_parts}
+use Rattle.dm_cert.specs.declared.replies.Reply.TheVariants.{Ok, Planned, Solved}
 use Rattle.dm_cert.specs.declared.replies.LogItem.{LogItem}
 use Rattle.dm_cert.specs.declared.replies.LogItem.TheVariants.{Answered}
 use Rattle.dm_cert.specs.PlanTexts.{IsVersion}
@@ -26,6 +27,10 @@ late_item = Answered 1 (Say a_minute_late) (Ok 1)
 -- a plan is asked for, and the one that drops the change is given
 abbrev pub plan_item : LogItem
 plan_item = Answered 2 (Plan 100) (Planned worked_plan)
+
+-- a plan by parts is asked for, and the one with a part for the second train is given
+abbrev pub solved_item : LogItem
+solved_item = Answered 2 (Solve 100) (Solved worked_plan_by_parts)
 
 -- the feed says nothing
 abbrev pub quiet_run : Run
@@ -86,3 +91,14 @@ PlanIsSpelled =
     item_text 2 plan_item
     ≡ codes "2 plan 100 -> 1 plan optimal cost 940000 bound 940000 choices 2 nodes 3\nchoice drop 5\nchoice first 5 3\n"
     ++ codes "inner change 5\nbound 1075000\nbound 940000\n"
+
+-- a plan by parts
+abbrev pub SolvedIsSpelled : Type 0
+SolvedIsSpelled =
+    item_text 2 solved_item
+    ≡ codes "2 solve 100 -> 1 solved optimal cost 940000 bound 940000 choices 2 parts 1 nodes 3\nchoice drop 5\nchoice first 5 3\n"
+    ++ codes "part events 1 changes 1 nodes 3 bound 40000\nevents 6\nchanges 5\ninner change 5\nleaf 175000\nleaf 40000\nrest 900000\n"
+
+-- the run with that plan is true, and has a text in version 2
+abbrev pub SolvedRunIsTrue : Type 0
+SolvedRunIsTrue = IsRunText connection at_start 10 16 (run_text 2 (late_run (late_item ∷ solved_item ∷ [])))

@@ -1,8 +1,8 @@
 //! What holds of all answers, logs and texts. A law has no code: it is proved as the contract of an empty function.
 ghost use Rattle.dm_cert.specs.CoreRun.{TrueLogsAreOneDispatchers};
 ghost use Rattle.dm_cert.specs.Laws.{LogsStayTrue, DueLinesRise, LogsAnswerFirst, LeavesAreTheTrees};
-ghost use Rattle.dm_cert.specs.PlanLaws.{PlansHaveOwnTexts};
-ghost use Rattle.dm_cert.specs.Worked.{QuietRunIsSpelled, LateRunIsSpelled, PlannedRunIsSpelled, PlannedRunIsTrue, PlanIsSpelled};
+ghost use Rattle.dm_cert.specs.PlanLaws.{PlansHaveOwnTexts, SolvedHaveOwnTexts};
+ghost use Rattle.dm_cert.specs.Worked.{QuietRunIsSpelled, LateRunIsSpelled, PlannedRunIsSpelled, PlannedRunIsTrue, PlanIsSpelled, SolvedIsSpelled, SolvedRunIsTrue};
 
 /// A log that is true of a history stays true as the history grows: an answer needs only the entries up to its number.
 pub fn logs_stay_true()
@@ -55,8 +55,24 @@ pub fn plan_is_spelled()
     ensures { PlanIsSpelled }
 {}
 
+/// And a plan by parts.
+pub fn solved_is_spelled()
+    ensures { SolvedIsSpelled }
+{}
+
+/// And the run with it is true.
+pub fn solved_run_is_true()
+    ensures { SolvedRunIsTrue }
+{}
+
 /// Different plans for one entry have different texts in a version, none is a proper front of another, and what follows a
 /// plan's text does not change how it is read.
 pub fn plans_have_own_texts()
     ensures { PlansHaveOwnTexts }
+{}
+
+/// Different plans by parts for one entry have different texts, none is a proper front of another, and what follows such a text
+/// does not change how it is read.
+pub fn solved_have_own_texts()
+    ensures { SolvedHaveOwnTexts }
 {}

@@ -1,7 +1,7 @@
 //! The answers to feeds, their logs, the journal, and the spelling of plans and runs.
 //!
-//! It stands on dm_feed for lines and on dm_tree for plans. A [`FeedLog`] holds the answers to one feed, line by line. A [`Note`]
-//! is a board that was dropped.
+//! It stands on dm_feed for lines, on dm_tree for plans, and on dm_parts for plans by parts. A [`FeedLog`] holds the answers to one
+//! feed, line by line. A [`Note`] is a board that was dropped.
 //!
 //! # What is promised
 //!
@@ -19,13 +19,18 @@
 //! call `read_plan`. [`heading_in`] reads exactly what a plan's first line says. [`read_choices`] and [`read_tree`] read the
 //! lines behind it, as many as it counts, with the same faults.
 //!
+//! [`print_solved`], `put_solved` and [`read_solved`] promise the same of plans by parts, which version 2 alone has. Whether the
+//! trees of parts are whole is not asked. [`solved_heading_in`] reads exactly what the first line of such a plan says, and
+//! [`solved_behind`] the lines behind it.
+//!
 //! The laws stand in [`laws`]. `true_logs_are_one_dispatchers`: a legal history with true logs of first due items is exactly what
 //! some schedule of one dispatcher reaches, for any number of feeds and in both versions. This law is for feeds whose due lines
 //! rise. `due_lines_rise` and `logs_answer_first`: the feeds of real bytes are such feeds, and their logs answer first due items.
 //! `logs_stay_true`: a true log stays true as the history grows. `leaves_are_the_trees`: the leaves that version 1 prints of a
 //! plan are those of its tree, each with its whole path. `plans_have_own_texts`: the text of a plan in one version determines the
-//! plan, except for its entry, whatever follows the text. Further laws: three texts of one network that were worked out by hand
-//! are the spellings of their runs, the run with a plan is true, and its plan is spelled in version 2 as worked out by hand.
+//! plan, except for its entry, whatever follows the text. `solved_have_own_texts` says so of plans by parts. Further laws: three
+//! texts of one network that were worked out by hand are the spellings of their runs, the run with a plan is true, and its plan
+//! is spelled in version 2 as worked out by hand. A plan by parts is spelled so too, and the run with it is true.
 #![tactic(auto)]
 
 mod faults;
@@ -39,6 +44,9 @@ mod plan_lines;
 mod plan_reading;
 mod plan_text;
 mod replies;
+mod solved_lines;
+mod solved_reading;
+mod solved_text;
 
 pub use faults::{CertFault, CertKind};
 pub use notes::Note;
@@ -46,3 +54,6 @@ pub use plan_lines::{Heading, heading_in};
 pub use plan_reading::{read_choices, read_plan, read_tree};
 pub use plan_text::{print_plan, put_choices, put_number, put_numbers, put_plan};
 pub use replies::{FeedLog, LogItem, Reply};
+pub use solved_lines::{PartHeading, SolvedHeading, solved_heading_in};
+pub use solved_reading::{read_solved, solved_behind};
+pub use solved_text::{print_solved, put_solved};

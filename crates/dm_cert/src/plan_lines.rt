@@ -24,7 +24,7 @@ pub struct Heading {
     pub size: u128,
 }
 
-fn number_behind<'l>(line: &'l [u8], text: &str) -> Option<(u128, &'l [u8])>
+pub(crate) fn number_behind<'l>(line: &'l [u8], text: &str) -> Option<(u128, &'l [u8])>
     ensures { option_map (λ p. (p.0, p.1.now)) result ≡ number_behind largest_cost text.now line.now }
 {
     let Some(rest) = behind(line, text) else {
@@ -33,7 +33,7 @@ fn number_behind<'l>(line: &'l [u8], text: &str) -> Option<(u128, &'l [u8])>
     number_in_front(rest, u128::MAX)
 }
 
-fn id_behind<'l>(line: &'l [u8], text: &str) -> Option<(u32, &'l [u8])>
+pub(crate) fn id_behind<'l>(line: &'l [u8], text: &str) -> Option<(u32, &'l [u8])>
     ensures { option_map (λ p. (p.0, p.1.now)) result ≡ number_behind largest_id text.now line.now }
 {
     let Some(rest) = behind(line, text) else {
@@ -202,7 +202,7 @@ pub(crate) fn leaf_in(line: &[u8]) -> Option<(Node, &[u8])>
 }
 
 /// A choice whether to keep a change.
-fn change_in(line: &[u8]) -> Option<(Node, &[u8])>
+pub(crate) fn change_in(line: &[u8]) -> Option<(Node, &[u8])>
     ensures { option_map (λ p. (p.0, p.1.now)) result ≡ change_in line.now }
 {
     let Some((act, rest)) = id_behind(line, "inner change ") else {
@@ -212,7 +212,7 @@ fn change_in(line: &[u8]) -> Option<(Node, &[u8])>
 }
 
 /// A choice which event of a pair goes first. The smaller id stands first.
-fn pair_in(line: &[u8]) -> Option<(Node, &[u8])>
+pub(crate) fn pair_in(line: &[u8]) -> Option<(Node, &[u8])>
     ensures { option_map (λ p. (p.0, p.1.now)) result ≡ pair_in line.now }
 {
     let Some((small, rest)) = id_behind(line, "inner pair ") else {

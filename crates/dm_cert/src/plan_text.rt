@@ -93,7 +93,11 @@ impl Listed for Node {
 
 // Prints a node with a choice.
 #[tactic(auto, unfolding(crate::specs::PlanTexts::node_text))]
-fn put_inner<K: Sink>(sink: &mut K, page: &mut Page, choice: Choice) -> Result<(), WriteFault>
+pub(crate) fn put_inner<K: Sink>(
+    sink: &mut K,
+    page: &mut Page,
+    choice: Choice,
+) -> Result<(), WriteFault>
     ensures text { Prints K.taken K.faults sink.old sink.new page.old page.new result (node_text (Node.Inner choice)) }
     ensures fits { FitsNode (Node.Inner choice) }
 {

@@ -1,7 +1,11 @@
 //! The answers to feeds, and their logs.
 
+ghost use Rattle.std.specs.Prelude.{◌≡◌};
+ghost use Rattle.dm_cert.specs.Answers.{reply_with};
+
 use dm_base::{Cost, Items, Secs};
 use dm_feed::{FeedStop, Line};
+use dm_parts::{AnyPlan, PlanByParts};
 use dm_rows::{At, Refusal};
 use dm_tree::Plan;
 
@@ -26,7 +30,10 @@ pub enum Reply {
     /// A plan for the rows at the entry that it names.
     Planned(Plan),
 
-    /// At so many entries the latest plan is for fewer entries.
+    /// A plan by parts for the rows at the entry that it names.
+    Solved(PlanByParts),
+
+    /// At so many entries the latest plan, of either kind, is for fewer entries.
     Old(u32),
 
     /// There is no plan to adopt yet.
@@ -37,6 +44,18 @@ pub enum Reply {
 
     /// The budget that was asked for is out of range.
     Range(u64),
+}
+
+impl Reply {
+    /// The reply that gives a plan.
+    pub fn with(plan: AnyPlan) -> Reply
+        ensures { result ≡ reply_with plan }
+    {
+        match plan {
+            AnyPlan::Whole(plan) => Reply::Planned(plan),
+            AnyPlan::ByParts(plan) => Reply::Solved(plan),
+        }
+    }
 }
 
 /// What a log holds of one line. Lines are numbered from 1.

@@ -4,4 +4,5 @@ mod generated;
 mod plan_texts;
 mod relaxed;
 mod searches;
+mod solved_texts;
 mod trees;
