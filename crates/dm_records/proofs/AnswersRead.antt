@@ -17,12 +17,16 @@ use Rattle.dm_feed.specs.Parts.{largest_id}
 use Rattle.dm_cert.specs.declared.plan_lines.Heading.{Heading}
 use Rattle.dm_cert.specs.declared.replies.Reply.{Reply}
 use Rattle.dm_cert.specs.declared.replies.Reply.TheVariants as reply
-use Rattle.dm_cert.specs.PlanTexts.{line_end}
+use Rattle.dm_cert.specs.PlanTexts.{IsVersion, line_end}
 use Rattle.dm_cert.specs.PlansRead.{IsHeadingLine}
 use Rattle.dm_cert.specs.RunTexts.{reply_text, spaced_id}
 use Rattle.dm_cert.specs.Inside.PlanLines.{heading_in}
 use Rattle.dm_cert.proofs.Options.{none_some, map_some, some_pair}
 use Rattle.dm_cert.proofs.DecisionsRead.{number_behind_back, number_behind_is}
+use Rattle.dm_cert.specs.declared.solved_lines.SolvedHeading.{SolvedHeading}
+use Rattle.dm_cert.specs.SolvedRead.{IsSolvedHeadingLine}
+use Rattle.dm_cert.specs.Inside.SolvedLines.{solved_heading_in}
+use Rattle.dm_cert.proofs.SolvedLinesRead.{reads_solved_heading}
 use Rattle.dm_cert.proofs.HeadingsRead.{reads_heading}
 use Rattle.dm_records.specs.RunLines.{IsFormedReply, IsFormedReason}
 use Rattle.dm_records.specs.Readings.{IsRead}
@@ -34,7 +38,7 @@ use Rattle.dm_records.specs.declared.kinds.FreeKind.{FreeKind}
 use Rattle.dm_records.specs.declared.kinds.FreeKind.TheVariants as free
 use Rattle.dm_records.specs.Inside.Fields.{number_behind, numbers_text, NumbersFit, kind_in_front, row_in, whole}
 use Rattle.dm_records.specs.Inside.Kinds.{told_text, told_shape, told_reply, refused_at, free_text, free_shape, free_reply}
-use Rattle.dm_records.specs.Inside.Answers.{IsIds, IsNoIds, Saying, answered, opened, Told, of_kind, of_cycle, of_plan, told_at, TellsCycle, TellsPlan, IsToldLine, IsAnswerLine, IsToldAs, ReadsTold, ReadsAnswer}
+use Rattle.dm_records.specs.Inside.Answers.{IsIds, IsNoIds, Saying, answered, opened, opened_by_parts, Told, of_kind, of_cycle, of_plan, of_solved, told_at, TellsCycle, TellsPlan, TellsSolved, IsToldLine, IsAnswerLine, IsToldAs, ReadsTold, ReadsAnswer}
 use Rattle.dm_records.proofs.FieldsRead.{whole_some}
 use Rattle.dm_records.proofs.KindsRead.{IsSmall, row_back, row_is}
 
@@ -190,6 +194,7 @@ by_reply version (reply.Time n x) line spelled fits = inr (at_kind version n tol
 by_reply version (reply.Cost n c) line spelled fits = inr (at_kind version n told.Cost c 0 line spelled fits.0 (fits.1, refl))
 by_reply version (reply.Read n) line spelled fits = inr (at_kind version n told.Read 0 0 line spelled fits (refl, refl))
 by_reply version (reply.Planned plan) line spelled fits = absurd fits
+by_reply version (reply.Solved plan) line spelled fits = absurd fits
 by_reply version (reply.Old n) line spelled fits = inr (at_kind version n told.Old 0 0 line spelled fits (refl, refl))
 by_reply version reply.NoPlan line spelled fits = inl (as_free version free.NoPlan 0 0 line spelled (refl, refl))
 by_reply version reply.Plans line spelled fits = inl (as_free version free.Plans 0 0 line spelled (refl, refl))
@@ -206,6 +211,15 @@ by_saying version (opened n h) line is = inr (record {
   line_is = is.spelled;
   fits = is.fits;
   tells = record { rest = is.rest; spelled = refl; heading = is.heading };
+})
+by_saying version (opened_by_parts n h) line is = inr (record {
+  number = n;
+  told = of_solved h;
+  tail = codes " " ++ is.rest;
+  is = refl;
+  line_is = is.spelled;
+  fits = is.fits;
+  tells = record { rest = is.rest; spelled = refl; heading = is.heading; known = is.known };
 })
 
 -- every formed reply ends with its line's end
@@ -239,6 +253,7 @@ reply_body version (reply.Time n x) f = kind_body version n told.Time x 0
 reply_body version (reply.Cost n c) f = kind_body version n told.Cost c 0
 reply_body version (reply.Read n) f = kind_body version n told.Read 0 0
 reply_body version (reply.Planned plan) f = absurd f
+reply_body version (reply.Solved plan) f = absurd f
 reply_body version (reply.Old n) f = kind_body version n told.Old 0 0
 reply_body version reply.NoPlan f = free_body version free.NoPlan 0 0
 reply_body version reply.Plans f = free_body version free.Plans 0 0
@@ -278,6 +293,8 @@ told_answers version n (of_cycle ids) tail line low is tells = (
 )
 told_answers version n (of_plan h) tail line low is tells =
     record { rest = tells.rest; spelled = ap (λ xs. decimal n ++ xs) tells.spelled ∙ sym is; fits = low; heading = tells.heading }
+told_answers version n (of_solved h) tail line low is tells =
+    record { rest = tells.rest; spelled = ap (λ xs. decimal n ++ xs) tells.spelled ∙ sym is; fits = low; heading = tells.heading; known = tells.known }
 
 -- ---- rows of kinds
 
@@ -329,6 +346,26 @@ plan_read version line rest None front e = λ h is.
     let same = some_is rest is.rest (front ∙ (ap (behind (codes " ")) (sym is.spelled) ∙ behind_back (codes " ") is.rest)) in
     none_some (e ∙ (reads_heading version rest).back h (subst (λ xs. IsHeadingLine version h xs) (sym same) is.heading))
 
+-- a version that is not the first
+pub is_second : (version : ℕ) → IsVersion version → (version ≡ 1 → ⊥) → version ≡ 2
+is_second version (inl first) other = absurd (other first)
+is_second version (inr second) other = second
+
+-- a plan by parts, which version 1 does not have
+pub solved_unknown : (version : ℕ) (line : List ℕ) → version ≡ 1 → (h : SolvedHeading) → TellsSolved version h line → ⊥
+solved_unknown version line first h is = let known = is.known in omega (arith, first, known)
+
+pub solved_no_space : (version : ℕ) (line : List ℕ) → None ≡ behind (codes " ") line → (h : SolvedHeading) → TellsSolved version h line → ⊥
+solved_no_space version line none h is = none_some (none ∙ (ap (behind (codes " ")) (sym is.spelled) ∙ behind_back (codes " ") is.rest))
+
+pub solved_read : (version : ℕ) (line rest : List ℕ) (r : Option SolvedHeading) → version ≡ 2 → Some rest ≡ behind (codes " ") line → r ≡ solved_heading_in rest →
+    IsRead (TellsSolved version) (λ (h : SolvedHeading). h) line r
+solved_read version line rest (Some h) known front e =
+    record { rest = rest; spelled = sym (behind_is (codes " ") line rest (sym front)); heading = (reads_solved_heading rest).is h (sym e); known = known }
+solved_read version line rest None known front e = λ h is.
+    let same = some_is rest is.rest (front ∙ (ap (behind (codes " ")) (sym is.spelled) ∙ behind_back (codes " ") is.rest)) in
+    none_some (e ∙ (reads_solved_heading rest).back h (subst (λ xs. IsSolvedHeadingLine h xs) (sym same) is.heading))
+
 cycle_rest : (line rest : List ℕ) (ids : List ActId) → Some rest ≡ behind (codes " refused cycle") line → (is : TellsCycle ids line) → rest ≡ is.rest
 cycle_rest line rest ids front is =
     some_is rest is.rest (front ∙ (ap (behind (codes " refused cycle")) (sym is.spelled) ∙ behind_back (codes " refused cycle") is.rest))
@@ -367,10 +404,11 @@ kind_is version n line r e =
     record { told = of_kind found.kind found.one found.two; is = ap answered found.is; line_is = record { spelled = found.line_is; fits = found.fits } }
 
 pub told_none : (version n : ℕ) (line : List ℕ) → None ≡ option_map (λ p. told_reply n p.0 p.1 p.2) (whole (row_in told_text told_shape TOLD line)) →
-    ((h : Heading) → TellsPlan version h line → ⊥) → ((ids : List ActId) → TellsCycle ids line → ⊥) → (t : Told) → IsToldLine version t line → ⊥
-told_none version n line kinds plans cycles (of_kind k a b) is = no_row told_text told_shape TOLD (told_reply n) line told_small told_apart kinds k a b is.spelled is.fits
-told_none version n line kinds plans cycles (of_cycle ids) is = cycles ids is
-told_none version n line kinds plans cycles (of_plan h) is = plans h is
+    ((h : Heading) → TellsPlan version h line → ⊥) → ((h : SolvedHeading) → TellsSolved version h line → ⊥) → ((ids : List ActId) → TellsCycle ids line → ⊥) → (t : Told) → IsToldLine version t line → ⊥
+told_none version n line kinds plans solved cycles (of_kind k a b) is = no_row told_text told_shape TOLD (told_reply n) line told_small told_apart kinds k a b is.spelled is.fits
+told_none version n line kinds plans solved cycles (of_cycle ids) is = cycles ids is
+told_none version n line kinds plans solved cycles (of_plan h) is = plans h is
+told_none version n line kinds plans solved cycles (of_solved h) is = solved h is
 
 -- ---- whole answers
 
@@ -394,6 +432,7 @@ told_ends : (version : ℕ) (t : Told) (tail : List ℕ) → IsToldLine version 
 told_ends version (of_kind k a b) tail is = subst EndsNumber is.spelled (kind_ends k (numbers_text (told_shape k) a b))
 told_ends version (of_cycle ids) tail is = subst EndsNumber is.spelled refl
 told_ends version (of_plan h) tail is = subst EndsNumber is.spelled refl
+told_ends version (of_solved h) tail is = subst EndsNumber is.spelled refl
 
 pub free_is : (version : ℕ) (line : List ℕ) (r : Reply) → Some r ≡ option_map (λ p. free_reply p.0 p.1 p.2) (whole (row_in free_text free_shape FREE line)) → IsAnswerLine version (answered r) line
 free_is version line r e =

@@ -1,5 +1,5 @@
 -- The lists of a true run are short, so that its text tells all of it.
-use Rattle.std.proofs.Common.{ℕ, zero, suc, ◌+◌, ◌*◌, ◌<◌, ◌≤◌, Bool, true, false, cond, eqb, List, [], ◌∷◌, ◌++◌, length, get_or, map, All, sym, ap, subst, ◌∙◌, inl, inr, arith, length-append}
+use Rattle.std.proofs.Common.{◌≡◌, ℕ, zero, suc, ◌+◌, ◌*◌, ◌<◌, ◌≤◌, Bool, true, false, cond, eqb, List, [], ◌∷◌, ◌++◌, length, get_or, map, All, sym, ap, subst, ◌∙◌, inl, inr, arith, length-append}
 use Rattle.std.specs.Prelude.{filter}
 use Rattle.std.specs.List.{range_with_len}
 use Rattle.std.proofs.lemmas.List.{length-map}
@@ -15,18 +15,25 @@ use Rattle.dm_rows.specs.Rows.{RowsValue}
 use Rattle.dm_rows.specs.Decide.{choice_of, free_choices_of, free_changes_of, free_pairs_of, is_free_change, is_free_pair, change_choice, pair_choice}
 use Rattle.dm_rows.proofs.PairEnds.{small_is_event, large_is_event}
 use Rattle.dm_tree.specs.declared.plans.Plan.{Plan}
-use Rattle.dm_tree.specs.Plans.{AreSomeOf}
+use Rattle.dm_tree.specs.Plans.{AreSomeOf, whole_task}
+use Rattle.dm_tree.specs.Trees.{Shape, leaf, branch, preorder}
+use Rattle.dm_parts.specs.declared.parts.Part.{Part}
+use Rattle.dm_parts.specs.declared.parts.PartNode.{PartNode}
+use Rattle.dm_parts.specs.declared.parts.PlanByParts.{PlanByParts}
+use Rattle.dm_parts.specs.Parts.{as_node, IsTruePart}
+use Rattle.dm_parts.specs.Sizes.{nodes_of}
+use Rattle.std.proofs.lemmas.List.Sums.{sum_by-cons}
 use Rattle.dm_feed.specs.Parts.{largest_id}
 use Rattle.dm_feed.specs.declared.grammar.Line.{Line}
-use Rattle.dm_feed.specs.declared.grammar.Line.TheVariants.{Say, Time as AskTime, CostNow as AskCost, Plan as AskPlan, Adopt as AskAdopt, Read as AskRead}
+use Rattle.dm_feed.specs.declared.grammar.Line.TheVariants.{Say, Time as AskTime, CostNow as AskCost, Plan as AskPlan, Solve as AskSolve, Adopt as AskAdopt, Read as AskRead}
 use Rattle.dm_cert.specs.declared.replies.Reply.{Reply}
-use Rattle.dm_cert.specs.declared.replies.Reply.TheVariants.{Ok, Refused, Time, Cost, Read, Planned, Old, NoPlan, Plans, Range}
+use Rattle.dm_cert.specs.declared.replies.Reply.TheVariants.{Ok, Refused, Time, Cost, Read, Planned, Solved, Old, NoPlan, Plans, Range}
 use Rattle.dm_cert.specs.declared.replies.LogItem.{LogItem}
 use Rattle.dm_cert.specs.declared.replies.LogItem.TheVariants.{Malformed, Answered}
 use Rattle.dm_cert.specs.declared.replies.FeedLog.{FeedLog}
-use Rattle.dm_cert.specs.Answers.{Setting, rows_after, IsPlanFor, IsTrueReply}
+use Rattle.dm_cert.specs.Answers.{Setting, rows_after, IsPlanFor, IsSolvedFor, IsTrueReply}
 use Rattle.dm_cert.specs.Logs.{AreTrueAnswers, IsInOrder, IsTrueLog, kind_of, line_of, number_after}
-use Rattle.dm_cert.specs.PlanLaws.{IsHeld}
+use Rattle.dm_cert.specs.PlanLaws.{IsHeld, IsHeldSolved}
 use Rattle.dm_cert.specs.RunTexts.{Run, FitsItem, FitsLog}
 use Rattle.dm_cert.specs.Runs.{setting_of, IsTextOf}
 use Rattle.dm_records.specs.Laws.{IsHeldReply, IsHeldItem, IsHeldLog, IsInPrint, TextsTellOneRun}
@@ -90,12 +97,53 @@ plan_held s history before budget plan few is =
       nodes = omega (arith, is.is_true.size, limit, low_limit (eqb s.version 1));
     }
 
+-- each part has some node
+part_has_node : (s : Setting) (rows : RowsValue) (budget : ℕ) (part : Part) → IsTruePart (whole_task s.net rows s.penalty budget) part → 1 ≤ length part.tree
+part_has_node s rows budget part is = some_node is.shape part.tree is.in_preorder
+  where
+    some_node : (t : Shape) (nodes : List PartNode) → preorder t ≡ map as_node nodes → 1 ≤ length nodes
+    some_node (leaf n) nodes e = let size = ap length e in let mapped = length-map nodes as_node in omega (arith, size, mapped)
+    some_node (branch c a b) nodes e = let size = ap length e in let mapped = length-map nodes as_node in omega (arith, size, mapped)
+
+few_parts : (s : Setting) (rows : RowsValue) (budget : ℕ) (parts : List Part) → All (IsTruePart (whole_task s.net rows s.penalty budget)) parts → length parts ≤ nodes_of parts
+few_parts s rows budget [] are = omega arith
+few_parts s rows budget (part ∷ parts) are =
+    let here = part_has_node s rows budget part (All-head (IsTruePart (whole_task s.net rows s.penalty budget)) part parts are) in
+    let later = few_parts s rows budget parts (All-tail (IsTruePart (whole_task s.net rows s.penalty budget)) part parts are) in
+    let e = sum_by-cons (λ (p : Part). length p.tree) part parts in
+    omega (arith, here, later, e)
+
+solved_held : (s : Setting) (history : List Entry) (before : List LogItem) (budget : ℕ) (plan : PlanByParts) → HasFewChoices s → IsSolvedFor s history before budget plan → IsHeldSolved plan
+solved_held s history before budget plan few is =
+    let rows : RowsValue = rows_after s history plan.entry in
+    let chosen = some_are_few (free_choices_of s.net rows) (map choice_of plan.choices) is.is_true.choices in
+    let limit : budget ≤ cond (eqb s.version 1) 4096 16384 = is.in_range.1 in
+    let parts = few_parts s rows budget plan.parts is.is_true.parts in
+    let low = low_limit (eqb s.version 1) in
+    let size = is.is_true.size in
+    record {
+      choices = omega (arith, chosen, few rows, length-map plan.choices choice_of);
+      parts = omega (arith, parts, size, limit, low);
+      nodes = omega (arith, size, limit, low);
+    }
+
+solved_reply_held : (s : Setting) (history : List Entry) (feed : ℕ) (before : List LogItem) (line : ℕ) (said : Line) (plan : PlanByParts) → HasFewChoices s →
+    IsTrueReply s history feed before line said (Solved plan) → IsHeldSolved plan
+solved_reply_held s history feed before line (Say message) plan few is = absurd is
+solved_reply_held s history feed before line (AskTime event) plan few is = absurd is
+solved_reply_held s history feed before line AskCost plan few is = absurd is
+solved_reply_held s history feed before line (AskPlan budget) plan few is = absurd is
+solved_reply_held s history feed before line (AskSolve budget) plan few is = solved_held s history before budget plan few is
+solved_reply_held s history feed before line AskAdopt plan few is = absurd is
+solved_reply_held s history feed before line AskRead plan few is = absurd is
+
 plan_reply_held : (s : Setting) (history : List Entry) (feed : ℕ) (before : List LogItem) (line : ℕ) (said : Line) (plan : Plan) → HasFewChoices s →
     IsTrueReply s history feed before line said (Planned plan) → IsHeld plan
 plan_reply_held s history feed before line (Say message) plan few is = absurd is
 plan_reply_held s history feed before line (AskTime event) plan few is = absurd is
 plan_reply_held s history feed before line AskCost plan few is = absurd is
 plan_reply_held s history feed before line (AskPlan budget) plan few is = plan_held s history before budget plan few is
+plan_reply_held s history feed before line (AskSolve budget) plan few is = absurd is
 plan_reply_held s history feed before line AskAdopt plan few is = absurd is
 plan_reply_held s history feed before line AskRead plan few is = absurd is
 
@@ -107,6 +155,7 @@ reply_held s history feed before line said (Time n x) few is = tt
 reply_held s history feed before line said (Cost n c) few is = tt
 reply_held s history feed before line said (Read n) few is = tt
 reply_held s history feed before line said (Planned plan) few is = plan_reply_held s history feed before line said plan few is
+reply_held s history feed before line said (Solved plan) few is = solved_reply_held s history feed before line said plan few is
 reply_held s history feed before line said (Old n) few is = tt
 reply_held s history feed before line said NoPlan few is = tt
 reply_held s history feed before line said Plans few is = tt

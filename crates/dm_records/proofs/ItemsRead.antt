@@ -1,8 +1,9 @@
 -- The first line of an item is read where it stands, and nothing else.
-use Rattle.std.proofs.Common.{◌≡◌, ℕ, ◌≤◌, List, [], ◌∷◌, ◌++◌, Option, Some, None, All, refl, sym, ap, subst, ◌∙◌, arith, append_assoc, append-nil, codes}
-use Rattle.std.specs.Prelude.{IfOk, Result, Ok, Err}
+use Rattle.std.proofs.Common.{◌≡◌, ℕ, ◌≤◌, true, false, eqb, inl, inr, List, [], ◌∷◌, ◌++◌, Option, Some, None, All, refl, sym, ap, subst, ◌∙◌, arith, append_assoc, append-nil, codes}
+use Rattle.std.specs.Prelude.{IfOk, Result, Ok, Err, not}
 use Rattle.std.specs.Option.{option_map}
 use Rattle.std.specs.Fmt.{decimal}
+use Rattle.std.proofs.lemmas.Bool.{both_ways}
 use Rattle.std.proofs.lemmas.List.{append_cancel_right}
 use Rattle.std.proofs.lemmas.List.Elements.{All-nil, All-cons}
 use Rattle.dm_text.specs.Inside.Parts.{behind}
@@ -18,20 +19,23 @@ use Rattle.dm_feed.specs.Lines.{spelling_of_line}
 use Rattle.dm_cert.specs.declared.plan_lines.Heading.{Heading}
 use Rattle.dm_cert.specs.declared.replies.LogItem.TheVariants.{Malformed, Answered}
 use Rattle.dm_cert.specs.declared.replies.Reply.{Reply}
-use Rattle.dm_cert.specs.PlanTexts.{line_end}
-use Rattle.dm_cert.specs.RunTexts.{reply_text, item_text}
+use Rattle.dm_cert.specs.declared.replies.Reply.TheVariants as reply
+use Rattle.dm_cert.specs.declared.solved_lines.SolvedHeading.{SolvedHeading}
+use Rattle.dm_cert.specs.PlanTexts.{line_end, IsVersion}
+use Rattle.dm_cert.specs.RunTexts.{reply_text, item_text, KnowsLine, KnowsReply}
 use Rattle.dm_cert.proofs.Options.{none_some, some_pair}
 use Rattle.dm_cert.proofs.DecisionsRead.{number_behind_back, number_behind_is}
 use Rattle.dm_cert.proofs.HeadingsRead.{front_text, heading_spelled}
-use Rattle.dm_records.specs.RunLines.{ItemLine, lone, planned, IsFormedSaid, IsItemLine}
+use Rattle.dm_cert.proofs.SolvedLinesRead.{solved_front, solved_spelled}
+use Rattle.dm_records.specs.RunLines.{ItemLine, lone, planned, solved, IsFormedSaid, IsFormedReply, IsItemLine}
 use Rattle.dm_records.specs.Readings.{IsRead, item_of}
 use Rattle.dm_records.specs.declared.items.LogLine.{LogLine}
 use Rattle.dm_records.specs.declared.kinds.TheConstants.{SAID}
 use Rattle.dm_records.specs.declared.kinds.SaidKind.{SaidKind}
 use Rattle.dm_records.specs.declared.kinds.SaidKind.TheVariants as said
 use Rattle.dm_records.specs.Inside.Fields.{number_behind, numbers_text, NumbersFit, kind_in_front, row_in}
-use Rattle.dm_records.specs.Inside.Kinds.{said_text, said_shape, said_line}
-use Rattle.dm_records.specs.Inside.Answers.{Saying, answered, opened, IsAnswerLine}
+use Rattle.dm_records.specs.Inside.Kinds.{said_text, said_shape, said_line, knows_kind}
+use Rattle.dm_records.specs.Inside.Answers.{Saying, answered, opened, opened_by_parts, IsAnswerLine}
 use Rattle.dm_records.specs.Inside.Items.{item_with, SaysThere, IsSaidAs, ReadsSaid}
 use Rattle.dm_records.proofs.KindsRead.{IsSmall, row_back, row_is}
 use Rattle.dm_records.proofs.AnswersRead.{reply_body}
@@ -52,6 +56,7 @@ said_apart said.Time rest = refl
 said_apart said.Cost rest = refl
 said_apart said.Read rest = refl
 said_apart said.Plan rest = refl
+said_apart said.Solve rest = refl
 said_apart said.Adopt rest = refl
 
 said_small : (k : SaidKind) → IsSmall (said_shape k)
@@ -67,6 +72,7 @@ said_small said.Time = omega arith
 said_small said.Cost = tt
 said_small said.Read = tt
 said_small said.Plan = omega arith
+said_small said.Solve = omega arith
 said_small said.Adopt = tt
 
 said_spelled : (k : SaidKind) (a b : ℕ) → spelling_of_line (said_line k a b) ≡ said_text k ++ numbers_text (said_shape k) a b
@@ -83,6 +89,7 @@ said_spelled said.Time a b = simp append-nil
 said_spelled said.Cost a b = refl
 said_spelled said.Read a b = refl
 said_spelled said.Plan a b = simp append-nil
+said_spelled said.Solve a b = simp append-nil
 said_spelled said.Adopt a b = refl
 
 -- parts that fit, behind one word or two
@@ -108,6 +115,7 @@ said_formed said.Time a b f = record { spelled = tt; fits = one named.Time (id a
 said_formed said.Cost a b f = record { spelled = tt; fits = lone_word named.Cost }
 said_formed said.Read a b f = record { spelled = tt; fits = lone_word named.Read }
 said_formed said.Plan a b f = record { spelled = tt; fits = one named.Plan (value a) f.0 }
+said_formed said.Solve a b f = record { spelled = tt; fits = one named.Solve (value a) f.0 }
 said_formed said.Adopt a b f = record { spelled = tt; fits = lone_word named.Adopt }
 
 record OfKind (l : Line) : Type 0 where
@@ -133,6 +141,7 @@ kind_of_line (line.Say m) f = kind_of_message m f
 kind_of_line (line.Time e) f = record { kind = said.Time; a = e.0; b = 0; is = refl; fits = (f.fits 1 (id 0) (omega arith), refl) }
 kind_of_line line.CostNow f = record { kind = said.Cost; a = 0; b = 0; is = refl; fits = (refl, refl) }
 kind_of_line (line.Plan n) f = record { kind = said.Plan; a = n; b = 0; is = refl; fits = (f.fits 1 (id 0) (omega arith), refl) }
+kind_of_line (line.Solve n) f = record { kind = said.Solve; a = n; b = 0; is = refl; fits = (f.fits 1 (id 0) (omega arith), refl) }
 kind_of_line line.Adopt f = record { kind = said.Adopt; a = 0; b = 0; is = refl; fits = (refl, refl) }
 kind_of_line line.Read f = record { kind = said.Read; a = 0; b = 0; is = refl; fits = (refl, refl) }
 
@@ -155,8 +164,74 @@ row_there l tail line formed same =
           ∙ row_back said_text said_shape SAID k.kind k.a k.b (codes " -> " ++ tail) (said_apart k.kind (numbers_text (said_shape k.kind) k.a k.b ++ (codes " -> " ++ tail))) (said_small k.kind) k.fits refl;
     }
 
+-- the versions that have the words of a line
+kind_known : (version : ℕ) (k : SaidKind) (a b : ℕ) → KnowsLine version (said_line k a b) → knows_kind version k ≡ true
+kind_known version said.DelayEvent a b known = refl
+kind_known version said.DelayActivity a b known = refl
+kind_known version said.Pass a b known = refl
+kind_known version said.Recall a b known = refl
+kind_known version said.Keep a b known = refl
+kind_known version said.Drop a b known = refl
+kind_known version said.First a b known = refl
+kind_known version said.Now a b known = refl
+kind_known version said.Time a b known = refl
+kind_known version said.Cost a b known = refl
+kind_known version said.Read a b known = refl
+kind_known version said.Plan a b known = refl
+kind_known version said.Solve a b known = ap (λ v. not (eqb v 1)) known
+kind_known version said.Adopt a b known = refl
+
+line_known : (version : ℕ) → IsVersion version → (k : SaidKind) (a b : ℕ) → knows_kind version k ≡ true → KnowsLine version (said_line k a b)
+line_known version is said.DelayEvent a b known = tt
+line_known version is said.DelayActivity a b known = tt
+line_known version is said.Pass a b known = tt
+line_known version is said.Recall a b known = tt
+line_known version is said.Keep a b known = tt
+line_known version is said.Drop a b known = tt
+line_known version is said.First a b known = tt
+line_known version is said.Now a b known = tt
+line_known version is said.Time a b known = tt
+line_known version is said.Cost a b known = tt
+line_known version is said.Read a b known = tt
+line_known version is said.Plan a b known = tt
+line_known version (inl first) said.Solve a b known = let e : not (eqb version 1) ≡ false = ap (λ v. not (eqb v 1)) first in absurd (both_ways (not (eqb version 1)) e known)
+line_known version (inr second) said.Solve a b known = second
+line_known version is said.Adopt a b known = tt
+
+-- version 2 has all words
+pub known_in_second : (version : ℕ) (l : Line) → version ≡ 2 → KnowsLine version l
+known_in_second version (line.Say m) second = tt
+known_in_second version (line.Time e) second = tt
+known_in_second version line.CostNow second = tt
+known_in_second version (line.Plan n) second = tt
+known_in_second version (line.Solve n) second = second
+known_in_second version line.Adopt second = tt
+known_in_second version line.Read second = tt
+
+-- the word of a plan by parts has no form of its own line
+pub formed_is_known : (version : ℕ) (r : Reply) → IsFormedReply r → KnowsReply version r
+formed_is_known version (reply.Ok n) f = tt
+formed_is_known version (reply.Refused at) f = tt
+formed_is_known version (reply.Time n x) f = tt
+formed_is_known version (reply.Cost n c) f = tt
+formed_is_known version (reply.Read n) f = tt
+formed_is_known version (reply.Planned plan) f = tt
+formed_is_known version (reply.Solved plan) f = absurd f
+formed_is_known version (reply.Old n) f = tt
+formed_is_known version reply.NoPlan f = tt
+formed_is_known version reply.Plans f = tt
+formed_is_known version (reply.Range b) f = tt
+
 pub said_no_row : (version : ℕ) (line : List ℕ) → None ≡ row_in said_text said_shape SAID line → (l : Line) (s : Saying) → SaysThere version l s line → ⊥
 said_no_row version line none l s there = none_some (none ∙ (row_there l there.tail line there.formed there.spelled).read)
+
+pub said_unknown : (version : ℕ) (line rest : List ℕ) (k : SaidKind) (a b : ℕ) → Some ((k, a, b), rest) ≡ row_in said_text said_shape SAID line → knows_kind version k ≡ false →
+    (l : Line) (s : Saying) → SaysThere version l s line → ⊥
+said_unknown version line rest k a b e unknown l s there =
+    let r = row_there l there.tail line there.formed there.spelled in
+    let same = some_pair (k, a, b) r.row rest (codes " -> " ++ there.tail) (e ∙ r.read) in
+    let is : said_line k a b ≡ l = ap (λ (q : SaidKind × ℕ × ℕ). said_line q.0 q.1 q.2) same.0 ∙ r.is in
+    both_ways (knows_kind version k) unknown (kind_known version k a b (subst (KnowsLine version) (sym is) there.known))
 
 pub said_no_arrow : (version : ℕ) (line rest : List ℕ) (row : SaidKind × ℕ × ℕ) → Some (row, rest) ≡ row_in said_text said_shape SAID line → None ≡ behind (codes " -> ") rest →
     (l : Line) (s : Saying) → SaysThere version l s line → ⊥
@@ -177,8 +252,8 @@ said_no_answer version line rest tail row e front none l s there =
     none s (subst (λ xs. IsAnswerLine version s xs) (sym tails) there.answers)
 
 pub said_is : (version n : ℕ) (line rest tail : List ℕ) (k : SaidKind) (a b : ℕ) (s : Saying) → Some ((k, a, b), rest) ≡ row_in said_text said_shape SAID line → Some tail ≡ behind (codes " -> ") rest →
-    IsAnswerLine version s tail → IsSaidAs version n line (item_with n (said_line k a b) s)
-said_is version n line rest tail k a b s e front answers =
+    IsVersion version → knows_kind version k ≡ true → IsAnswerLine version s tail → IsSaidAs version n line (item_with n (said_line k a b) s)
+said_is version n line rest tail k a b s e front is_version known answers =
     let has = row_is said_text said_shape SAID line k a b rest said_small (sym e) in
     let arrow : rest ≡ codes " -> " ++ tail = behind_is (codes " -> ") rest tail (sym front) in
     record {
@@ -191,6 +266,7 @@ said_is version n line rest tail k a b s e front answers =
             ∙ (append_assoc (said_text k) (numbers_text (said_shape k) a b) (codes " -> " ++ tail)
             ∙ (ap (λ xs. said_text k ++ (numbers_text (said_shape k) a b ++ xs)) (sym arrow) ∙ sym has.line_is));
         formed = said_formed k a b has.fits;
+        known = line_known version is_version k a b known;
         answers = answers;
       };
     }
@@ -250,7 +326,7 @@ item_there version (lone (Answered n l r)) line is =
       is = refl;
       line_is = append_cancel_right (said_body n l has.body) line line_end (sym (answered_text version n l r has.body has.is) ∙ is.0);
       fits = is.1.0;
-      stands = (spelling_of_line l ++ (codes " -> " ++ has.body), refl, record { tail = has.body; spelled = refl; formed = is.1.1; answers = (has.is, is.1.2) });
+      stands = (spelling_of_line l ++ (codes " -> " ++ has.body), refl, record { tail = has.body; spelled = refl; formed = is.1.1; known = is.2.0; answers = (has.is, is.1.2) });
     }
 item_there version (planned o) line is =
     let h : Heading = record { mark = o.mark; cost = o.cost; bound = o.bound; choices = o.choices; size = o.size } in
@@ -270,11 +346,49 @@ item_there version (planned o) line is =
           tail = tail;
           spelled = refl;
           formed = f.said;
+          known = is.2;
           answers = record {
             rest = front_text version h;
             spelled = refl;
             fits = f.entry;
             heading = record { spelled = heading_spelled version h; cost = f.cost; bound = f.bound; choices = f.choices; size = f.size };
+          };
+        },
+      );
+    }
+item_there version (solved o) line is =
+    let h : SolvedHeading = record { mark = o.mark; cost = o.cost; bound = o.bound; choices = o.choices; parts = o.parts; nodes = o.nodes } in
+    let tail : List ℕ = decimal o.entry ++ (codes " " ++ solved_front h) in
+    let f = is.1 in
+    record {
+      number = o.line;
+      item = sound o.said (opened_by_parts o.entry h);
+      rest = codes " " ++ (spelling_of_line o.said ++ (codes " -> " ++ tail));
+      is = refl;
+      line_is = is.0;
+      fits = f.line;
+      stands = (
+        spelling_of_line o.said ++ (codes " -> " ++ tail),
+        refl,
+        record {
+          tail = tail;
+          spelled = refl;
+          formed = f.said;
+          known = known_in_second version o.said is.2;
+          answers = record {
+            rest = solved_front h;
+            spelled = refl;
+            fits = f.entry;
+            heading = record {
+              spelled = solved_spelled h;
+              cost = f.cost;
+              bound = f.bound;
+              choices = f.choices;
+              parts = f.parts;
+              nodes = f.nodes;
+              of_parts = f.of_parts;
+            };
+            known = is.2;
           };
         },
       );
@@ -287,6 +401,7 @@ item_back : (version n : ℕ) (l : Line) (s : Saying) (line : List ℕ) → n �
 item_back version n l (answered r) line low rest is there = (
   answered_text version n l r there.tail there.answers.0 ∙ ap (λ xs. xs ++ line_end) (ap (λ xs. decimal n ++ (codes " " ++ xs)) there.spelled ∙ sym is),
   (low, there.formed, there.answers.1),
+  (there.known, formed_is_known version r there.answers.1),
 )
 item_back version n l (opened entry h) line low rest is there =
     let a = there.answers in
@@ -303,6 +418,26 @@ item_back version n l (opened entry h) line low rest is there =
         choices = a.heading.choices;
         size = a.heading.size;
       },
+      there.known,
+    )
+item_back version n l (opened_by_parts entry h) line low rest is there =
+    let a = there.answers in
+    let front : solved_front h ≡ a.rest = append_cancel_right (solved_front h) a.rest line_end (sym (solved_spelled h) ∙ a.heading.spelled) in (
+      ap (λ xs. decimal n ++ (codes " " ++ (spelling_of_line l ++ (codes " -> " ++ (decimal entry ++ (codes " " ++ xs)))))) front
+          ∙ (ap (λ xs. decimal n ++ (codes " " ++ (spelling_of_line l ++ (codes " -> " ++ xs)))) a.spelled
+          ∙ (ap (λ xs. decimal n ++ (codes " " ++ xs)) there.spelled ∙ sym is)),
+      record {
+        line = low;
+        said = there.formed;
+        entry = a.fits;
+        cost = a.heading.cost;
+        bound = a.heading.bound;
+        choices = a.heading.choices;
+        parts = a.heading.parts;
+        nodes = a.heading.nodes;
+        of_parts = a.heading.of_parts;
+      },
+      a.known,
     )
 
 item_ends : (version : ℕ) (i : Item) (rest : List ℕ) → StandsItem version i rest → EndsNumber rest
@@ -319,7 +454,7 @@ item_no_number version line none i is = none_some (none ∙ item_number version 
 pub item_malformed : (version n : ℕ) (line rest : List ℕ) → Some (n, rest) ≡ number_behind largest_id [] line → codes " malformed" ≡ rest → IsItemLine version (lone (Malformed n)) line
 item_malformed version n line rest e is =
     let has = number_behind_is largest_id n [] line rest (omega arith) (sym e) in
-    (malformed_text version n ∙ ap (λ xs. xs ++ line_end) (ap (λ xs. decimal n ++ xs) is ∙ sym has.line_is), has.fits)
+    (malformed_text version n ∙ ap (λ xs. xs ++ line_end) (ap (λ xs. decimal n ++ xs) is ∙ sym has.line_is), has.fits, tt)
 
 stands_no_space : (version : ℕ) (item : Item) (rest : List ℕ) → (codes " malformed" ≡ rest → ⊥) → None ≡ behind (codes " ") rest → StandsItem version item rest → ⊥
 stands_no_space version broken rest unformed none is = unformed is

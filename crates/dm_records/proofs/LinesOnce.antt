@@ -1,5 +1,5 @@
 -- A line of each kind spells one record alone.
-use Rattle.std.proofs.Common.{◌≡◌, ℕ, ◌≤◌, List, [], ◌∷◌, ◌++◌, Option, Some, None, refl, sym, ap, subst, ◌∙◌, ◌⊎◌, inl, inr, arith, append-nil, codes}
+use Rattle.std.proofs.Common.{◌≡◌, ℕ, ◌≤◌, List, [], ◌∷◌, ◌++◌, Option, Some, None, get_or, refl, sym, ap, subst, ◌∙◌, ◌⊎◌, inl, inr, arith, append-nil, codes}
 use Rattle.std.specs.List.{flat_map}
 use Rattle.std.proofs.lemmas.List.{append_cancel_right}
 use Rattle.dm_base.specs.declared.ids.ActId.{ActId}
@@ -15,7 +15,10 @@ use Rattle.dm_cert.specs.PlanTexts.{line_end, largest_cost}
 use Rattle.dm_cert.specs.RunTexts.{spaced_id}
 use Rattle.dm_cert.proofs.Options.{none_some, some_pair}
 use Rattle.dm_cert.proofs.HeadingsRead.{reads_heading, heading_spelled, front_text}
+use Rattle.dm_cert.specs.declared.solved_lines.SolvedHeading.{SolvedHeading}
 use Rattle.dm_cert.specs.Inside.PlanLines.{heading_in}
+use Rattle.dm_cert.specs.Inside.SolvedLines.{solved_heading_in}
+use Rattle.dm_cert.proofs.SolvedLinesRead.{solved_front, solved_spelled, reads_solved_heading}
 use Rattle.dm_records.specs.RunLines.{Numbered, LogOpening, Timed, IsNumberLine, IsVersionLine, IsEntryLine, IsOpeningLine, IsItemLine, IsStopLine, IsNoteLine, IsTimeLine}
 use Rattle.dm_records.specs.Laws.{SpellsOne, LinesSpellOne}
 use Rattle.dm_records.specs.declared.kinds.TheConstants.{TOLD, FREE}
@@ -24,7 +27,7 @@ use Rattle.dm_records.specs.declared.kinds.FreeKind.{FreeKind}
 use Rattle.dm_records.specs.declared.kinds.FreeKind.TheVariants as free
 use Rattle.dm_records.specs.Inside.Fields.{number_behind, numbers_text, NumbersFit, row_in, field_text}
 use Rattle.dm_records.specs.Inside.Kinds.{told_text, told_shape, free_text, free_shape, free_reply}
-use Rattle.dm_records.specs.Inside.Answers.{Saying, answered, Told, of_kind, of_cycle, of_plan, told_at, TellsKind, TellsCycle, TellsPlan, IsToldLine, IsAnswerLine}
+use Rattle.dm_records.specs.Inside.Answers.{Saying, answered, Told, of_kind, of_cycle, of_plan, of_solved, told_at, TellsKind, TellsCycle, TellsPlan, TellsSolved, IsToldLine, IsAnswerLine}
 use Rattle.dm_records.specs.Inside.Items.{SaysThere}
 use Rattle.dm_records.proofs.FieldsRead.{FieldsFit}
 use Rattle.dm_records.proofs.KindsRead.{row_back}
@@ -128,6 +131,17 @@ no_cycle_in_plan : (xs : List ℕ) → behind (codes " refused cycle") (codes " 
 unfolding behind
 no_cycle_in_plan xs = refl
 
+no_row_in_solved : (xs : List ℕ) → row_in told_text told_shape TOLD (codes " solved " ++ xs) ≡ None
+unfolding behind
+no_row_in_solved xs = refl
+
+no_cycle_in_solved : (xs : List ℕ) → behind (codes " refused cycle") (codes " solved " ++ xs) ≡ None
+unfolding behind
+no_cycle_in_solved xs = refl
+
+no_plan_in_solved : (xs ys : List ℕ) → codes " plan " ++ xs ≡ codes " solved " ++ ys → ⊥
+no_plan_in_solved xs ys e = let same : 112 ≡ 115 = ap (λ (l : List ℕ). get_or l 1 0) e in omega (arith, same)
+
 -- a plan's first line behind the number of its entry
 record BeginsPlan (line : List ℕ) : Type 0 where
   rest : List ℕ
@@ -136,6 +150,15 @@ record BeginsPlan (line : List ℕ) : Type 0 where
 begins_plan : (version : ℕ) (h : Heading) (line : List ℕ) → TellsPlan version h line → BeginsPlan line
 begins_plan version h line is =
     let front : front_text version h ≡ is.rest = append_cancel_right (front_text version h) is.rest line_end (sym (heading_spelled version h) ∙ is.heading.spelled) in
+    record { rest = _; is = ap (λ xs. codes " " ++ xs) front ∙ is.spelled }
+
+record BeginsSolved (line : List ℕ) : Type 0 where
+  rest : List ℕ
+  is : codes " solved " ++ rest ≡ line
+
+begins_solved : (version : ℕ) (h : SolvedHeading) (line : List ℕ) → TellsSolved version h line → BeginsSolved line
+begins_solved version h line is =
+    let front : solved_front h ≡ is.rest = append_cancel_right (solved_front h) is.rest line_end (sym (solved_spelled h) ∙ is.heading.spelled) in
     record { rest = _; is = ap (λ xs. codes " " ++ xs) front ∙ is.spelled }
 
 kind_or_cycle : (k : ToldKind) (a b : ℕ) (ids : List ActId) (line : List ℕ) → TellsKind k a b line → TellsCycle ids line → ⊥
@@ -150,6 +173,22 @@ cycle_or_plan : (version : ℕ) (ids : List ActId) (h : Heading) (line : List �
 cycle_or_plan version ids h line p q =
     let plan = begins_plan version h line q in
     none_some (sym (ap (behind (codes " refused cycle")) (sym plan.is) ∙ no_cycle_in_plan plan.rest) ∙ (ap (behind (codes " refused cycle")) (sym p.spelled) ∙ behind_back (codes " refused cycle") p.rest))
+
+kind_or_solved : (version : ℕ) (k : ToldKind) (a b : ℕ) (h : SolvedHeading) (line : List ℕ) → TellsKind k a b line → TellsSolved version h line → ⊥
+kind_or_solved version k a b h line p q =
+    let plan = begins_solved version h line q in
+    none_some (sym (ap (row_in told_text told_shape TOLD) (sym plan.is) ∙ no_row_in_solved plan.rest) ∙ told_row k a b line p)
+
+cycle_or_solved : (version : ℕ) (ids : List ActId) (h : SolvedHeading) (line : List ℕ) → TellsCycle ids line → TellsSolved version h line → ⊥
+cycle_or_solved version ids h line p q =
+    let plan = begins_solved version h line q in
+    none_some (sym (ap (behind (codes " refused cycle")) (sym plan.is) ∙ no_cycle_in_solved plan.rest) ∙ (ap (behind (codes " refused cycle")) (sym p.spelled) ∙ behind_back (codes " refused cycle") p.rest))
+
+plan_or_solved : (version : ℕ) (h : Heading) (g : SolvedHeading) (line : List ℕ) → TellsPlan version h line → TellsSolved version g line → ⊥
+plan_or_solved version h g line p q =
+    let plan = begins_plan version h line p in
+    let solved = begins_solved version g line q in
+    no_plan_in_solved plan.rest solved.rest (plan.is ∙ sym solved.is)
 
 cycle_tail : (xs ys : List ℕ) → codes " refused cycle" ++ xs ≡ codes " refused cycle" ++ ys → xs ≡ ys
 cycle_tail xs ys e = cc
@@ -168,18 +207,33 @@ heading_once version h g line p q =
     let both : Some h ≡ Some g = sym first ∙ second in
     cc
 
+solved_once : (version : ℕ) (h g : SolvedHeading) (line : List ℕ) → TellsSolved version h line → TellsSolved version g line → h ≡ g
+solved_once version h g line p q =
+    let rest = space_same p.rest q.rest (p.spelled ∙ sym q.spelled) in
+    let first : solved_heading_in q.rest ≡ Some h = ap solved_heading_in (sym rest) ∙ (reads_solved_heading p.rest).back h p.heading in
+    let second : solved_heading_in q.rest ≡ Some g = (reads_solved_heading q.rest).back g q.heading in
+    let both : Some h ≡ Some g = sym first ∙ second in
+    cc
+
 told_once : (version : ℕ) (t u : Told) (line : List ℕ) → IsToldLine version t line → IsToldLine version u line → t ≡ u
 told_once version (of_kind k a b) (of_kind j c d) line p q =
     let same = row_same k j a b c d (sym (told_row k a b line p) ∙ told_row j c d line q) in
     ap (λ (r : ToldKind × ℕ × ℕ). of_kind r.0 r.1 r.2) same
 told_once version (of_kind k a b) (of_cycle ids) line p q = absurd (kind_or_cycle k a b ids line p q)
 told_once version (of_kind k a b) (of_plan h) line p q = absurd (kind_or_plan version k a b h line p q)
+told_once version (of_kind k a b) (of_solved h) line p q = absurd (kind_or_solved version k a b h line p q)
 told_once version (of_cycle ids) (of_kind k a b) line p q = absurd (kind_or_cycle k a b ids line q p)
 told_once version (of_cycle ids) (of_cycle others) line p q = ap of_cycle (cycle_once ids others line p q)
 told_once version (of_cycle ids) (of_plan h) line p q = absurd (cycle_or_plan version ids h line p q)
+told_once version (of_cycle ids) (of_solved h) line p q = absurd (cycle_or_solved version ids h line p q)
 told_once version (of_plan h) (of_kind k a b) line p q = absurd (kind_or_plan version k a b h line q p)
 told_once version (of_plan h) (of_cycle ids) line p q = absurd (cycle_or_plan version ids h line q p)
 told_once version (of_plan h) (of_plan g) line p q = ap of_plan (heading_once version h g line p q)
+told_once version (of_plan h) (of_solved g) line p q = absurd (plan_or_solved version h g line p q)
+told_once version (of_solved h) (of_kind k a b) line p q = absurd (kind_or_solved version k a b h line q p)
+told_once version (of_solved h) (of_cycle ids) line p q = absurd (cycle_or_solved version ids h line q p)
+told_once version (of_solved h) (of_plan g) line p q = absurd (plan_or_solved version g h line q p)
+told_once version (of_solved h) (of_solved g) line p q = ap of_solved (solved_once version h g line p q)
 
 free_no_entry : (k : FreeKind) (xs : List ℕ) → number_behind largest_id [] (free_text k ++ xs) ≡ None
 unfolding behind number_in_front

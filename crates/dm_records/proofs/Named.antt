@@ -7,8 +7,8 @@ use Rattle.std.proofs.lemmas.List.Sums.{sum_by-append, sum_by-cons}
 use Rattle.dm_rows.specs.declared.messages.Entry.{Entry}
 use Rattle.dm_rows.specs.declared.messages.Message.{Message}
 use Rattle.dm_feed.specs.declared.grammar.Line.{Line}
-use Rattle.dm_feed.specs.declared.grammar.Line.TheVariants.{Say, Time as AskTime, CostNow as AskCost, Plan as AskPlan, Adopt as AskAdopt, Read as AskRead}
-use Rattle.dm_tree.specs.declared.plans.Plan.{Plan}
+use Rattle.dm_feed.specs.declared.grammar.Line.TheVariants.{Say, Time as AskTime, CostNow as AskCost, Plan as AskPlan, Solve as AskSolve, Adopt as AskAdopt, Read as AskRead}
+use Rattle.dm_tree.specs.declared.adopting.Chosen.{Chosen}
 use Rattle.dm_cert.specs.declared.replies.Reply.{Reply}
 use Rattle.dm_cert.specs.declared.replies.Reply.TheVariants as reply
 use Rattle.dm_cert.specs.declared.replies.LogItem.{LogItem}
@@ -24,7 +24,7 @@ pub record CameFrom (history : List Entry) (feed line n : ℕ) : Type 0 where
   pub message : Message
   pub entry : IsEntry history n (record { feed = feed; line = line; message = message })
 
-some_adopted : (history : List Entry) (feed line n : ℕ) (latest : Option Plan) → IsSomeAnd latest (λ plan. IsAdopted history feed line n plan) → CameFrom history feed line n
+some_adopted : (history : List Entry) (feed line n : ℕ) (latest : Option Chosen) → IsSomeAnd latest (λ plan. IsAdopted history feed line n plan) → CameFrom history feed line n
 some_adopted history feed line n None is = absurd is
 some_adopted history feed line n (Some plan) is = record { message = _; entry = is.entry }
 
@@ -33,6 +33,7 @@ accepted_from s history feed before line (Say message) n is = record { message =
 accepted_from s history feed before line (AskTime event) n is = absurd is
 accepted_from s history feed before line AskCost n is = absurd is
 accepted_from s history feed before line (AskPlan budget) n is = absurd is
+accepted_from s history feed before line (AskSolve budget) n is = absurd is
 accepted_from s history feed before line AskAdopt n is = some_adopted history feed line n (latest_plan before) is
 accepted_from s history feed before line AskRead n is = absurd is
 
@@ -48,6 +49,7 @@ answer_named s history feed before line said (reply.Time m t) n e is = no_name e
 answer_named s history feed before line said (reply.Cost m c) n e is = no_name e
 answer_named s history feed before line said (reply.Read m) n e is = no_name e
 answer_named s history feed before line said (reply.Planned plan) n e is = no_name e
+answer_named s history feed before line said (reply.Solved plan) n e is = no_name e
 answer_named s history feed before line said (reply.Old m) n e is = no_name e
 answer_named s history feed before line said reply.NoPlan n e is = no_name e
 answer_named s history feed before line said reply.Plans n e is = no_name e

@@ -1,5 +1,5 @@
 -- What stands in front of a text is one reply, item or stop alone.
-use Rattle.std.proofs.Common.{◌≡◌, ℕ, ◌≤◌, List, ◌++◌, Option, Some, None, All, refl, sym, ap, subst, ◌∙◌, arith, append_assoc, append-nil, codes}
+use Rattle.std.proofs.Common.{◌≡◌, ℕ, ◌≤◌, List, ◌++◌, Option, Some, None, All, get_or, refl, sym, ap, subst, ◌∙◌, arith, append_assoc, append-nil, codes}
 use Rattle.std.specs.List.{flat_map}
 use Rattle.std.specs.Fmt.{decimal}
 use Rattle.dm_base.specs.declared.ids.ActId.{ActId}
@@ -8,6 +8,7 @@ use Rattle.dm_text.proofs.Reading.{EndsNumber, behind_back, number_back}
 use Rattle.dm_rows.specs.declared.messages.Refusal.{Refusal}
 use Rattle.dm_rows.specs.declared.messages.Refusal.TheVariants as refusal
 use Rattle.dm_tree.specs.declared.plans.Plan.{Plan}
+use Rattle.dm_parts.specs.declared.parts.PlanByParts.{PlanByParts}
 use Rattle.dm_feed.specs.declared.feed.FeedStop.{FeedStop}
 use Rattle.dm_feed.specs.declared.feed.FeedStop.TheVariants as stop
 use Rattle.dm_feed.specs.declared.grammar.Line.{Line}
@@ -21,7 +22,10 @@ use Rattle.dm_cert.specs.PlanTexts.{line_end, largest_cost, spelling_of_plan, pl
 use Rattle.dm_cert.specs.PlanLaws.{IsHeld}
 use Rattle.dm_cert.specs.RunTexts.{reply_text, item_text, stop_text, spaced_id, IsSpelledReason, IsSpelledReply, IsSpelledItem, FitsReason, FitsReply, FitsItem}
 use Rattle.dm_cert.proofs.Options.{none_some, some_pair}
+use Rattle.dm_cert.specs.SolvedTexts.{spelling_of_solved, solved_heading, FitsSolved, IsSpelledSolved}
+use Rattle.dm_cert.specs.PlanLaws.{IsHeldSolved}
 use Rattle.dm_cert.proofs.SpelledPlans.{plans_have_own_texts}
+use Rattle.dm_cert.proofs.SpelledSolved.{solved_have_own_texts}
 use Rattle.dm_records.specs.RunLines.{IsFormedSaid}
 use Rattle.dm_records.specs.Laws.{IsHeldReply, IsHeldItem}
 use Rattle.dm_records.specs.declared.kinds.TheConstants.{SAID, TOLD, FREE}
@@ -39,11 +43,12 @@ use Rattle.dm_records.proofs.Splitting.{IsSame, Splits, FitsId, end_same, number
 
 -- ---- replies by what they tell
 
--- behind an entry's number: a kind with its numbers, a cycle, or a plan
+-- behind an entry's number: a kind with its numbers, a cycle, or a plan of either kind
 data Tail : Type 0 where
   of_kind : ToldKind → ℕ → ℕ → Tail
   of_cycle : List ActId → Tail
   of_plan : Plan → Tail
+  of_solved : PlanByParts → Tail
 
 -- at no entry, or at one
 data Form : Type 0 where
@@ -54,6 +59,7 @@ abbrev reply_at : ℕ → Tail → Reply
 reply_at n (of_kind k a b) = told_reply n k a b
 reply_at n (of_cycle ids) = refused_at n (refusal.Cycle ids)
 reply_at n (of_plan plan) = reply.Planned plan
+reply_at n (of_solved plan) = reply.Solved plan
 
 abbrev reply_in : Form → Reply
 reply_in (as_free k a b) = free_reply k a b
@@ -63,6 +69,7 @@ abbrev GoodTail : ℕ → Tail → Type 0
 GoodTail n (of_kind k a b) = NumbersFit (told_shape k) a b
 GoodTail n (of_cycle ids) = All FitsId ids
 GoodTail n (of_plan plan) = FitsPlan plan × IsHeld plan × (plan.entry ≡ n)
+GoodTail n (of_solved plan) = FitsSolved plan × IsSpelledSolved plan × IsHeldSolved plan × (plan.entry ≡ n)
 
 abbrev GoodForm : Form → Type 0
 GoodForm (as_free k a b) = NumbersFit (free_shape k) a b
@@ -96,6 +103,7 @@ form_of (reply.Time n x) s f h = kind_form n told.Time x 0 f.0 (omega (arith, f.
 form_of (reply.Cost n c) s f h = kind_form n told.Cost c 0 f.0 (f.1, refl)
 form_of (reply.Read n) s f h = kind_form n told.Read 0 0 f (refl, refl)
 form_of (reply.Planned plan) s f h = record { form = at_entry plan.entry (of_plan plan); is = refl; good = (f.0, (f.1, h, refl)) }
+form_of (reply.Solved plan) s f h = record { form = at_entry plan.entry (of_solved plan); is = refl; good = (f.0, (f.1, s, h, refl)) }
 form_of (reply.Old n) s f h = kind_form n told.Old 0 0 f (refl, refl)
 form_of reply.NoPlan s f h = record { form = as_free free.NoPlan 0 0; is = refl; good = (refl, refl) }
 form_of reply.Plans s f h = record { form = as_free free.Plans 0 0; is = refl; good = (refl, refl) }
@@ -107,6 +115,7 @@ abbrev tail_text : ℕ → Tail → List ℕ → List ℕ
 tail_text version (of_kind k a b) rest = told_text k ++ (numbers_text (told_shape k) a b ++ (line_end ++ rest))
 tail_text version (of_cycle ids) rest = codes " refused cycle" ++ (flat_map spaced_id ids ++ (line_end ++ rest))
 tail_text version (of_plan plan) rest = codes " " ++ (spelling_of_plan version plan ++ rest)
+tail_text version (of_solved plan) rest = codes " " ++ (spelling_of_solved plan ++ rest)
 
 abbrev form_text : ℕ → Form → List ℕ → List ℕ
 form_text version (as_free k a b) rest = free_text k ++ (numbers_text (free_shape k) a b ++ (line_end ++ rest))
@@ -122,6 +131,10 @@ plan_spelled : (version : ℕ) (plan : Plan) (rest : List ℕ) → reply_text ve
 unfolding reply_text
 plan_spelled version plan rest = simp (append_assoc, append-nil)
 
+solved_reply_spelled : (version : ℕ) (plan : PlanByParts) (rest : List ℕ) → reply_text version (reply.Solved plan) ++ rest ≡ decimal plan.entry ++ (codes " " ++ (spelling_of_solved plan ++ rest))
+unfolding reply_text
+solved_reply_spelled version plan rest = simp (append_assoc, append-nil)
+
 form_spelled : (version : ℕ) (f : Form) (rest : List ℕ) → GoodForm f → reply_text version (reply_in f) ++ rest ≡ form_text version f rest
 form_spelled version (as_free k a b) rest good = ap (λ xs. xs ++ rest) (free_spelled version k a b) ∙ three (free_text k) (numbers_text (free_shape k) a b) line_end rest
 form_spelled version (at_entry n (of_kind k a b)) rest good =
@@ -130,6 +143,8 @@ form_spelled version (at_entry n (of_cycle ids)) rest good =
     ap (λ xs. xs ++ rest) (cycle_spelled version n ids) ∙ four (decimal n) (codes " refused cycle") (flat_map spaced_id ids) line_end rest
 form_spelled version (at_entry n (of_plan plan)) rest good =
     plan_spelled version plan rest ∙ ap (λ m. decimal m ++ (codes " " ++ (spelling_of_plan version plan ++ rest))) good.1.2
+form_spelled version (at_entry n (of_solved plan)) rest good =
+    solved_reply_spelled version plan rest ∙ ap (λ m. decimal m ++ (codes " " ++ (spelling_of_solved plan ++ rest))) good.1.3
 
 -- ---- texts are told apart
 
@@ -172,10 +187,32 @@ no_cycle_in_plan : (version : ℕ) (plan : Plan) (rest : List ℕ) → behind (c
 unfolding behind spelling_of_plan plan_heading
 no_cycle_in_plan version plan rest = refl
 
+no_row_in_solved : (plan : PlanByParts) (rest : List ℕ) → row_in told_text told_shape TOLD (codes " " ++ (spelling_of_solved plan ++ rest)) ≡ None
+unfolding behind spelling_of_solved solved_heading
+no_row_in_solved plan rest = refl
+
+no_cycle_in_solved : (plan : PlanByParts) (rest : List ℕ) → behind (codes " refused cycle") (codes " " ++ (spelling_of_solved plan ++ rest)) ≡ None
+unfolding behind spelling_of_solved solved_heading
+no_cycle_in_solved plan rest = refl
+
+plan_letter : (version : ℕ) (plan : Plan) (rest : List ℕ) → get_or (codes " " ++ (spelling_of_plan version plan ++ rest)) 1 0 ≡ 112
+unfolding spelling_of_plan plan_heading
+plan_letter version plan rest = refl
+
+solved_letter : (plan : PlanByParts) (rest : List ℕ) → get_or (codes " " ++ (spelling_of_solved plan ++ rest)) 1 0 ≡ 115
+unfolding spelling_of_solved solved_heading
+solved_letter plan rest = refl
+
+-- the text of a plan of one kind is not that of the other kind
+plan_or_solved : (version : ℕ) (plan : Plan) (solved : PlanByParts) (rest more : List ℕ) → codes " " ++ (spelling_of_plan version plan ++ rest) ≡ codes " " ++ (spelling_of_solved solved ++ more) → ⊥
+plan_or_solved version plan solved rest more e =
+    let same : 112 ≡ 115 = sym (plan_letter version plan rest) ∙ (ap (λ (xs : List ℕ). get_or xs 1 0) e ∙ solved_letter solved more) in omega (arith, same)
+
 tail_ends : (version : ℕ) (t : Tail) (rest : List ℕ) → EndsNumber (tail_text version t rest)
 tail_ends version (of_kind k a b) rest = kind_ends k (numbers_text (told_shape k) a b ++ (line_end ++ rest))
 tail_ends version (of_cycle ids) rest = refl
 tail_ends version (of_plan plan) rest = refl
+tail_ends version (of_solved plan) rest = refl
 
 free_no_number : (k : FreeKind) (xs : List ℕ) → number_in_front largest_cost (free_text k ++ xs) ≡ None
 unfolding number_in_front
@@ -197,6 +234,8 @@ tails_split version n (of_kind k a b) (of_cycle ids) rest more p q e =
     absurd (none_some (sym (ap (row_in told_text told_shape TOLD) e ∙ no_row_in_cycle (flat_map spaced_id ids ++ (line_end ++ more))) ∙ told_row k a b rest p))
 tails_split version n (of_kind k a b) (of_plan plan) rest more p q e =
     absurd (none_some (sym (ap (row_in told_text told_shape TOLD) e ∙ no_row_in_plan version plan more) ∙ told_row k a b rest p))
+tails_split version n (of_kind k a b) (of_solved plan) rest more p q e =
+    absurd (none_some (sym (ap (row_in told_text told_shape TOLD) e ∙ no_row_in_solved plan more) ∙ told_row k a b rest p))
 tails_split version n (of_cycle ids) (of_kind j c d) rest more p q e =
     absurd (none_some (sym (ap (row_in told_text told_shape TOLD) (sym e) ∙ no_row_in_cycle (flat_map spaced_id ids ++ (line_end ++ rest))) ∙ told_row j c d more q))
 tails_split version n (of_cycle ids) (of_cycle others) rest more p q e =
@@ -204,6 +243,8 @@ tails_split version n (of_cycle ids) (of_cycle others) rest more p q e =
     record { value = ap of_cycle same.value; behind = same.behind }
 tails_split version n (of_cycle ids) (of_plan plan) rest more p q e =
     absurd (none_some (sym (ap (behind (codes " refused cycle")) e ∙ no_cycle_in_plan version plan more) ∙ behind_back (codes " refused cycle") (flat_map spaced_id ids ++ (line_end ++ rest))))
+tails_split version n (of_cycle ids) (of_solved plan) rest more p q e =
+    absurd (none_some (sym (ap (behind (codes " refused cycle")) e ∙ no_cycle_in_solved plan more) ∙ behind_back (codes " refused cycle") (flat_map spaced_id ids ++ (line_end ++ rest))))
 tails_split version n (of_plan plan) (of_kind j c d) rest more p q e =
     absurd (none_some (sym (ap (row_in told_text told_shape TOLD) (sym e) ∙ no_row_in_plan version plan rest) ∙ told_row j c d more q))
 tails_split version n (of_plan plan) (of_cycle ids) rest more p q e =
@@ -212,6 +253,16 @@ tails_split version n (of_plan plan) (of_plan other) rest more p q e =
     let same = plans_have_own_texts version plan other rest more p.0 q.0 p.1 q.1 (p.2 ∙ sym q.2)
     (plan_tail (spelling_of_plan version plan ++ rest) (spelling_of_plan version other ++ more) e) in
     record { value = ap of_plan same.plan; behind = same.behind }
+tails_split version n (of_plan plan) (of_solved solved) rest more p q e = absurd (plan_or_solved version plan solved rest more e)
+tails_split version n (of_solved solved) (of_plan plan) rest more p q e = absurd (plan_or_solved version plan solved more rest (sym e))
+tails_split version n (of_solved plan) (of_kind j c d) rest more p q e =
+    absurd (none_some (sym (ap (row_in told_text told_shape TOLD) (sym e) ∙ no_row_in_solved plan rest) ∙ told_row j c d more q))
+tails_split version n (of_solved plan) (of_cycle ids) rest more p q e =
+    absurd (none_some (sym (ap (behind (codes " refused cycle")) (sym e) ∙ no_cycle_in_solved plan rest) ∙ behind_back (codes " refused cycle") (flat_map spaced_id ids ++ (line_end ++ more))))
+tails_split version n (of_solved plan) (of_solved other) rest more p q e =
+    let same = solved_have_own_texts plan other rest more p.0 q.0 p.1 q.1 p.2 q.2 (p.3 ∙ sym q.3)
+    (plan_tail (spelling_of_solved plan ++ rest) (spelling_of_solved other ++ more) e) in
+    record { value = ap of_solved same.plan; behind = same.behind }
 
 number_of_entry : (version n : ℕ) (t : Tail) (rest : List ℕ) → n ≤ largest_id → number_in_front largest_cost (decimal n ++ tail_text version t rest) ≡ Some (n, tail_text version t rest)
 number_of_entry version n t rest low = number_back largest_cost n (tail_text version t rest) (omega (arith, low)) (omega arith) (tail_ends version t rest)

@@ -7,7 +7,7 @@ use Rattle.dm_text.specs.Inside.Parts.{number_in_front}
 use Rattle.dm_text.proofs.Reading.{EndsNumber, number_back}
 use Rattle.dm_text.proofs.Judged.{one_cut}
 use Rattle.dm_rows.specs.declared.messages.Message.{Message}
-use Rattle.dm_feed.specs.declared.vocabulary.Word.TheVariants.{Delay, Event, Activity, Pass, Recall, Keep, Drop, First, Now, Time, Cost, Read, Plan, Adopt}
+use Rattle.dm_feed.specs.declared.vocabulary.Word.TheVariants.{Delay, Event, Activity, Pass, Recall, Keep, Drop, First, Now, Time, Cost, Read, Plan, Solve, Adopt}
 use Rattle.dm_feed.specs.Parts.{Part, word, id, value, Fits, spelling_of_part, spaced, spelling_of_parts}
 use Rattle.dm_feed.specs.Lines.{parts_of_message, spelling_of_message}
 use Rattle.dm_feed.proofs.Messaging.{one_message}
@@ -111,6 +111,7 @@ part_no_feed (word Time) fits = refl
 part_no_feed (word Cost) fits = refl
 part_no_feed (word Read) fits = refl
 part_no_feed (word Plan) fits = refl
+part_no_feed (word Solve) fits = refl
 part_no_feed (word Adopt) fits = refl
 part_no_feed (id n) fits = no_feed_decimal n (omega (arith, fits))
 part_no_feed (value n) fits = no_feed_decimal n (omega (arith, fits))

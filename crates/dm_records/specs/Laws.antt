@@ -4,12 +4,12 @@ use Rattle.dm_network.specs.Net.{IsWithinLimits}
 use Rattle.dm_network.specs.Start.{IsNetwork}
 use Rattle.dm_rows.specs.Rows.{RowsValue}
 use Rattle.dm_cert.specs.declared.replies.Reply.{Reply}
-use Rattle.dm_cert.specs.declared.replies.Reply.TheVariants.{Planned}
+use Rattle.dm_cert.specs.declared.replies.Reply.TheVariants.{Planned, Solved}
 use Rattle.dm_cert.specs.declared.replies.LogItem.{LogItem}
 use Rattle.dm_cert.specs.declared.replies.LogItem.TheVariants.{Malformed, Answered}
 use Rattle.dm_cert.specs.declared.replies.FeedLog.{FeedLog}
 use Rattle.dm_cert.specs.PlanTexts.{IsVersion}
-use Rattle.dm_cert.specs.PlanLaws.{IsHeld}
+use Rattle.dm_cert.specs.PlanLaws.{IsHeld, IsHeldSolved}
 use Rattle.dm_cert.specs.RunTexts.{Run, run_text, FitsRun, IsSpelledRun}
 use Rattle.dm_cert.specs.Runs.{IsTextOf}
 use Rattle.dm_records.specs.RunLines.{IsNumberLine, IsVersionLine, IsEntryLine, IsOpeningLine, IsItemLine, IsStopLine, IsNoteLine, IsTimeLine}
@@ -36,6 +36,7 @@ pub record LinesSpellOne : Type 0 where
 -- memory holds the lists of a plan that is answered
 abbrev pub IsHeldReply : Reply → Type 0
 IsHeldReply (Planned plan) = IsHeld plan
+IsHeldReply (Solved plan) = IsHeldSolved plan
 IsHeldReply _ = Unit {0}
 
 abbrev pub IsHeldItem : LogItem → Type 0

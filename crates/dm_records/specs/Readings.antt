@@ -12,9 +12,10 @@ use Rattle.dm_records.specs.declared.answers.Answer.{Answer}
 use Rattle.dm_records.specs.declared.answers.Answer.TheVariants as answer
 use Rattle.dm_cert.specs.declared.replies.LogItem.TheVariants.{Malformed, Answered}
 use Rattle.dm_records.specs.declared.items.PlanLine.{PlanLine}
+use Rattle.dm_records.specs.declared.items.SolvedLine.{SolvedLine}
 use Rattle.dm_records.specs.declared.items.LogLine.{LogLine}
 use Rattle.dm_records.specs.declared.items.LogLine.TheVariants as log_line
-use Rattle.dm_records.specs.RunLines.{Numbered, LogOpening, Timed, ItemLine, lone, planned, PlanOpening}
+use Rattle.dm_records.specs.RunLines.{Numbered, LogOpening, Timed, ItemLine, lone, planned, solved, PlanOpening, SolvedOpening}
 use Rattle.dm_records.specs.declared.lines.EntryLine.{EntryLine}
 use Rattle.dm_records.specs.declared.lines.OpeningLine.{OpeningLine}
 use Rattle.dm_records.specs.declared.lines.NoteLine.{NoteLine}
@@ -75,7 +76,22 @@ opening_of p =
       size = p.size;
     }
 
+abbrev pub solved_opening_of : SolvedLine → SolvedOpening
+solved_opening_of s =
+    record {
+      line = s.line;
+      said = s.said;
+      entry = s.entry;
+      mark = s.mark;
+      cost = s.cost;
+      bound = s.bound;
+      choices = s.choices;
+      parts = s.parts;
+      nodes = s.nodes;
+    }
+
 abbrev pub item_of : LogLine → ItemLine
 item_of (log_line.Malformed line) = lone (Malformed line)
 item_of (log_line.Answered line said answer) = lone (Answered line said (reply_of answer))
 item_of (log_line.Planned plan) = planned (opening_of plan)
+item_of (log_line.Solved plan) = solved (solved_opening_of plan)

@@ -13,6 +13,8 @@ use Rattle.dm_feed.specs.declared.feed.FeedStop.{FeedStop}
 use Rattle.dm_feed.specs.declared.grammar.Line.{Line}
 use Rattle.dm_feed.specs.Parts.{Fits, largest_id}
 use Rattle.dm_feed.specs.Lines.{parts_of_line, parts_of_message, IsSpelledLine, spelling_of_line}
+use Rattle.dm_parts.specs.declared.parts.PlanByParts.{PlanByParts}
+use Rattle.dm_cert.specs.declared.solved_lines.SolvedHeading.{SolvedHeading}
 use Rattle.dm_cert.specs.declared.notes.Note.{Note}
 use Rattle.dm_tree.specs.declared.forms.Mark.{Mark}
 use Rattle.dm_cert.specs.declared.replies.Reply.{Reply}
@@ -21,7 +23,7 @@ use Rattle.dm_cert.specs.declared.replies.LogItem.{LogItem}
 use Rattle.dm_cert.specs.declared.replies.LogItem.TheVariants.{Malformed, Answered}
 use Rattle.dm_cert.specs.PlanTexts.{line_end, mark_text, largest_cost, IsVersion}
 use Rattle.dm_cert.specs.PlansRead.{size_words}
-use Rattle.dm_cert.specs.RunTexts.{entry_text, item_text, stop_text, note_text}
+use Rattle.dm_cert.specs.RunTexts.{entry_text, item_text, stop_text, note_text, KnowsLine, KnowsItem}
 
 -- ---- lines of a word and a number
 
@@ -82,6 +84,7 @@ IsFormedReply (reply.Time n x) = (n ≤ largest_id) × (x ≤ largest_cost)
 IsFormedReply (reply.Cost n c) = (n ≤ largest_id) × (c ≤ largest_cost)
 IsFormedReply (reply.Read n) = n ≤ largest_id
 IsFormedReply (reply.Planned plan) = ⊥
+IsFormedReply (reply.Solved plan) = ⊥
 IsFormedReply (reply.Old n) = n ≤ largest_id
 IsFormedReply reply.NoPlan = Unit {0}
 IsFormedReply reply.Plans = Unit {0}
@@ -116,10 +119,35 @@ pub record IsFormedOpening (opening : PlanOpening) : Type 0 where
   pub choices : opening.choices ≤ largest_cost
   pub size : opening.size ≤ largest_cost
 
--- the first line of an item: an item of one line, or the first line of a plan
+-- the first line of an item that answers with a plan by parts: how many lines of choices follow, how many parts, and how many
+-- nodes these have together
+pub record SolvedOpening : Type 0 where
+  pub line : ℕ
+  pub said : Line
+  pub entry : ℕ
+  pub mark : Mark
+  pub cost : ℕ
+  pub bound : ℕ
+  pub choices : ℕ
+  pub parts : ℕ
+  pub nodes : ℕ
+
+pub record IsFormedSolvedOpening (opening : SolvedOpening) : Type 0 where
+  pub line : opening.line ≤ largest_id
+  pub said : IsFormedSaid opening.said
+  pub entry : opening.entry ≤ largest_id
+  pub cost : opening.cost ≤ largest_cost
+  pub bound : opening.bound ≤ largest_cost
+  pub choices : opening.choices ≤ largest_cost
+  pub parts : opening.parts ≤ largest_cost
+  pub nodes : opening.nodes ≤ largest_cost
+  pub of_parts : opening.parts ≡ 0 → opening.nodes ≡ 0
+
+-- the first line of an item: an item of one line, or the first line of a plan of either kind
 pub data ItemLine : Type 0 where
   lone : LogItem → ItemLine
   planned : PlanOpening → ItemLine
+  solved : SolvedOpening → ItemLine
 
 abbrev pub opening_text : ℕ → PlanOpening → List ℕ
 opening_text version opening =
@@ -127,9 +155,37 @@ opening_text version opening =
     ∷ codes " plan " ∷ mark_text opening.mark ∷ codes " cost " ∷ decimal opening.cost ∷ codes " bound " ∷ decimal opening.bound
     ∷ codes " choices " ∷ decimal opening.choices ∷ size_words version ∷ decimal opening.size ∷ [])
 
+abbrev pub solved_opening_text : SolvedOpening → List ℕ
+solved_opening_text opening =
+    joined (decimal opening.line ∷ codes " " ∷ spelling_of_line opening.said ∷ codes " -> " ∷ decimal opening.entry
+    ∷ codes " solved " ∷ mark_text opening.mark ∷ codes " cost " ∷ decimal opening.cost ∷ codes " bound " ∷ decimal opening.bound
+    ∷ codes " choices " ∷ decimal opening.choices ∷ codes " parts " ∷ decimal opening.parts
+    ∷ codes " nodes " ∷ decimal opening.nodes ∷ [])
+
+-- what an item's first line says of the plan by parts behind it
+abbrev pub heading_of : SolvedOpening → SolvedHeading
+heading_of opening =
+    record {
+      mark = opening.mark;
+      cost = opening.cost;
+      bound = opening.bound;
+      choices = opening.choices;
+      parts = opening.parts;
+      nodes = opening.nodes;
+    }
+
+-- the item that answers with it
+abbrev pub solved_item : SolvedOpening → PlanByParts → LogItem
+solved_item opening plan = Answered opening.line opening.said (reply.Solved plan)
+
+-- version 1 has no words for plans by parts
 abbrev pub IsItemLine : ℕ → ItemLine → List ℕ → Type 0
-IsItemLine version (lone answered) line = (item_text version answered ≡ line ++ line_end) × IsFormedItem answered
-IsItemLine version (planned opening) line = (opening_text version opening ≡ line) × IsFormedOpening opening
+IsItemLine version (lone answered) line =
+    (item_text version answered ≡ line ++ line_end) × IsFormedItem answered × KnowsItem version answered
+IsItemLine version (planned opening) line =
+    (opening_text version opening ≡ line) × IsFormedOpening opening × KnowsLine version opening.said
+IsItemLine version (solved opening) line =
+    (solved_opening_text opening ≡ line) × IsFormedSolvedOpening opening × (version ≡ 2)
 
 -- how a log ends
 abbrev pub IsStopLine : FeedStop → List ℕ → Type 0

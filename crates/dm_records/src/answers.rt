@@ -4,13 +4,14 @@ ghost use Rattle.std.specs.Option.{option_map};
 ghost use Rattle.dm_records.specs.declared.kinds.TheConstants.{TOLD, FREE};
 ghost use Rattle.dm_records.specs.Inside.Fields.{row_in, whole, NumbersFit};
 ghost use Rattle.dm_records.specs.Inside.Kinds.{told_text, told_shape, told_reply, free_text, free_shape, free_reply};
-ghost use Rattle.dm_records.specs.Inside.Answers.{IsIds, IsNoIds, TellsPlan, TellsCycle, ReadsTold, ReadsAnswer, saying};
+ghost use Rattle.dm_records.specs.Inside.Answers.{IsIds, IsNoIds, TellsPlan, TellsSolved, TellsCycle, ReadsTold, ReadsAnswer, saying};
+ghost use Rattle.dm_cert.specs.PlanTexts.{IsVersion};
 ghost use Rattle.dm_records.specs.Readings.{IsRead, reply_of};
 
 use crate::fields::{LARGEST_ID, number_behind};
 use crate::kinds::{FreeKind, ToldKind, free_row, told_row};
 use dm_base::{ActId, Cost, EventId, Items};
-use dm_cert::{Heading, heading_in};
+use dm_cert::{Heading, SolvedHeading, heading_in, solved_heading_in};
 use dm_text::behind;
 use std::alloc::{AllocError, Global};
 
@@ -74,11 +75,12 @@ impl Drop for Answer {
     }
 }
 
-/// An answer of one line, or the first line of a plan for the rows at an entry.
+/// An answer of one line, or the first line of a plan of either kind for the rows at an entry.
 #[derive(Drop)]
 pub(crate) enum AnswerLine {
     Answer(Answer),
     Plan(u32, Heading),
+    Solved(u32, SolvedHeading),
 }
 
 /// The answer of this kind with these numbers, at an entry.
@@ -171,6 +173,20 @@ fn plan_line(version: u32, line: &[u8]) -> Option<Heading>
     heading_in(version, rest)
 }
 
+/// The line behind an entry's number as the first line of a plan by parts, which version 2 alone has.
+fn solved_line(version: u32, line: &[u8]) -> Option<SolvedHeading>
+    requires { IsVersion version }
+    ensures { IsRead (TellsSolved version) (λ h. h) line.now result }
+{
+    if version == 1 {
+        return None;
+    }
+    let Some(rest) = behind(line, " ") else {
+        return None;
+    };
+    solved_heading_in(rest)
+}
+
 /// The line behind an entry's number as a cycle.
 fn cycle_line(alloc: Global, line: &[u8]) -> Result<Option<Items<ActId>>, AllocError>
     ensures { IfOk result (IsRead TellsCycle (λ ids. ids) line.now) }
@@ -197,6 +213,7 @@ fn answer_at(
     entry: u32,
     line: &[u8],
 ) -> Result<Option<AnswerLine>, AllocError>
+    requires { IsVersion version }
     ensures { IfOk result (λ read. ReadsTold version entry line.now (option_map saying read)) }
 {
     if let Some(answer) = told_line(entry, line) {
@@ -204,6 +221,9 @@ fn answer_at(
     }
     if let Some(heading) = plan_line(version, line) {
         return Ok(Some(AnswerLine::Plan(entry, heading)));
+    }
+    if let Some(heading) = solved_line(version, line) {
+        return Ok(Some(AnswerLine::Solved(entry, heading)));
     }
     match cycle_line(alloc, line) {
         Ok(Some(ids)) => Ok(Some(AnswerLine::Answer(Answer::Refused(entry, Reason::Cycle(ids))))),
@@ -218,6 +238,7 @@ pub(crate) fn answer_line(
     version: u32,
     line: &[u8],
 ) -> Result<Option<AnswerLine>, AllocError>
+    requires { IsVersion version }
     ensures { IfOk result (λ read. ReadsAnswer version line.now (option_map saying read)) }
 {
     if let Some(answer) = free_line(line) {

@@ -3,7 +3,8 @@ ghost use Rattle.std.specs.Prelude.{◌≡◌, IfOk};
 ghost use Rattle.std.specs.Option.{option_map};
 ghost use Rattle.dm_records.specs.RunLines.{IsItemLine};
 ghost use Rattle.dm_records.specs.Inside.Fields.{NumbersFit};
-ghost use Rattle.dm_records.specs.Inside.Kinds.{said_shape, said_line};
+ghost use Rattle.dm_cert.specs.PlanTexts.{IsVersion};
+ghost use Rattle.dm_records.specs.Inside.Kinds.{said_shape, said_line, knows_kind};
 ghost use Rattle.dm_records.specs.Inside.Answers.{saying};
 ghost use Rattle.dm_records.specs.Inside.Items.{item_with, ReadsSaid};
 ghost use Rattle.dm_records.specs.Readings.{IsRead, item_of};
@@ -32,7 +33,22 @@ pub struct PlanLine {
     pub size: u128,
 }
 
-/// The first line of an item: a whole item of one line, or the first line of a plan.
+/// The first line of an item that answers with a plan by parts: how many lines of choices follow, how many parts, and how many
+/// nodes these have together.
+#[derive(Drop)]
+pub struct SolvedLine {
+    pub line: u32,
+    pub said: Line,
+    pub entry: u32,
+    pub mark: Mark,
+    pub cost: Cost,
+    pub bound: Cost,
+    pub choices: u128,
+    pub parts: u128,
+    pub nodes: u128,
+}
+
+/// The first line of an item: a whole item of one line, or the first line of a plan of either kind.
 #[derive(Drop)]
 pub enum LogLine {
     Malformed(u32),
@@ -42,6 +58,7 @@ pub enum LogLine {
         answer: Answer,
     },
     Planned(PlanLine),
+    Solved(SolvedLine),
 }
 
 /// The line of this kind with these numbers.
@@ -62,6 +79,7 @@ fn said_line(kind: SaidKind, one: u128, two: u128) -> Line
         SaidKind::Cost => Line::CostNow,
         SaidKind::Read => Line::Read,
         SaidKind::Plan => Line::Plan(one as u64),
+        SaidKind::Solve => Line::Solve(one as u64),
         SaidKind::Adopt => Line::Adopt,
     }
 }
@@ -82,6 +100,27 @@ fn log_line(line: u32, said: Line, answer: AnswerLine) -> LogLine
             choices: heading.choices,
             size: heading.size,
         }),
+        AnswerLine::Solved(entry, heading) => LogLine::Solved(SolvedLine {
+            line,
+            said,
+            entry,
+            mark: heading.mark,
+            cost: heading.cost,
+            bound: heading.bound,
+            choices: heading.choices,
+            parts: heading.parts,
+            nodes: heading.nodes,
+        }),
+    }
+}
+
+/// Whether a version has the words of a kind of line: version 1 has none for plans by parts.
+fn has_words(version: u32, kind: SaidKind) -> bool
+    ensures { result ≡ knows_kind version kind }
+{
+    match kind {
+        SaidKind::Solve => version != 1,
+        _ => true,
     }
 }
 
@@ -92,11 +131,15 @@ fn said_and_answered(
     number: u32,
     line: &[u8],
 ) -> Result<Option<LogLine>, AllocError>
+    requires { IsVersion version }
     ensures { IfOk result (λ read. ReadsSaid version number line.now (option_map item_of read)) }
 {
     let Some(((kind, one, two), rest)) = said_row(line) else {
         return Ok(None);
     };
+    if !has_words(version, kind) {
+        return Ok(None);
+    }
     let Some(rest) = behind(rest, " -> ") else {
         return Ok(None);
     };
@@ -109,6 +152,7 @@ fn said_and_answered(
 
 /// The first line of an item, in a version. `Err` is want of memory alone.
 pub fn item_line(alloc: Global, version: u32, line: &[u8]) -> Result<Option<LogLine>, AllocError>
+    requires { IsVersion version }
     ensures { IfOk result (IsRead (IsItemLine version) item_of line.now) }
 {
     let Some((number, rest)) = number_behind(line, "", LARGEST_ID) else {

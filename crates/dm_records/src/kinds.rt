@@ -42,6 +42,7 @@ pub(crate) enum SaidKind {
     Cost,
     Read,
     Plan,
+    Solve,
     Adopt,
 }
 
@@ -73,7 +74,7 @@ pub(crate) enum FreeKind {
 }
 
 /// Every kind of line.
-pub(crate) const SAID: [SaidKind; 13] = [
+pub(crate) const SAID: [SaidKind; 14] = [
     SaidKind::DelayEvent,
     SaidKind::DelayActivity,
     SaidKind::Pass,
@@ -86,6 +87,7 @@ pub(crate) const SAID: [SaidKind; 13] = [
     SaidKind::Cost,
     SaidKind::Read,
     SaidKind::Plan,
+    SaidKind::Solve,
     SaidKind::Adopt,
 ];
 
@@ -131,6 +133,7 @@ impl Kind for SaidKind {
             SaidKind::Cost => "cost",
             SaidKind::Read => "read",
             SaidKind::Plan => "plan ",
+            SaidKind::Solve => "solve ",
             SaidKind::Adopt => "adopt",
         }
     }
@@ -146,7 +149,7 @@ impl Kind for SaidKind {
             SaidKind::Recall | SaidKind::Keep | SaidKind::Drop | SaidKind::Time => {
                 Shape::Single(LARGEST_ID)
             }
-            SaidKind::Now | SaidKind::Plan => Shape::Single(LARGEST_VALUE),
+            SaidKind::Now | SaidKind::Plan | SaidKind::Solve => Shape::Single(LARGEST_VALUE),
             SaidKind::Cost | SaidKind::Read | SaidKind::Adopt => Shape::Bare,
         }
     }

@@ -12,7 +12,7 @@
 //!
 //! Laws, in [`laws`]:
 //!
-//! - `lines_spell_one`: a line of each kind spells one record alone.
+//! - `lines_spell_one`: in each version a line of each kind spells one record alone.
 //! - `runs_have_own_texts`: different runs over one network have different texts, where the runs have a spelling. One run has
 //!   different texts in the two versions. What follows a run's text does not change how it is read. All this holds for runs whose
 //!   lists are shorter than 2^64.
@@ -27,7 +27,7 @@ pub mod laws;
 mod lines;
 
 pub use answers::{Answer, Reason};
-pub use items::{LogLine, PlanLine, item_line};
+pub use items::{LogLine, PlanLine, SolvedLine, item_line};
 pub use lines::{
     EntryLine, NoteLine, OpeningLine, TimeLine, entry_line, is_word_line, note_line, number_line,
     opening_line, stop_line, time_line, version_line,

@@ -4,13 +4,15 @@ ghost use Rattle.std.specs.Fmt.{decimal};
 ghost use Rattle.std.specs.List.{flat_map};
 ghost use Rattle.dm_outside.specs.Printing.{Prints, joined};
 ghost use Rattle.dm_cert.specs.PlanTexts.{line_end, spelling_of_plan};
+ghost use Rattle.dm_cert.specs.SolvedTexts.{spelling_of_solved};
 ghost use Rattle.dm_cert.specs.RunTexts.{spaced_id, reason_text, reply_text, item_text, stop_text, log_text, logs_text, IsSpelledReason, IsSpelledReply, IsSpelledItem, IsSpelledLog};
 
 use crate::words::{put_labelled, put_number};
 use dm_base::ActId;
-use dm_cert::{FeedLog, LogItem, Reply, put_plan};
+use dm_cert::{FeedLog, LogItem, Reply, put_plan, put_solved};
 use dm_feed::{FeedStop, put_line};
 use dm_outside::{Page, Piece, Sink, WriteFault};
+use dm_parts::PlanByParts;
 use dm_rows::{At, Refusal};
 use dm_tree::Plan;
 
@@ -99,7 +101,22 @@ fn put_planned<K: Sink>(sink: &mut K, page: &mut Page, plan: &Plan) -> Result<()
     put_plan(sink, page, plan)
 }
 
-/// Prints an answer and its line end, and of a plan all its lines.
+/// Prints a plan by parts behind the entry that it is for.
+fn put_solution<K: Sink>(
+    sink: &mut K,
+    page: &mut Page,
+    plan: &PlanByParts,
+) -> Result<(), WriteFault>
+    ensures { Prints K.taken K.faults sink.old sink.new page.old page.new result
+        (joined (decimal plan.now.entry ∷ codes " " ∷ spelling_of_solved plan.now ∷ [])) }
+{
+    let Ok(()) = put_number(sink, page, "", plan.entry as u128, " ") else {
+        return Err(WriteFault);
+    };
+    put_solved(sink, page, plan)
+}
+
+/// Prints an answer and its line end, and of a plan of either kind all its lines.
 #[tactic(auto, unfolding(dm_cert::specs::RunTexts::reply_text))]
 fn put_reply<K: Sink>(sink: &mut K, page: &mut Page, reply: &Reply) -> Result<(), WriteFault>
     requires { IsSpelledReply reply.now }
@@ -118,6 +135,7 @@ fn put_reply<K: Sink>(sink: &mut K, page: &mut Page, reply: &Reply) -> Result<()
         }
         Reply::Read(n) => put_number(sink, page, "", *n as u128, " read\n"),
         Reply::Planned(plan) => put_planned(sink, page, plan),
+        Reply::Solved(plan) => put_solution(sink, page, plan),
         Reply::Old(n) => put_number(sink, page, "", *n as u128, " old\n"),
         Reply::NoPlan => page.put_bytes(sink, b"noplan\n"),
         Reply::Plans => page.put_bytes(sink, b"plans\n"),

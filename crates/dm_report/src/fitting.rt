@@ -3,11 +3,13 @@ ghost use Rattle.std.specs.Prelude.{◌≤◌, All};
 ghost use Rattle.dm_feed.specs.Parts.{Fits, largest_id, largest_value};
 ghost use Rattle.dm_feed.specs.Lines.{parts_of_line, parts_of_message};
 ghost use Rattle.dm_cert.specs.PlanTexts.{FitsDecision, FitsNode, FitsPlan};
+ghost use Rattle.dm_cert.specs.SolvedTexts.{FitsPartNode, FitsPart, FitsSolved};
 ghost use Rattle.dm_cert.specs.RunTexts.{FitsEntry, FitsItem, FitsLog, FitsNote, FitsReason, FitsReply};
 
 use dm_base::{ActId, EventId};
 use dm_cert::{FeedLog, LogItem, Note, Reply};
 use dm_feed::Line;
+use dm_parts::{Part, PartNode, PlanByParts};
 use dm_rows::{Choice, Decision, Entry, Message, Refusal};
 use dm_times::Times;
 use dm_tree::{Node, Plan};
@@ -99,7 +101,7 @@ fn line_fits(line: &Line)
     match line {
         Line::Say(message) => message_fits(message),
         Line::Time(event) => event_fits(event),
-        Line::Plan(value) => value_fits(value),
+        Line::Plan(value) | Line::Solve(value) => value_fits(value),
         Line::CostNow | Line::Adopt | Line::Read => {}
     }
 }
@@ -168,6 +170,65 @@ fn plan_fits(plan: &Plan)
     nodes_fit(plan.tree.as_slice());
 }
 
+fn arrivals_fit(ids: &[EventId])
+    ensures { All (λ e. e.0 ≤ largest_id) ids.now }
+{
+    for id in ids {
+        event_fits(id);
+    }
+}
+
+fn part_node_fits(node: &PartNode)
+    ensures { FitsPartNode node.now }
+{
+    match node {
+        PartNode::Inner(Choice::Change(act)) => activity_fits(act),
+        PartNode::Inner(Choice::Pair(small, large)) => {
+            event_fits(small);
+            event_fits(large);
+        }
+        PartNode::Leaf(cost) => {
+            let _cost = *cost;
+        }
+        PartNode::Cycle => {}
+    }
+}
+
+fn part_nodes_fit(nodes: &[PartNode])
+    ensures { All FitsPartNode nodes.now }
+{
+    for node in nodes {
+        part_node_fits(node);
+    }
+}
+
+fn part_fits(part: &Part)
+    ensures { FitsPart part.now }
+{
+    let _bound = part.bound;
+    arrivals_fit(part.share.arrivals.as_slice());
+    ids_fit(part.share.changes.as_slice());
+    part_nodes_fit(part.tree.as_slice());
+}
+
+fn parts_fit(parts: &[Part])
+    ensures { All FitsPart parts.now }
+{
+    for part in parts {
+        part_fits(part);
+    }
+}
+
+fn solved_fits(plan: &PlanByParts)
+    ensures { FitsSolved plan.now }
+{
+    let _cost = plan.cost;
+    let _bound = plan.bound;
+    let _rest = plan.rest;
+    decisions_fit(plan.choices.as_slice());
+    parts_fit(plan.parts.as_slice());
+}
+
 fn reply_fits(reply: &Reply)
     ensures { FitsReply reply.now }
 {
@@ -190,6 +251,10 @@ fn reply_fits(reply: &Reply)
         Reply::Planned(plan) => {
             let _entry = plan.entry;
             plan_fits(plan);
+        }
+        Reply::Solved(plan) => {
+            let _entry = plan.entry;
+            solved_fits(plan);
         }
         Reply::Range(value) => value_fits(value),
         Reply::NoPlan | Reply::Plans => {}

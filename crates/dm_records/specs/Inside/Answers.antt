@@ -5,16 +5,18 @@ use Rattle.std.specs.Fmt.{decimal}
 use Rattle.dm_base.specs.declared.ids.ActId.{ActId}
 use Rattle.dm_feed.specs.Parts.{largest_id}
 use Rattle.dm_cert.specs.declared.plan_lines.Heading.{Heading}
+use Rattle.dm_cert.specs.declared.solved_lines.SolvedHeading.{SolvedHeading}
 use Rattle.dm_cert.specs.declared.replies.Reply.{Reply}
 use Rattle.dm_cert.specs.PlanTexts.{line_end}
 use Rattle.dm_cert.specs.PlansRead.{IsHeadingLine}
+use Rattle.dm_cert.specs.SolvedRead.{IsSolvedHeadingLine}
 use Rattle.dm_cert.specs.RunTexts.{reply_text, spaced_id}
 use Rattle.dm_rows.specs.declared.messages.Refusal.TheVariants.{Cycle}
 use Rattle.dm_records.specs.RunLines.{IsFormedReply}
 use Rattle.dm_records.specs.Readings.{reply_of}
 use Rattle.dm_records.specs.declared.kinds.ToldKind.{ToldKind}
 use Rattle.dm_records.specs.declared.answers.AnswerLine.{AnswerLine}
-use Rattle.dm_records.specs.declared.answers.AnswerLine.TheVariants.{Answer, Plan}
+use Rattle.dm_records.specs.declared.answers.AnswerLine.TheVariants.{Answer, Plan, Solved}
 use Rattle.dm_records.specs.Inside.Fields.{numbers_text, NumbersFit}
 use Rattle.dm_records.specs.Inside.Kinds.{told_text, told_shape, told_reply, refused_at}
 
@@ -40,22 +42,25 @@ pub record IdsSoFar (bytes rest : List ℕ) (held : List ActId) : Type 0 where
 
 -- ---- answers
 
--- an answer of one line, or the first line of a plan for the rows at an entry
+-- an answer of one line, or the first line of a plan of either kind for the rows at an entry
 pub data Saying : Type 0 where
   answered : Reply → Saying
   opened : ℕ → Heading → Saying
+  opened_by_parts : ℕ → SolvedHeading → Saying
 
--- behind an entry's number: a kind with its numbers, a cycle, or the first line of a plan
+-- behind an entry's number: a kind with its numbers, a cycle, or the first line of a plan of either kind
 pub data Told : Type 0 where
   of_kind : ToldKind → ℕ → ℕ → Told
   of_cycle : List ActId → Told
   of_plan : Heading → Told
+  of_solved : SolvedHeading → Told
 
 -- what is told so at an entry
 abbrev pub told_at : ℕ → Told → Saying
 told_at n (of_kind k a b) = answered (told_reply n k a b)
 told_at n (of_cycle ids) = answered (refused_at n (Cycle ids))
 told_at n (of_plan h) = opened n h
+told_at n (of_solved h) = opened_by_parts n h
 
 pub record TellsKind (k : ToldKind) (a b : ℕ) (line : List ℕ) : Type 0 where
   pub spelled : told_text k ++ numbers_text (told_shape k) a b ≡ line
@@ -72,11 +77,19 @@ pub record TellsPlan (version : ℕ) (h : Heading) (line : List ℕ) : Type 0 wh
   pub spelled : codes " " ++ rest ≡ line
   pub heading : IsHeadingLine version h rest
 
+-- in version 2 alone
+pub record TellsSolved (version : ℕ) (h : SolvedHeading) (line : List ℕ) : Type 0 where
+  pub rest : List ℕ
+  pub spelled : codes " " ++ rest ≡ line
+  pub heading : IsSolvedHeadingLine h rest
+  pub known : version ≡ 2
+
 -- the line behind an entry's number tells this
 abbrev pub IsToldLine : ℕ → Told → List ℕ → Type 0
 IsToldLine version (of_kind k a b) line = TellsKind k a b line
 IsToldLine version (of_cycle ids) line = TellsCycle ids line
 IsToldLine version (of_plan h) line = TellsPlan version h line
+IsToldLine version (of_solved h) line = TellsSolved version h line
 
 -- a plan's first line in an answer
 pub record OpensPlan (version n : ℕ) (h : Heading) (line : List ℕ) : Type 0 where
@@ -85,10 +98,18 @@ pub record OpensPlan (version n : ℕ) (h : Heading) (line : List ℕ) : Type 0 
   pub fits : n ≤ largest_id
   pub heading : IsHeadingLine version h rest
 
+pub record OpensSolved (version n : ℕ) (h : SolvedHeading) (line : List ℕ) : Type 0 where
+  pub rest : List ℕ
+  pub spelled : decimal n ++ (codes " " ++ rest) ≡ line
+  pub fits : n ≤ largest_id
+  pub heading : IsSolvedHeadingLine h rest
+  pub known : version ≡ 2
+
 -- the line is this answer, or opens this plan
 abbrev pub IsAnswerLine : ℕ → Saying → List ℕ → Type 0
 IsAnswerLine version (answered r) line = (reply_text version r ≡ line ++ line_end) × IsFormedReply r
 IsAnswerLine version (opened n h) line = OpensPlan version n h line
+IsAnswerLine version (opened_by_parts n h) line = OpensSolved version n h line
 
 -- what is read behind an entry's number is told there, and where nothing is read nothing is told
 pub record IsToldAs (version n : ℕ) (line : List ℕ) (s : Saying) : Type 0 where
@@ -108,3 +129,4 @@ ReadsAnswer version line None = (s : Saying) → IsAnswerLine version s line →
 abbrev pub saying : AnswerLine → Saying
 saying (Answer a) = answered (reply_of a)
 saying (Plan n h) = opened n h
+saying (Solved n h) = opened_by_parts n h

@@ -1,5 +1,5 @@
 -- The kinds of lines that feeds say, and of answers: their words and their numbers.
-use Rattle.std.specs.Prelude.{ℕ, List, codes}
+use Rattle.std.specs.Prelude.{ℕ, ◌==◌, not, Bool, true, List, codes}
 use Rattle.dm_base.specs.declared.ids.EventId.{EventId}
 use Rattle.dm_base.specs.declared.ids.ActId.{ActId}
 use Rattle.dm_rows.specs.declared.messages.Message.TheVariants as message
@@ -42,6 +42,7 @@ said_text said.Time = codes "time "
 said_text said.Cost = codes "cost"
 said_text said.Read = codes "read"
 said_text said.Plan = codes "plan "
+said_text said.Solve = codes "solve "
 said_text said.Adopt = codes "adopt"
 
 abbrev pub said_shape : SaidKind → Shape
@@ -57,6 +58,7 @@ said_shape said.Time = Single largest_id
 said_shape said.Cost = Bare
 said_shape said.Read = Bare
 said_shape said.Plan = Single largest_value
+said_shape said.Solve = Single largest_value
 said_shape said.Adopt = Bare
 
 -- the line of this kind with these numbers
@@ -73,7 +75,13 @@ said_line said.Time a b = line.Time (event a)
 said_line said.Cost a b = line.CostNow
 said_line said.Read a b = line.Read
 said_line said.Plan a b = line.Plan a
+said_line said.Solve a b = line.Solve a
 said_line said.Adopt a b = line.Adopt
+
+-- version 1 has no word for plans by parts
+abbrev pub knows_kind : ℕ → SaidKind → Bool
+knows_kind version said.Solve = not (version == 1)
+knows_kind version _ = true
 
 -- ---- answers at an entry, behind its number
 
