@@ -27,6 +27,40 @@ impl Gains {
     }
 }
 
+/// What a choice gained where it was tried, added up.
+#[derive(Clone, Copy)]
+pub struct Tries {
+    first: Cost,
+    second: Cost,
+    many: Cost,
+}
+
+impl Tries {
+    /// It was never tried.
+    pub fn none() -> Tries {
+        Tries {
+            first: 0,
+            second: 0,
+            many: 0,
+        }
+    }
+
+    /// Adds gains, none of which counts for more than the cap.
+    pub fn add(&mut self, gains: Gains, cap: Cost) {
+        self.first = self.first.saturating_add(gains.first.min(cap));
+        self.second = self.second.saturating_add(gains.second.min(cap));
+        self.many = self.many.saturating_add(1);
+    }
+
+    /// The mean of what it gained, if it was tried.
+    pub fn gains(&self) -> Option<Gains> {
+        Some(Gains {
+            first: self.first.checked_div(self.many)?,
+            second: self.second.checked_div(self.many)?,
+        })
+    }
+}
+
 /// Tries both sides of a choice where the share costs so much.
 pub fn try_both(mover: &mut Mover<'_>, number: usize, cost: Cost) -> Gains {
     let first = mover.share_cost_with(number, Side::First);

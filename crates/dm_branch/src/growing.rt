@@ -1,6 +1,6 @@
 //! A part, and its tree that grows.
 
-use crate::gaining::{Gains, try_both};
+use crate::gaining::{Gains, Tries, try_both};
 use dm_base::Cost;
 use dm_probe::{Mover, Share, Side};
 use std::alloc::{AllocError, Global};
@@ -35,14 +35,25 @@ type Open = (Cost, usize);
 /// How much a choice promises, as what is missing to the most, and its place among those of a part.
 type Promise = (Cost, usize);
 
+/// What a tree was before it was widened.
+#[derive(Clone, Copy)]
+pub struct Narrow {
+    nodes: usize,
+    candidates: usize,
+    best: Cost,
+    solved: Option<usize>,
+    bound: Cost,
+    is_done: bool,
+}
+
 /// Some terms of the cost, and a tree over choices that move them.
 pub struct Part {
     pub(crate) alloc: Global,
     pub(crate) share: Share,
 
-    /// The numbers of the choices on which the tree may branch, and what each gained when it was tried last.
+    /// The numbers of the choices on which the tree may branch, and what each gained when it was tried.
     pub(crate) candidates: Vec<usize>,
-    gains: Vec<Option<Gains>>,
+    tries: Vec<Tries>,
     pub(crate) nodes: Vec<Grown>,
     open: BinaryHeap<Open>,
 
@@ -68,7 +79,7 @@ impl Drop for Part {
             alloc: _,
             share: _,
             candidates: _,
-            gains: _,
+            tries: _,
             nodes: _,
             open: _,
             here: _,
@@ -88,7 +99,7 @@ impl Part {
         Ok(Part {
             alloc,
             share,
-            gains: vec![in alloc; None; candidates.len()]?,
+            tries: vec![in alloc; Tries::none(); candidates.len()]?,
             candidates,
             nodes: Vec::new(alloc),
             open: BinaryHeap::new(alloc),
@@ -125,6 +136,54 @@ impl Part {
     /// How much the bound lies below what the share costs in the plan.
     pub fn gap(&self) -> Cost {
         self.planned.saturating_sub(self.bound)
+    }
+
+    /// Has the tree branch on other choices too, none of which it could branch on before. Whether it shows more is open again.
+    pub fn widen(&mut self, more: &[usize]) -> Result<Narrow, AllocError> {
+        let narrow = Narrow {
+            nodes: self.nodes.len(),
+            candidates: self.candidates.len(),
+            best: self.best,
+            solved: self.solved,
+            bound: self.bound,
+            is_done: self.is_done,
+        };
+        self.candidates.extend_from_slice(more)?;
+        self.tries.resize(self.candidates.len(), Tries::none())?;
+        self.solved = None;
+        self.best = self.planned;
+        self.is_done = false;
+        Ok(narrow)
+    }
+
+    /// Takes the tree back to what it was before it was widened.
+    pub fn narrow(&mut self, narrow: &Narrow) -> Result<(), AllocError> {
+        self.nodes.truncate(narrow.nodes);
+        self.candidates.truncate(narrow.candidates);
+        self.tries.truncate(narrow.candidates);
+        for grown in self.nodes.iter_mut() {
+            if grown.below.is_some_and(|below| below >= narrow.nodes) {
+                grown.below = None;
+                grown.choice = None;
+            }
+        }
+        self.best = narrow.best;
+        self.solved = narrow.solved;
+        self.bound = narrow.bound;
+        self.is_done = narrow.is_done;
+        self.open_leaves()
+    }
+
+    /// Opens each leaf whose path makes no cycle, and nothing else.
+    fn open_leaves(&mut self) -> Result<(), AllocError> {
+        self.open.clear();
+        for (node, grown) in self.nodes.iter().enumerate() {
+            if grown.choice.is_none() && !grown.is_cycle {
+                self.open
+                    .push((Cost::MAX.saturating_sub(grown.cost), node))?;
+            }
+        }
+        Ok(())
     }
 
     /// Whether the bound is the least cost of the share, or the tree cannot show more.
@@ -279,9 +338,9 @@ impl Part {
         Ok(places)
     }
 
-    /// How much a choice promises by its last gains. It is tried if it never was.
+    /// How much a choice promises by what it gained before. It is tried if it never was.
     fn promise(&mut self, mover: &mut Mover<'_>, place: usize, cost: Cost) -> Cost {
-        let gains = self.gains.get(place).copied().flatten();
+        let gains = self.tries.get(place).and_then(|tries| tries.gains());
         match gains {
             Some(gains) => gains.promise(self.best.saturating_sub(cost)),
             None => self.try_at(mover, place, cost),
@@ -294,14 +353,11 @@ impl Part {
             return 0;
         };
         let gains = try_both(mover, number, cost);
-        self.learn(place, gains);
-        gains.promise(self.best.saturating_sub(cost))
-    }
-
-    fn learn(&mut self, place: usize, gains: Gains) {
-        if let Some(slot) = self.gains.get_mut(place) {
-            *slot = Some(gains);
+        let cap = self.best;
+        if let Some(tries) = self.tries.get_mut(place) {
+            tries.add(gains, cap);
         }
+        gains.promise(cap.saturating_sub(cost))
     }
 
     fn try_anew(&mut self, mover: &mut Mover<'_>, promises: &mut [Promise], cost: Cost) {
@@ -327,7 +383,10 @@ impl Part {
         }
         let first = self.child(mover, node, number, Side::First)?;
         let second = self.child(mover, node, number, Side::Second)?;
-        self.learn(place, Gains::over(cost, first, second));
+        let cap = self.best;
+        if let Some(tries) = self.tries.get_mut(place) {
+            tries.add(Gains::over(cost, first, second), cap);
+        }
         Ok(())
     }
 

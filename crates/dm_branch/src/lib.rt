@@ -12,6 +12,7 @@
 //! - [`Part::plan_at`] says what a plan costs over the share. No leaf that costs as much is branched on.
 //! - [`Part::grow`] expands the cheapest leaf first, while the tree has room for two nodes more. Where nothing is violated at the
 //!   cheapest leaf, or it costs no less than the best that is known, the part is done.
+//! - [`Part::widen`] has the tree branch on other choices too. [`Part::narrow`] takes it back to what it was before.
 //! - [`Part::stand_at`] brings a mover to a leaf, and [`Part::leave`] brings it back to the root.
 //! - [`Part::tell`] gives the tree in preorder, with the terms that some leaf moves, or None where it is a single leaf.
 #![tactic(auto)]
@@ -21,5 +22,5 @@ mod growing;
 mod telling;
 mod walking;
 
-pub use growing::Part;
+pub use growing::{Narrow, Part};
 pub use telling::{PartTree, TreeNode};

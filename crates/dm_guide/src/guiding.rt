@@ -103,7 +103,7 @@ fn find_here(scout: &mut Scout<'_>, found: &mut Found) -> Result<(), AllocError>
 }
 
 /// Decides each choice as these choices say, and the others as the rows have them.
-fn take_over(scout: &mut Scout<'_>, choices: &[Decision]) -> Result<(), AllocError> {
+pub fn take_over(scout: &mut Scout<'_>, choices: &[Decision]) -> Result<(), AllocError> {
     for decision in choices {
         let number = scout.choices().find(scout.net(), decision.choice());
         if let Some(i) = number {

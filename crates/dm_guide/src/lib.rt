@@ -31,6 +31,11 @@
 //! each violated choice, and makes the choices better some at a time. It grows the tree where its bound is least, and branches
 //! where the cost is known to rise most. It asks that the caller's way to run a round may be called at any round. A caller that
 //! runs no round, or a part of one, is answered too.
+//!
+//! `Polisher`: one who stands at choices and, where some of them were turned, makes those near them better.
+//!
+//! - `new` makes it of a task, an evaluator of the task's network and choices.
+//! - `polish` turns choices, looks for better ones by windows around them, and stays there if that costs less than before.
 #![tactic(auto)]
 
 mod choices;
@@ -44,6 +49,7 @@ mod moving;
 mod noting;
 mod parts;
 mod places;
+mod polishing;
 mod rounds;
 mod scouting;
 mod searchers;
@@ -54,6 +60,7 @@ mod tree;
 mod windows;
 
 pub use guiding::{Start, guide, in_turn};
+pub use polishing::Polisher;
 pub use rounds::Round;
 pub use searchers::Searcher;
 pub use tasks::Task;

@@ -160,12 +160,19 @@ impl<'a> Scout<'a> {
     /// The decisions with which every path begins, and then those that were made behind them, by number.
     pub fn path(&self) -> Result<Vec<Decision>, AllocError> {
         let mut path = Vec::from_slice(self.alloc, self.base)?;
+        path.extend_from_slice(&self.decisions()?)?;
+        Ok(path)
+    }
+
+    /// The decisions that were made behind the base, by number.
+    pub fn decisions(&self) -> Result<Vec<Decision>, AllocError> {
+        let mut decisions = Vec::new(self.alloc);
         for i in 0..self.choices.len() {
             if let (Some(choice), Some(side)) = (self.choices.choice(i), self.side(i)) {
-                path.push(decision_for(choice, side))?;
+                decisions.push(decision_for(choice, side))?;
             }
         }
-        Ok(path)
+        Ok(decisions)
     }
 
     /// What the path costs when relaxed.
@@ -543,6 +550,12 @@ impl<'a> Scout<'a> {
             Some(Choice::Pair(_, _)) => self.is_unmet(i, Side::Second),
             Some(Choice::Change(_)) | None => true,
         }
+    }
+
+    /// Whether the times meet what binds on the first side of a choice.
+    pub fn keeps_first(&mut self, i: usize) -> bool {
+        self.mover.settle();
+        !self.is_unmet(i, Side::First)
     }
 
     /// Whether the times do not meet what binds on a side.

@@ -168,7 +168,7 @@ impl<'t> Searcher<'t> {
 }
 
 /// Has each choice stand on its side of these.
-fn stand_at(scout: &mut Scout<'_>, sides: &[Option<Side>]) -> Result<(), AllocError> {
+pub fn stand_at(scout: &mut Scout<'_>, sides: &[Option<Side>]) -> Result<(), AllocError> {
     for i in 0..sides.len() {
         if scout.side(i) != sides[i] {
             scout.undecide(i)?;

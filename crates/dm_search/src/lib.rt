@@ -20,9 +20,10 @@
 //! `step_to` says what `step` does with a path behind the base of a task, in the time that an evaluator takes to go there from
 //! where it is. `step_by` does the same with a hint: it branches on the hinted choice where that one is violated, and otherwise
 //! on the first. `step_along` lets an evaluator make the decisions of a path behind the base one by one: all of them, or those
-//! before the first whose choice is not open or which makes a cycle. It says what `step` does where it arrives.
-//! `evaluator_at_base` makes such an evaluator. `searcher_at` makes a guide's searcher with one of its own; nothing is promised of
-//! it. `BoundWord` and `Hand` are those of dm_bound: a word that several searches lower.
+//! before the first whose choice is not open or which makes a cycle. It says what `step` does where it arrives. `walk` brings an
+//! evaluator to a path, or says that the relaxed problem of the path has a cycle. `evaluator_at_base` makes such an evaluator.
+//! `searcher_at` makes a guide's searcher with one of its own; nothing is promised of it. `BoundWord` and `Hand` are those of
+//! dm_bound: a word that several searches lower.
 //!
 //! A guide finds good choices and a tree that tells much. The search then goes through the tree in preorder, and judges each node
 //! anew by an evaluator that is brought from path to path. It spends what is left of the budget on the leaves that cost least, in
@@ -48,3 +49,4 @@ pub use dm_guide::Task;
 pub use finishing::{finish, finish_with, plan, plan_task, plan_with, whole};
 pub use moving::{evaluator_at_base, searcher_at, step_along, step_by, step_to};
 pub use steps::{Outcome, step};
+pub use walking::walk;

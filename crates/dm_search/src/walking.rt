@@ -154,7 +154,7 @@ fn violated_with<L: Ledger>(
 
 /// Brings a task's evaluator to a path behind the base: decisions are taken back from the end of its own path down to what both
 /// have in front, and the others of the path are made. It is refused where the relaxed problem of the path has a cycle.
-fn walk(task: &Task<'_>, evaluator: &mut Evaluator, path: &[Decision]) -> Result<(), Cyclic>
+pub fn walk(task: &Task<'_>, evaluator: &mut Evaluator, path: &[Decision]) -> Result<(), Cyclic>
     requires posed { IsPosedTask task.now }
     requires evaluator { IsOver (task_of task.now) evaluator.old }
     requires list { IsChoiceList task.now.net.now task.now.rows.now (task.now.base.now ++ path.now) }

@@ -1,0 +1,1 @@
+-- Nothing is promised of the parts that are found.

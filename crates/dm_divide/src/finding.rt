@@ -1,0 +1,226 @@
+//! Parts for a plan.
+ghost use Rattle.std.specs.Prelude.{◌≤◌};
+ghost use Rattle.dm_base.specs.declared.limits.TheConstants.{PENALTY};
+ghost use Rattle.dm_evaluate.specs.Evaluator.{IsEvaluatorOf};
+ghost use Rattle.dm_guide.specs.Tasks.{IsPosedTask};
+
+use crate::growing::Growth;
+use crate::standing::Standing;
+use dm_base::Cost;
+use dm_branch::PartTree;
+use dm_evaluate::Evaluator;
+use dm_guide::{Polisher, Task};
+use dm_network::Network;
+use dm_probe::{Choices, FreeChoice, Mover, Share, Side, decision_for};
+use dm_rows::Decision;
+use std::alloc::{AllocError, Global};
+
+/// Parts whose bounds tell much, and choices that are good. Nothing is promised of them.
+pub struct Found {
+    /// The trees of the parts that have more than one node. No term is in two shares.
+    pub trees: Vec<PartTree>,
+
+    /// The decisions of a good plan that hold its times or cost something. What they leave open, its times keep.
+    pub choices: Vec<Decision>,
+}
+
+impl Drop for Found {
+    fn drop(self) {
+        let Found {
+            trees: _,
+            choices: _,
+        } = self;
+    }
+}
+
+/// How many legs of a train make an atom, one number after the other, where trains fall into few parts and their bound lies far
+/// below the cost.
+const LEGS: [usize; 2] = [6, 4];
+
+const FEW: usize = 16;
+
+/// A bound is near where less than the cost by this part of it.
+const NEAR: Cost = 2_000;
+
+/// Parts for a task and a plan, whose trees have as many nodes together as the task's budget allows, at most. The plan's choices
+/// are those that differ from the rows. Three evaluators have decided the task's base, and nothing else.
+pub fn parts_for(
+    task: &Task<'_>,
+    plan: &[Decision],
+    first: Evaluator,
+    second: Evaluator,
+    third: Evaluator,
+) -> Result<Found, AllocError>
+    requires posed { IsPosedTask task.now }
+    requires first { IsEvaluatorOf task.now.net.now first }
+    requires second { IsEvaluatorOf task.now.net.now second }
+    requires third { IsEvaluatorOf task.now.net.now third }
+{
+    let alloc = task.alloc;
+    let choices = Choices::of(alloc, task.net, &first)?;
+    let terms = Share::of_all(alloc, task.net, &first, &choices)?;
+    let relaxed = mover_at_root(alloc, task.net, task.penalty, &choices, first)?;
+    let whole = mover_at_root(alloc, task.net, task.penalty, &choices, second)?;
+    let polisher = Polisher::new(task, third, plan)?;
+    let mut standing = Standing::new(alloc, relaxed, whole, polisher);
+    go_to(&mut standing.whole, plan);
+    let trees = trees_for(&mut standing, &terms, task.budget as usize)?;
+    let choices = choices_in(&mut standing)?;
+    Ok(Found { trees, choices })
+}
+
+/// A mover with the priced timetable of an evaluator that has decided a task's base, and nothing else.
+fn mover_at_root<'a>(
+    alloc: Global,
+    net: &'a Network,
+    penalty: u64,
+    choices: &'a Choices,
+    evaluator: Evaluator,
+) -> Result<Mover<'a>, AllocError>
+    requires penalty { penalty ≤ PENALTY }
+    requires evaluator { IsEvaluatorOf net.now evaluator }
+{
+    Mover::new(alloc, net, penalty, choices, evaluator.into_priced())
+}
+
+/// The best parts so far.
+struct Best {
+    trees: Vec<PartTree>,
+    bound: Cost,
+}
+
+impl Drop for Best {
+    fn drop(self) {
+        let Best { trees: _, bound: _ } = self;
+    }
+}
+
+impl Best {
+    /// Whether the plan costs hardly more than the bound.
+    fn is_near(&self, cost: Cost) -> bool {
+        cost.saturating_sub(self.bound).saturating_mul(NEAR) <= cost
+    }
+
+    fn into_trees(self) -> Vec<PartTree> {
+        let Best { trees, bound: _ } = self;
+        trees
+    }
+
+    /// How many nodes the trees have.
+    fn nodes(&self) -> usize {
+        let mut nodes = 0_usize;
+        for tree in &self.trees {
+            nodes = nodes.saturating_add(tree.nodes.len());
+        }
+        nodes
+    }
+
+    /// Divides the terms anew, and takes the parts if their bound is greater.
+    fn try_parts(
+        &mut self,
+        standing: &mut Standing<'_>,
+        terms: &Share,
+        legs: Option<usize>,
+        budget: usize,
+    ) -> Result<(), AllocError> {
+        standing.divide(terms, legs)?;
+        grow(standing, budget)?;
+        let bound = standing.bound();
+        if bound > self.bound {
+            self.trees = trees_in(standing)?;
+            self.bound = bound;
+        }
+        Ok(())
+    }
+}
+
+/// The trees of those parts of which the bound is greatest.
+fn trees_for(
+    standing: &mut Standing<'_>,
+    terms: &Share,
+    budget: usize,
+) -> Result<Vec<PartTree>, AllocError> {
+    let mut best = Best {
+        trees: Vec::new(standing.alloc),
+        bound: 0,
+    };
+    let begun = standing.whole.cost();
+    best.try_parts(standing, terms, None, budget)?;
+    let are_few = best.trees.len() <= FEW;
+    for legs in LEGS {
+        if are_few && !best.is_near(standing.cost) {
+            best.try_parts(standing, terms, Some(legs), budget)?;
+        }
+    }
+    // The plan may be better than that of which trains were divided at first.
+    let has_room = are_few || best.nodes() <= budget / 4 * 3;
+    if has_room && standing.cost < begun && best.bound < standing.cost {
+        best.try_parts(standing, terms, None, budget)?;
+    }
+    Ok(best.into_trees())
+}
+
+/// Solves the parts, and has them grow into each other.
+fn grow(standing: &mut Standing<'_>, budget: usize) -> Result<(), AllocError> {
+    let mut growth = Growth::new(standing, budget);
+    growth.solve_all(standing)?;
+    growth.grow_all(standing)?;
+    growth.widen_all(standing)?;
+    growth.finish(standing)
+}
+
+/// Decides each choice as the plan does, or else as the rows have it.
+fn go_to(whole: &mut Mover<'_>, plan: &[Decision]) {
+    let choices = whole.choices();
+    let mut next = 0_usize;
+    for number in 0..choices.len() {
+        if let Some(free) = choices.get(number) {
+            let planned = planned_side(&free, plan.get(next).copied());
+            if planned.is_some() {
+                next = next.saturating_add(1);
+            }
+            let _decided = whole.decide(number, planned.unwrap_or(free.own));
+        }
+    }
+}
+
+/// The side on which a decision has a choice, if it decides this one.
+pub fn planned_side(free: &FreeChoice, decision: Option<Decision>) -> Option<Side> {
+    match decision {
+        Some(decision) if decision.choice().is_same(free.choice) => {
+            if decision.is_first() {
+                Some(Side::First)
+            } else {
+                Some(Side::Second)
+            }
+        }
+        _ => None,
+    }
+}
+
+fn trees_in(standing: &mut Standing<'_>) -> Result<Vec<PartTree>, AllocError> {
+    let mut trees = Vec::new(standing.alloc);
+    for group in 0..standing.groups.list.len() {
+        if let Some(mut part) = standing.groups.take(group) {
+            if let Some(tree) = part.tell(&mut standing.relaxed)? {
+                trees.push(tree)?;
+            }
+        }
+    }
+    Ok(trees)
+}
+
+/// The decisions that bind where the whole stands.
+fn choices_in(standing: &mut Standing<'_>) -> Result<Vec<Decision>, AllocError> {
+    standing.whole.settle();
+    let choices = standing.whole.choices();
+    let mut decisions = Vec::new(standing.alloc);
+    for number in 0..choices.len() {
+        if let (Some(free), Some(side)) = (choices.get(number), standing.whole.side(number)) {
+            if standing.whole.is_binding(number) {
+                decisions.push(decision_for(free.choice, side))?;
+            }
+        }
+    }
+    Ok(decisions)
+}

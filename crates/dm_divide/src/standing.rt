@@ -1,0 +1,159 @@
+//! A plan, the groups beside it, and the movers with which they are looked at.
+
+use crate::atoms::Atoms;
+use crate::borders::Borders;
+use crate::groups::{Groups, plan};
+use crate::reliefs::{bonds, reliefs};
+use dm_base::{Cost, Secs};
+use dm_branch::Part;
+use dm_guide::Polisher;
+use dm_probe::{Mover, Share, Side};
+use std::alloc::{AllocError, Global};
+
+/// What a search over parts stands on.
+pub struct Standing<'a> {
+    pub alloc: Global,
+    pub groups: Groups,
+
+    /// One at the root, and one at the plan.
+    pub relaxed: Mover<'a>,
+    pub whole: Mover<'a>,
+
+    /// One who stands at the plan too.
+    pub polisher: Polisher<'a>,
+
+    /// The plan: times, sides and cost.
+    pub times: Vec<Secs>,
+    pub sides: Vec<Option<Side>>,
+    pub cost: Cost,
+
+    /// By how much the first plan's cost falls without each choice.
+    pub reliefs: Vec<Cost>,
+    pub borders: Borders,
+}
+
+impl Drop for Standing<'_> {
+    fn drop(self) {
+        let Standing {
+            alloc: _,
+            groups: _,
+            relaxed: _,
+            whole: _,
+            polisher: _,
+            times: _,
+            sides: _,
+            cost: _,
+            reliefs: _,
+            borders: _,
+        } = self;
+    }
+}
+
+impl<'a> Standing<'a> {
+    /// Two movers, of which one stays at the root and one stands at a plan, as the polisher does, and no groups yet.
+    pub fn new(
+        alloc: Global,
+        relaxed: Mover<'a>,
+        whole: Mover<'a>,
+        polisher: Polisher<'a>,
+    ) -> Standing<'a> {
+        Standing {
+            alloc,
+            groups: Groups::none(alloc),
+            relaxed,
+            whole,
+            polisher,
+            times: Vec::new(alloc),
+            sides: Vec::new(alloc),
+            cost: 0,
+            reliefs: Vec::new(alloc),
+            borders: Borders::new(alloc),
+        }
+    }
+
+    /// Divides the terms anew, by trains or by so many of their legs.
+    pub fn divide(&mut self, terms: &Share, legs: Option<usize>) -> Result<(), AllocError> {
+        let net = self.whole.net();
+        let atoms = Atoms::of(self.alloc, net, legs)?;
+        self.reliefs = reliefs(self.alloc, &mut self.whole)?;
+        let mut bonds = bonds(
+            self.alloc,
+            &atoms,
+            &self.reliefs,
+            &mut self.whole,
+            &mut self.relaxed,
+        )?;
+        let roots = bonds.join_all(self.alloc)?;
+        let mut groups = Groups::new(self.alloc, atoms, &roots, self.whole.choices())?;
+        groups.divide(net, terms, &mut self.whole)?;
+        self.groups = groups;
+        self.borders = Borders::new(self.alloc);
+        self.replan()
+    }
+
+    /// What no choices go below.
+    pub fn bound(&mut self) -> Cost {
+        let mut bound = self.relaxed.cost();
+        for group in &self.groups.list {
+            if let Some(part) = &group.part {
+                bound = bound.saturating_add(part.excess());
+            }
+        }
+        bound
+    }
+
+    /// Takes the plan from where the mover stands.
+    pub fn replan(&mut self) -> Result<(), AllocError> {
+        self.cost = self.whole.cost();
+        self.times = times_of(self.alloc, &self.whole)?;
+        self.sides = sides_of(self.alloc, &self.whole)?;
+        for group in 0..self.groups.list.len() {
+            if let Some(mut part) = self.groups.take(group) {
+                plan(&mut part, &mut self.whole)?;
+                self.groups.put(group, part);
+            }
+        }
+        Ok(())
+    }
+
+    /// Expands the tree of a group up to so many nodes.
+    pub fn grow(&mut self, group: usize, most: usize) -> Result<(), AllocError> {
+        let Some(mut part) = self.groups.take(group) else {
+            return Ok(());
+        };
+        part.grow(&mut self.relaxed, most)?;
+        self.groups.put(group, part);
+        Ok(())
+    }
+
+    /// The open groups that may be solved further, by what their tree should have at most.
+    pub fn is_open(&self, group: usize) -> bool {
+        match self.groups.part(group) {
+            Some(part) => !part.is_done(),
+            None => false,
+        }
+    }
+
+    /// How many nodes a group's tree has.
+    pub fn size(&self, group: usize) -> usize {
+        self.groups.part(group).map(Part::size).unwrap_or(0)
+    }
+}
+
+/// The times where a mover stands.
+pub fn times_of(alloc: Global, mover: &Mover<'_>) -> Result<Vec<Secs>, AllocError> {
+    let mut times = Vec::new(alloc);
+    for event in 0..mover.net().events() {
+        times.push(mover.time(event))?;
+    }
+    Ok(times)
+}
+
+/// The sides on which a mover has the choices.
+pub fn sides_of(alloc: Global, mover: &Mover<'_>) -> Result<Vec<Option<Side>>, AllocError> {
+    let mut sides = Vec::new(alloc);
+    for number in 0..mover.choices().len() {
+        sides.push(mover.side(number))?;
+    }
+    Ok(sides)
+}
