@@ -20,13 +20,15 @@ pub struct Known {
 
 /// A walk through the nodes of a tree in preorder.
 #[derive(Drop)]
-struct Walk {
+pub struct Walk {
     /// The decisions that lead to the next node.
-    path: Vec<Decision>,
+    pub path: Vec<Decision>,
 
     /// There is no next node.
-    over: bool,
-    least: Option<Cost>,
+    pub over: bool,
+
+    /// The least cost of a leaf so far.
+    pub least: Option<Cost>,
     open: bool,
 }
 
@@ -55,7 +57,15 @@ pub fn judge(
 
 /// The choices are free, differ from the rows and stand in order, and cost what the plan says.
 fn judge_choices(alloc: Global, day: &Day, plan: &Plan) -> Result<(), Wrong> {
-    let choices = plan.choices.as_slice();
+    if choices_cost(alloc, day, plan.choices.as_slice())? == plan.cost {
+        Ok(())
+    } else {
+        Err(Wrong::Cost)
+    }
+}
+
+/// What choices cost that are free, differ from the rows and stand in order.
+pub fn choices_cost(alloc: Global, day: &Day, choices: &[Decision]) -> Result<Cost, Wrong> {
     let mut places = 0;
     for decision in choices {
         match place_in(&day.free, choice_of(*decision)) {
@@ -67,12 +77,12 @@ fn judge_choices(alloc: Global, day: &Day, plan: &Plan) -> Result<(), Wrong> {
         }
     }
     match day.timed(alloc, choices, Undecided::AsItIs)? {
-        Some(timed) if timed.cost == plan.cost => Ok(()),
-        _ => Err(Wrong::Cost),
+        Some(timed) => Ok(timed.cost),
+        None => Err(Wrong::Cost),
     }
 }
 
-fn place_in(free: &[Choice], choice: Choice) -> Option<usize> {
+pub fn place_in(free: &[Choice], choice: Choice) -> Option<usize> {
     for (place, other) in free.iter().enumerate() {
         if *other == choice {
             return Some(place);
@@ -83,12 +93,7 @@ fn place_in(free: &[Choice], choice: Choice) -> Option<usize> {
 
 /// Goes through all nodes.
 fn walked(alloc: Global, day: &Day, own: Cost, plan: &Plan) -> Result<Walk, Wrong> {
-    let mut walk = Walk {
-        path: Vec::new(alloc),
-        over: false,
-        least: None,
-        open: false,
-    };
+    let mut walk = Walk::new(alloc);
     for node in plan.tree.as_slice() {
         visit(alloc, day, own, plan.cost, &mut walk, *node)?;
     }
@@ -130,7 +135,18 @@ fn visit(
 }
 
 impl Walk {
-    fn count(&mut self, bound: Cost) {
+    /// The root is the next node.
+    pub fn new(alloc: Global) -> Walk {
+        Walk {
+            path: Vec::new(alloc),
+            over: false,
+            least: None,
+            open: false,
+        }
+    }
+
+    /// Counts what a leaf costs.
+    pub fn count(&mut self, bound: Cost) {
         self.least = match self.least {
             Some(least) => Some(least.min(bound)),
             None => Some(bound),
@@ -138,13 +154,13 @@ impl Walk {
     }
 
     /// Goes on to the first child of a choice.
-    fn descend(&mut self, choice: Choice) -> Result<(), AllocError> {
+    pub fn descend(&mut self, choice: Choice) -> Result<(), AllocError> {
         self.path.push(first_of(choice))?;
         Ok(())
     }
 
     /// Goes on behind a leaf: to the second child of the last choice whose first child it ends.
-    fn leave(&mut self) -> Result<(), AllocError> {
+    pub fn leave(&mut self) -> Result<(), AllocError> {
         for _step in 0..self.path.len() {
             if let Some(other) = self.path.pop().and_then(second_after) {
                 self.path.push(other)?;
@@ -191,7 +207,7 @@ fn judge_inner(
     }
 }
 
-fn judge_cycle(alloc: Global, day: &Day, path: &[Decision]) -> Result<(), Wrong> {
+pub fn judge_cycle(alloc: Global, day: &Day, path: &[Decision]) -> Result<(), Wrong> {
     match day.timed(alloc, path, Undecided::Free)? {
         Some(_) => Err(Wrong::Cycle),
         None => Ok(()),
@@ -244,7 +260,7 @@ fn judge_size(day: &Day, budget: u64, plan: &Plan) -> Result<(), Wrong> {
 }
 
 /// The nodes of a tree that decides so many choices on every path, or a number beyond all budgets.
-fn whole_tree(choices: usize) -> u64 {
+pub fn whole_tree(choices: usize) -> u64 {
     let mut nodes: u64 = 1;
     for _choice in 0..choices.min(20) {
         nodes = nodes.saturating_mul(2).saturating_add(1);

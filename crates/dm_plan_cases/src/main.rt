@@ -3,32 +3,35 @@
 //! It goes over every list of three messages where two trains meet, and over generated days of 9 to 12 trains with drawn
 //! messages. The drawn messages are events that have passed or are recalled, dropped changes, pairs that are turned, delays
 //! and a clock. For each list and each day it asks for plans of up to 64 nodes. On the days it also asks for plans of windows,
-//! and for plans that go on from parts of other plans.
+//! and for plans that go on from parts of other plans. Each plan of the rows is made one by parts too.
 //!
 //! It judges each plan over plain lists. The times of a path come by rounds over all activities. Where there are few choices,
 //! the costs of all of them are compared. Plans of windows, what becomes of them over newer rows, and plans that go on from a
 //! leaf of another are compared with what was worked out by hand. For each case it prints `NAME ok`, or what is wrong with a
 //! plan.
 //!
-//! It stands on dm_samples for networks and messages, and on dm_search and dm_window for the plans. Its reading stands on no
+//! It stands on dm_samples for networks and messages, on dm_search and dm_window for the plans, and on dm_solve for plans by parts. Its reading stands on no
 //! crate that computes times or judges plans. It promises nothing.
 #![tactic(auto)]
 
 mod changed;
 mod day;
 mod every;
+mod given_back;
 mod judging;
 mod lists;
 mod parted;
 mod parts;
 mod planning;
 mod relaxing;
+mod solved;
 mod trials;
 mod windows;
 mod wrong;
 
 use changed::judge_changed;
 use dm_samples::{Sample, generated_day, turning_day};
+use given_back::judge_given_back;
 use lists::judge_lists;
 use parted::judge_connection;
 use std::alloc::Global;
@@ -52,6 +55,7 @@ fn main(rt: HostRuntime) -> io::Result<()> {
     report(&rt, "changed-plans", judge_changed(alloc))?;
     report(&rt, "plans-from-parts", judge_connection(alloc))?;
     report(&rt, "windows-worked-out", judge_windows(alloc))?;
+    report(&rt, "choices-given-back", judge_given_back(alloc))?;
     report(
         &rt,
         "lists-connection",
@@ -95,6 +99,7 @@ fn tries_enough(seen: Seen) -> Result<(), Wrong> {
         && seen.compared >= 3
         && windows
         && seen.parts >= 6
+        && seen.closed >= 10
     {
         Ok(())
     } else {

@@ -2,6 +2,7 @@
 ghost use Rattle.std.specs.Prelude.{◌≤◌, IfOk};
 ghost use Rattle.dm_base.specs.declared.limits.TheConstants.{PENALTY, BUDGET};
 ghost use Rattle.dm_rows.specs.Rows.{IsSized};
+ghost use Rattle.dm_tree.specs.Plans.{IsTruePlan, whole_task};
 
 use crate::day::Day;
 use crate::parts::{Part, plan_from};
@@ -10,12 +11,14 @@ use crate::wrong::Wrong;
 use dm_base::limits::{BUDGET, PENALTY};
 use dm_base::{Items, Secs};
 use dm_network::Network;
+use dm_parts::PlanByParts;
 use dm_rows::{Message, Refusal, Rows, Snapshot, admit};
 use dm_samples::rows_on_time;
-use dm_search::plan;
+use dm_search::{plan, whole};
+use dm_solve::plan_by_parts;
 use dm_times::least;
 use dm_tree::Plan;
-use dm_window::{RebaseFault, Rebased, Window as OpenWindow, rebase, window_plan};
+use dm_window::{Minimal, RebaseFault, Rebased, Window as OpenWindow, rebase, thin, window_plan};
 use std::alloc::Global;
 use std::marker::Model;
 
@@ -94,6 +97,20 @@ impl<'n> Standing<'n> {
         carried_over(alloc, self.net, penalty, window, &older, &newer)
     }
 
+    /// Which choices of a window's plan are kept where others are given back, for at most so much more than it costs.
+    pub fn minimal(&self, alloc: Global, window: Window, most: u64) -> Result<Minimal, Wrong> {
+        let rows = self.rows.copy()?;
+        let snapshot = Snapshot { entry: ENTRY, rows };
+        minimal_in(
+            alloc,
+            self.net,
+            &snapshot,
+            self.penalty.min(PENALTY),
+            window,
+            most,
+        )
+    }
+
     /// A plan of the rows, or of a window of theirs.
     pub fn plan(&self, alloc: Global, window: Option<Window>, budget: u64) -> Result<Plan, Wrong> {
         let rows = self.rows.copy()?;
@@ -104,6 +121,20 @@ impl<'n> Standing<'n> {
             Some(window) => planned_in(alloc, self.net, &snapshot, penalty, window, nodes)?,
             None => planned(alloc, self.net, &snapshot, penalty, nodes)?,
         };
+        if plan.entry == ENTRY {
+            Ok(plan)
+        } else {
+            Err(Wrong::Entry)
+        }
+    }
+
+    /// A plan by parts of the rows.
+    pub fn solved(&self, alloc: Global, budget: u64) -> Result<PlanByParts, Wrong> {
+        let rows = self.rows.copy()?;
+        let snapshot = Snapshot { entry: ENTRY, rows };
+        let penalty = self.penalty.min(PENALTY);
+        let nodes = budget.max(1).min(BUDGET);
+        let plan = solved(alloc, self.net, &snapshot, penalty, nodes)?;
         if plan.entry == ENTRY {
             Ok(plan)
         } else {
@@ -167,6 +198,26 @@ fn carried_over(
     Ok(rebase(alloc, net, penalty, newer, &plan))
 }
 
+/// Which choices of a window's plan are kept where others are given back.
+fn minimal_in(
+    alloc: Global,
+    net: &Network,
+    snapshot: &Snapshot,
+    penalty: u64,
+    window: Window,
+    most: u64,
+) -> Result<Minimal, Wrong>
+    requires sized { IsSized net.now snapshot.now.rows }
+    requires penalty { penalty ≤ PENALTY }
+{
+    net.reveal();
+    let rows = &snapshot.rows;
+    let _times = least(alloc, net, rows)?;
+    let open = opened(alloc, window);
+    let plan = window_plan(alloc, net, penalty, snapshot, &open, 100)?;
+    Ok(thin(alloc, net, penalty, rows, &plan, most)?)
+}
+
 /// A plan of a window that is searched for from nothing.
 fn planned_in(
     alloc: Global,
@@ -196,7 +247,25 @@ fn planned(
     requires sized { IsSized net.now snapshot.now.rows }
     requires penalty { penalty ≤ PENALTY }
     requires budget { (1 ≤ budget) × (budget ≤ BUDGET) }
+    ensures { IfOk result (IsTruePlan (whole_task net.now snapshot.now.rows penalty budget)) }
 {
     let _times = least(alloc, net, &snapshot.rows)?;
     Ok(plan(alloc, net, penalty, snapshot, budget)?)
+}
+
+/// A plan by parts, made of a plan that is searched for from nothing.
+fn solved(
+    alloc: Global,
+    net: &Network,
+    snapshot: &Snapshot,
+    penalty: u64,
+    budget: u64,
+) -> Result<PlanByParts, Wrong>
+    requires sized { IsSized net.now snapshot.now.rows }
+    requires penalty { penalty ≤ PENALTY }
+    requires budget { (1 ≤ budget) × (budget ≤ BUDGET) }
+{
+    let plan = planned(alloc, net, snapshot, penalty, budget)?;
+    let task = whole(alloc, net, &snapshot.rows, penalty, budget);
+    Ok(plan_by_parts(&task, &plan)?)
 }

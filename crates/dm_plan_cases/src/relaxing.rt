@@ -143,7 +143,8 @@ impl Day {
         sum
     }
 
-    fn is_missed(
+    /// Whether a change is dropped, or its head passed too early.
+    pub fn is_missed(
         &self,
         line: &ActivityLine,
         times: &[Secs],

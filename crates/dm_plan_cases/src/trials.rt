@@ -5,6 +5,7 @@ use crate::every::known;
 use crate::judging::{Known, judge};
 use crate::parted::judge_parts;
 use crate::planning::{Standing, Window};
+use crate::solved::judge_solved;
 use crate::wrong::Wrong;
 use dm_base::Secs;
 use dm_network::Network;
@@ -53,6 +54,9 @@ pub struct Seen {
     /// Parts of plans from which a search went on.
     pub parts: u32,
 
+    /// Plans by parts that are optimal where the plans are open.
+    pub closed: u32,
+
     /// Plans of windows, and choices in them.
     pub windows: u32,
     pub within: u32,
@@ -68,6 +72,7 @@ impl Seen {
             dropped: 0,
             compared: 0,
             parts: 0,
+            closed: 0,
             windows: 0,
             within: 0,
         }
@@ -221,5 +226,10 @@ fn judge_plan(
     let plan = standing.plan(alloc, None, budget)?;
     judge(alloc, day, known, budget, &plan)?;
     seen.count(&plan);
+    let solved = standing.solved(alloc, budget)?;
+    judge_solved(alloc, day, known, budget, &solved)?;
+    if plan.mark == Mark::Open && solved.mark == Mark::Optimal {
+        seen.closed = seen.closed.saturating_add(1);
+    }
     Ok(())
 }

@@ -39,6 +39,9 @@ pub enum Wrong {
     /// There are too many nodes, or room is left beside an open leaf.
     Budget,
 
+    /// An id of a part is no arrival or change, stands out of order, or stands in another part.
+    Share,
+
     /// Other choices cost less than an optimal plan, or than a bound.
     Best,
 
@@ -102,6 +105,7 @@ impl Wrong {
             Wrong::Bound => "has a wrong bound",
             Wrong::Mark => "is marked wrongly",
             Wrong::Budget => "has the wrong size",
+            Wrong::Share => "counts what it may not",
             Wrong::Best => "is not best",
             Wrong::Entry => "is for another entry",
             Wrong::Taken => "is taken or refused wrongly",

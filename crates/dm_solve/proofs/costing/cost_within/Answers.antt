@@ -1,0 +1,12 @@
+use Rattle.dm_solve.proofs.Leaves.{cost_here, costs_there}
+use Rattle.dm_solve.proofs.costing.cost_within.Goals as goal
+
+pub returns-clause-cost : goal.returns-clause-cost
+returns-clause-cost c =
+    cost_here c.args.net.now c.reveal.ensures.network c.args.evaluator.now c.requires.evaluator c.args.share.now c.requires.share
+    c.times-times.result.now c.path.result.now c.rows.result.now c.args.penalty c.lateness-late.result c.dropped-dropped.result c.missed-missed.result
+    c.times-times.ensures c.path.ensures c.rows.ensures c.lateness-late.ensures.cost c.dropped-dropped.ensures.weight c.missed-missed.ensures.weight
+
+pub returns-clause-costs : goal.returns-clause-costs
+returns-clause-costs c =
+    costs_there c.args.net.now c.reveal.ensures.network c.args.evaluator.now c.requires.evaluator c.args.share.now c.args.penalty _ (returns-clause-cost c)
