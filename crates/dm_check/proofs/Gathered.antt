@@ -1,7 +1,7 @@
 -- Items whose claims are gathered.
 use Rattle.std.proofs.Common.{ℕ, List}
 use Rattle.dm_records.specs.declared.items.LogLine.{LogLine}
-use Rattle.dm_records.specs.declared.items.LogLine.TheVariants.{Malformed, Answered, Planned}
+use Rattle.dm_records.specs.declared.items.LogLine.TheVariants.{Malformed, Answered, Planned, Solved}
 use Rattle.dm_records.specs.Readings.{item_of}
 use Rattle.dm_records.specs.RunLines.{IsItemLine}
 use Rattle.dm_check.specs.Inside.Gathering.{IsSpelled}
@@ -11,3 +11,4 @@ pub spelled_item : (version : ℕ) (item : LogLine) (line : List ℕ) → IsItem
 spelled_item version (Malformed n) line is = tt
 spelled_item version (Answered n said answer) line is = is.1.1.spelled
 spelled_item version (Planned p) line is = tt
+spelled_item version (Solved p) line is = tt

@@ -4,6 +4,7 @@ pub mod Timed
 pub mod Entered
 pub mod Timetabled
 pub mod Blocks
+pub mod SolvedBlocks
 pub mod Chained
 pub mod Items
 pub mod Logs

@@ -25,7 +25,11 @@ use Rattle.dm_cert.specs.PlanTexts.{line_end, mark_text, choice_text, leaf_text,
 use Rattle.dm_cert.specs.PlansRead.{size_words, IsChoiceLine, IsLeafLine, IsNodeLine, ShowsLeaves, ShowsNodes}
 use Rattle.dm_cert.specs.RunTexts.{Run, run_text, header_text, entry_text, entries_text, item_text, reply_text, feed_text, stop_text, log_text, logs_text, note_text, time_text, timetable_text, boards_text, heading_text, ending_text}
 use Rattle.dm_cert.proofs.ToldTexts.{line_told}
-use Rattle.dm_records.specs.RunLines.{LogOpening, PlanOpening, ItemLine, lone, planned, Timed, IsNumberLine, IsVersionLine, IsEntryLine, IsOpeningLine, IsItemLine, IsStopLine, IsNoteLine, IsTimeLine, IsWordLine, opening_text}
+use Rattle.dm_parts.specs.declared.parts.PlanByParts.{PlanByParts}
+use Rattle.dm_cert.specs.SolvedTexts.{spelling_of_solved}
+use Rattle.dm_cert.specs.SolvedRead.{solved_heading_text}
+use Rattle.dm_cert.proofs.SolvedTold.{SolvedBehindTold, behind_first, solved_behind_told}
+use Rattle.dm_records.specs.RunLines.{LogOpening, PlanOpening, SolvedOpening, solved_opening_text, ItemLine, lone, planned, solved, Timed, IsNumberLine, IsVersionLine, IsEntryLine, IsOpeningLine, IsItemLine, IsStopLine, IsNoteLine, IsTimeLine, IsWordLine, opening_text, heading_of, solved_item}
 use Rattle.dm_records.proofs.LinesSpelled.{numbered, version_line}
 use Rattle.dm_check.specs.declared.faults.Fault.{Fault}
 use Rattle.dm_check.specs.FalseRecords.{bad, Reads, Rules, TellsEntry, TellsItem, TellsBehind, TellsLog, TellsBoards, TellsNote, TellsTime, TellsCost, TellsEnd, TellsNumber, TellsRest, TellsBody, IsNextPlan, IsGood, plan_opened}
@@ -172,6 +176,22 @@ planned_same version o choices nodes rest count size =
     (regroup (decimal o.line) (spelling_of_line o.said) (decimal o.entry) (mark_text o.mark) (decimal o.cost) (decimal o.bound) (decimal o.choices) (size_words version) (decimal o.size)
     (flat_map choice_text choices) (tree_text version nodes) rest)
 
+-- a plan by parts behind its first line
+solved_text : (o : SolvedOpening) (behind : List ℕ) → (decimal o.line ++ (codes " " ++ (spelling_of_line o.said ++ (codes " -> " ++ ((decimal o.entry ++ (codes " " ++ ((solved_heading_text (heading_of o) ++ behind) ++ []))) ++ [])))))
+    ≡ (solved_opening_text o ++ line_end) ++ behind
+unfolding solved_heading_text
+solved_text o behind = simp (append_assoc, append-nil)
+
+solved_same : (version : ℕ) (o : SolvedOpening) (plan : PlanByParts) (place next : Place) → SolvedBehindTold o.entry (heading_of o) plan place next →
+    item_text version (solved_item o plan) ++ next.left ≡ (solved_opening_text o ++ line_end) ++ (behind_first plan ++ next.left)
+unfolding item_text reply_text
+solved_same version o plan place next read =
+    ap (λ xs. xs ++ next.left)
+    (ap (λ n. decimal o.line ++ (codes " " ++ (spelling_of_line o.said ++ (codes " -> " ++ ((decimal n ++ (codes " " ++ (spelling_of_solved plan ++ []))) ++ []))))) read.entry_is
+    ∙ (ap (λ xs. decimal o.line ++ (codes " " ++ (spelling_of_line o.said ++ (codes " -> " ++ ((decimal o.entry ++ (codes " " ++ (xs ++ []))) ++ []))))) read.whole
+    ∙ solved_text o (behind_first plan)))
+    ∙ append_assoc (solved_opening_text o ++ line_end) (behind_first plan) next.left
+
 item_at : (s : Setting) (history : List Entry) (feed : ℕ) (before : List LogItem) (place behind : Place) (v : ItemLine) (answered : LogItem) (next : Place) →
     SpellsValue (IsItemLine s.version) place v behind → TellsBehind s history feed before place.line v behind (Ok (answered, next)) → place.left ≡ item_text s.version answered ++ next.left
 item_at s history feed before place behind (lone a) answered next told then =
@@ -190,6 +210,14 @@ item_at s history feed before place behind (planned o) answered next told then =
     ∙ (ap (λ xs. (opening_text s.version o ++ line_end) ++ xs) (list ∙ ap (λ xs. flat_map choice_text then.value ++ xs) tree.left)
     ∙ (sym (planned_same s.version o then.value tree.nodes next.left (ap length choices.is ∙ choices.count) tree.size)
     ∙ ap (λ x. item_text s.version x ++ next.left) (sym tree.is)))))
+item_at s history feed before place behind (solved o) answered next told then =
+    let read = solved_behind_told o.entry (heading_of o) then.value behind then.behind told.spelled.1.cost told.spelled.1.bound told.spelled.1.of_parts then.told in
+    told.stands.whole
+    ∙ (sym (append_assoc told.bytes line_end behind.left)
+    ∙ (ap (λ xs. (xs ++ line_end) ++ behind.left) (sym told.spelled.0)
+    ∙ (ap (λ xs. (solved_opening_text o ++ line_end) ++ xs) read.left
+    ∙ (sym (solved_same s.version o then.value behind then.behind read)
+    ∙ (ap (λ x. item_text s.version x ++ then.behind.left) (sym then.then.1) ∙ ap (λ (p : Place). item_text s.version answered ++ p.left) (sym then.then.2))))))
 
 item_left : (s : Setting) (history : List Entry) (feed : ℕ) (before : List LogItem) (place : Place) (answered : LogItem) (next : Place) →
     TellsItem s history feed before place (Ok (answered, next)) → place.left ≡ item_text s.version answered ++ next.left

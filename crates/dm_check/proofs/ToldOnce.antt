@@ -1,5 +1,5 @@
 -- Of a text one thing alone is told: the run, or one fault.
-use Rattle.std.proofs.Common.{◌≡◌, ℕ, ◌+◌, ◌≤◌, Bool, true, false, eqb, List, [], length, Option, Some, Result, Ok, Err, refl, sym, ap, ◌∙◌, codes}
+use Rattle.std.proofs.Common.{◌≡◌, ℕ, ◌+◌, ◌≤◌, Bool, true, false, eqb, List, [], length, Option, Some, Result, Ok, Err, refl, sym, ap, subst, ◌∙◌, codes}
 use Rattle.std.specs.Prelude.{MatchBool, count_by}
 use Rattle.dm_base.specs.declared.limits.TheConstants.{FEEDS, BOARDS, ENTRIES}
 use Rattle.dm_text.specs.Places.{Place, at_start}
@@ -20,18 +20,23 @@ use Rattle.dm_cert.specs.Answers.{Setting, rows_after, is_plan}
 use Rattle.dm_cert.specs.Logs.{all_items}
 use Rattle.dm_cert.specs.PlansRead.{IsChoiceLine, IsLeafLine, IsNodeLine, ShowsLeaves, ShowsNodes}
 use Rattle.dm_cert.specs.RunTexts.{Run}
+use Rattle.dm_cert.specs.SolvedRead.{TellsSolvedBehind}
+use Rattle.dm_cert.specs.declared.faults.CertFault.{CertFault}
+use Rattle.dm_cert.specs.declared.faults.CertKind.{CertKind}
+use Rattle.dm_cert.specs.declared.faults.CertKind.TheVariants as cert
+use Rattle.dm_cert.proofs.SpelledSolved.{solved_behind_single}
 use Rattle.dm_cert.specs.Inside.PlanLines.{choice_in, node_in}
 use Rattle.dm_cert.proofs.DecisionsRead.{reads_choice}
 use Rattle.dm_cert.proofs.NodesRead.{reads_node}
 use Rattle.dm_cert.specs.Inside.PlanLines.{Reads as ReadsExactly}
 use Rattle.dm_cert.proofs.SpelledPlans.{leaf_one, leaves_show_one}
-use Rattle.dm_records.specs.RunLines.{PlanOpening, ItemLine, lone, planned, IsNumberLine, IsVersionLine, IsEntryLine, IsOpeningLine, IsItemLine, IsStopLine, IsNoteLine, IsTimeLine, IsWordLine}
+use Rattle.dm_records.specs.RunLines.{PlanOpening, SolvedOpening, ItemLine, lone, planned, solved, IsNumberLine, IsVersionLine, IsEntryLine, IsOpeningLine, IsItemLine, IsStopLine, IsNoteLine, IsTimeLine, IsWordLine, heading_of, solved_item}
 use Rattle.dm_records.proofs.LinesOnce.{lines_spell_one}
 use Rattle.dm_check.specs.declared.faults.Fault.{Fault}
 use Rattle.dm_check.specs.declared.verdicts.BadKind.{BadKind}
 use Rattle.dm_check.specs.declared.verdicts.BadKind.TheVariants as kind
 use Rattle.dm_check.specs.declared.verdicts.Verdict.TheVariants.{Good, Bad}
-use Rattle.dm_check.specs.FalseRecords.{bad, Reads, Rules, IsNextEntry, TellsEntry, IsNextItem, plan_opened, IsNextPlan, TellsPlanBehind, TellsBehind, TellsItem, TellsLog, AreNamed, TellsBoards, IsNextNote, TellsNote, IsNextTime, TellsTime, TellsCost, TellsEnd, TellsNumber, TellsRest, TellsBody, TellsRun}
+use Rattle.dm_check.specs.FalseRecords.{bad, Reads, Rules, IsNextEntry, TellsEntry, IsNextItem, plan_opened, IsNextPlan, TellsPlanBehind, IsSameKind, TellsFault, InRun, TellsSolvedPlan, TellsBehind, TellsItem, TellsLog, AreNamed, TellsBoards, IsNextNote, TellsNote, IsNextTime, TellsTime, TellsCost, TellsEnd, TellsNumber, TellsRest, TellsBody, TellsRun}
 use Rattle.dm_check.specs.Laws.{VerdictsAreOne}
 
 -- ---- one record
@@ -89,9 +94,36 @@ plan_once s history feed before opening first =
     (times_one (λ read. Reads IsChoiceLine) (λ read. reads_once IsChoiceLine (read_once IsChoiceLine choice_in reads_choice)) opening.choices [])
     (λ choices place one other p q. tree_once (eqb s.version 1) s history feed before opening first choices place one other p q)
 
+-- what is told of the lines of a plan by parts
+kind_once : (k : CertKind) (one other : BadKind) → IsSameKind k one → IsSameKind k other → one ≡ other
+kind_once cert.Form one other p q = p ∙ sym q
+kind_once cert.Truncated one other p q = p ∙ sym q
+kind_once cert.NotATree one other p q = p ∙ sym q
+kind_once cert.OutOfMemory one other p q = absurd p
+
+fault_once : {V : Type 0} (tells : Place → Result (V × Place) CertFault → Type 0) → IsSingle tells → (place : Place) (one other : Fault) → TellsFault tells place one → TellsFault tells place other → one ≡ other
+fault_once {V} tells single place one other p q =
+    let same : p.cert ≡ q.cert = let e : ◌≡◌ {A = Result (V × Place) CertFault} (Err p.cert) (Err q.cert) = single place (Err p.cert) (Err q.cert) p.told q.told in cc in
+    let lines : one.line ≡ other.line = p.line ∙ (ap (λ (f : CertFault). f.line) same ∙ sym q.line) in
+    let kinds : one.kind ≡ other.kind = kind_once q.cert.kind one.kind other.kind (subst (λ (f : CertFault). IsSameKind f.kind one.kind) same p.kind) q.kind in
+    ap (λ (n : ℕ). record { line = n; kind = one.kind }) lines ∙ ap (λ (k : BadKind). bad k other.line) kinds
+
+in_run_once : {V : Type 0} (tells : Place → Result (V × Place) CertFault → Type 0) → IsSingle tells → IsSingle (InRun tells)
+in_run_once {V} tells single place (Ok a) (Ok b) p q = let e : ◌≡◌ {A = Result (V × Place) CertFault} (Ok a) (Ok b) = single place (Ok a) (Ok b) p q in cc
+in_run_once {V} tells single place (Ok a) (Err g) p q = let e : ◌≡◌ {A = Result (V × Place) CertFault} (Ok a) (Err q.cert) = single place (Ok a) (Err q.cert) p q.told in absurd (cc)
+in_run_once {V} tells single place (Err f) (Ok b) p q = let e : ◌≡◌ {A = Result (V × Place) CertFault} (Err p.cert) (Ok b) = single place (Err p.cert) (Ok b) p.told q in absurd (cc)
+in_run_once {V} tells single place (Err f) (Err g) p q = ap (λ h. Err h) (fault_once tells single place f g p q)
+
+solution_once : (s : Setting) (history : List Entry) (feed : ℕ) (before : List LogItem) (opening : SolvedOpening) (first : ℕ) → IsSingle (TellsSolvedPlan s history feed before opening first)
+solution_once s history feed before opening first =
+    then_one (InRun (TellsSolvedBehind opening.entry (heading_of opening))) _
+    (in_run_once (TellsSolvedBehind opening.entry (heading_of opening)) (solved_behind_single opening.entry (heading_of opening)))
+    (λ plan. demands_one (IsNextItem s history feed before (solved_item opening plan)) (bad kind.Plan first) (solved_item opening plan))
+
 behind_once : (s : Setting) (history : List Entry) (feed : ℕ) (before : List LogItem) (first : ℕ) (i : ItemLine) → IsSingle (TellsBehind s history feed before first i)
 behind_once s history feed before first (lone answered) = demands_one (IsNextItem s history feed before answered) (bad kind.Reply first) answered
 behind_once s history feed before first (planned opening) = plan_once s history feed before opening first
+behind_once s history feed before first (solved opening) = solution_once s history feed before opening first
 
 item_once : (s : Setting) (history : List Entry) (feed : ℕ) (before : List LogItem) → IsSingle (TellsItem s history feed before)
 item_once s history feed before =

@@ -3,6 +3,7 @@ pub mod Standing
 pub mod Lines
 pub mod Replies
 pub mod PlanItems
+pub mod SolvedItems
 pub mod Items
 pub mod Truths
 pub mod Logs

@@ -25,9 +25,13 @@ use Rattle.dm_cert.specs.Answers.{Setting, rows_after, is_plan, IsTrueAnswer}
 use Rattle.dm_cert.specs.Logs.{kind_of, line_of, Follows, names, all_items}
 use Rattle.dm_cert.specs.PlansRead.{IsChoiceLine, IsLeafLine, IsNodeLine, ShowsLeaves, ShowsNodes}
 use Rattle.dm_cert.specs.RunTexts.{Run}
+use Rattle.dm_cert.specs.SolvedRead.{TellsSolvedBehind}
+use Rattle.dm_cert.specs.declared.faults.CertFault.{CertFault}
+use Rattle.dm_cert.specs.declared.faults.CertKind.{CertKind}
+use Rattle.dm_cert.specs.declared.faults.CertKind.TheVariants as cert
 use Rattle.dm_cert.specs.Runs.{IsTrueNote}
 use Rattle.dm_check_answers.specs.Judging.{line_before, number_before}
-use Rattle.dm_records.specs.RunLines.{Numbered, PlanOpening, ItemLine, lone, planned, Timed, IsNumberLine, IsVersionLine, IsEntryLine, IsOpeningLine, IsItemLine, IsStopLine, IsNoteLine, IsTimeLine, IsWordLine}
+use Rattle.dm_records.specs.RunLines.{Numbered, PlanOpening, SolvedOpening, ItemLine, lone, planned, solved, Timed, heading_of, solved_item, IsNumberLine, IsVersionLine, IsEntryLine, IsOpeningLine, IsItemLine, IsStopLine, IsNoteLine, IsTimeLine, IsWordLine}
 use Rattle.dm_check.specs.declared.faults.Fault.{Fault}
 use Rattle.dm_check.specs.declared.verdicts.BadKind.{BadKind}
 use Rattle.dm_check.specs.declared.verdicts.BadKind.TheVariants as kind
@@ -99,11 +103,36 @@ TellsPlanBehind s history feed before opening first =
     (Then (Times opening.size (λ read. Reads IsNodeLine) [])
     (λ nodes. Finds (IsNextPlan s history feed before opening choices (ShowsNodes nodes)) (bad kind.Plan first)) place answer))
 
+-- a fault in the lines of a plan by parts, as one in the text of a run; that nodes are no tree is never told of it
+abbrev pub IsSameKind : CertKind → BadKind → Type 0
+IsSameKind cert.Form k = k ≡ kind.Form
+IsSameKind cert.Truncated k = k ≡ kind.Truncated
+IsSameKind cert.NotATree k = k ≡ kind.Plan
+IsSameKind cert.OutOfMemory k = ⊥
+
+pub record TellsFault {V : Type 0} (tells : Place → Result (V × Place) CertFault → Type 0) (place : Place) (fault : Fault) : Type 0 where
+  pub cert : CertFault
+  pub told : tells place (Err cert)
+  pub line : fault.line ≡ cert.line
+  pub kind : IsSameKind cert.kind fault.kind
+
+-- what is told of the lines of a plan by parts, with its faults as those of the text of a run
+abbrev pub InRun : {V : Type 0} → (Place → Result (V × Place) CertFault → Type 0) → Place → Result (V × Place) Fault → Type 0
+InRun tells place (Ok read) = tells place (Ok read)
+InRun tells place (Err fault) = TellsFault tells place fault
+
+-- the lines of a plan by parts behind its first line, all read before any rule is asked; a broken rule is told of the first line
+abbrev pub TellsSolvedPlan : Setting → List Entry → ℕ → List LogItem → SolvedOpening → ℕ → Place → Result (LogItem × Place) Fault → Type 0
+TellsSolvedPlan s history feed before opening first =
+    Then (InRun (TellsSolvedBehind opening.entry (heading_of opening)))
+    (λ plan. Demands (IsNextItem s history feed before (solved_item opening plan)) (bad kind.Plan first) (solved_item opening plan))
+
 -- what stands behind the first line of an item
 abbrev pub TellsBehind : Setting → List Entry → ℕ → List LogItem → ℕ → ItemLine → Place → Result (LogItem × Place) Fault → Type 0
 TellsBehind s history feed before first (lone answered) =
     Demands (IsNextItem s history feed before answered) (bad kind.Reply first) answered
 TellsBehind s history feed before first (planned opening) = TellsPlanBehind s history feed before opening first
+TellsBehind s history feed before first (solved opening) = TellsSolvedPlan s history feed before opening first
 
 abbrev pub TellsItem : Setting → List Entry → ℕ → List LogItem → Place → Result (LogItem × Place) Fault → Type 0
 TellsItem s history feed before place =

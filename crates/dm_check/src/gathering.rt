@@ -1,5 +1,6 @@
 //! The claims that the answers of a text make about rows, gathered before they are judged.
 ghost use Rattle.std.specs.Prelude.{◌≡◌, All, IfOk, IfSome};
+ghost use Rattle.dm_cert.specs.PlanTexts.{IsVersion};
 ghost use Rattle.dm_check_answers.specs.Claims.{IsSpelledAnswer};
 ghost use Rattle.dm_check_answers.specs.Judging.{IsRunSetting, value_of};
 ghost use Rattle.dm_check.specs.Inside.Gathering.{IsSpelled};
@@ -38,6 +39,7 @@ pub(crate) fn replay_for<'j>(
 
 /// What the lines of a text claim of rows, in order, where they are answers. Nothing is promised of how many are found.
 fn claims_in(alloc: Global, version: u32, text: &[u8]) -> Result<Vec<Answered>, AllocError>
+    requires { IsVersion version }
     ensures { IfOk result (λ claims. All IsSpelledAnswer claims.items) }
 {
     let mut claims = Vec::new(alloc);
@@ -57,7 +59,8 @@ fn with_claim(
     line: &[u8],
     claims: Vec<Answered>,
 ) -> Result<Vec<Answered>, AllocError>
-    requires { All IsSpelledAnswer claims.items }
+    requires version { IsVersion version }
+    requires claims { All IsSpelledAnswer claims.items }
     ensures { IfOk result (λ more. All IsSpelledAnswer more.items) }
 {
     match claim_in(alloc, version, line) {
@@ -70,6 +73,7 @@ fn with_claim(
 /// What a line claims of rows, where it is an answer.
 #[tactic(auto, using(crate::proofs::Gathered::spelled_item))]
 fn claim_in(alloc: Global, version: u32, line: &[u8]) -> Result<Option<Answered>, AllocError>
+    requires { IsVersion version }
     ensures { IfOk result (λ found. IfSome found IsSpelledAnswer) }
 {
     match item_line(alloc, version, line) {
@@ -86,7 +90,7 @@ fn claimed(item: LogLine) -> Option<Answered>
 {
     match item {
         LogLine::Answered { said, answer, .. } => claiming(Answered { said, answer }),
-        LogLine::Malformed(_) | LogLine::Planned(_) => None,
+        LogLine::Malformed(_) | LogLine::Planned(_) | LogLine::Solved(_) => None,
     }
 }
 

@@ -1,8 +1,8 @@
 //! The verdict on the text of a run: it is good, or one record is the first that breaks its rule; and whether logs are true.
 //!
-//! It stands on dm_check_answers for answers, on dm_check_plans for plans, and on dm_cert for the texts and for what a true
-//! answer is. It stands on dm_text for the words in which a text is judged record by record, and on dm_records, which says how
-//! the line of each record is written, and reads it.
+//! It stands on dm_check_answers for answers, on dm_check_plans for plans, on dm_check_parts for plans by parts, and on dm_cert
+//! for the texts and for what a true answer is. It stands on dm_text for the words in which a text is judged record by record,
+//! and on dm_records, which says how the line of each record is written, and reads it.
 //!
 //! `specs/FalseRecords` says what each record must say after those before it, and the kind and the line of its fault.
 //! `specs/Truth` says what the verdict says of true runs. Where there are several logs, what their answers claim of rows is

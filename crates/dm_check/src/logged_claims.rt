@@ -119,7 +119,7 @@ fn claimed(alloc: Global, said: &Line, reply: &Reply) -> Result<Option<Answered>
             said: copy_of_line(said),
             answer,
         })),
-        Ok(Told::Plan(_)) => Ok(None),
+        Ok(Told::Plan(_)) | Ok(Told::Solved(_)) => Ok(None),
         Err(AllocError) => Err(AllocError),
     }
 }

@@ -8,9 +8,10 @@ ghost use Rattle.dm_check.specs.Inside.TrueLogs.{reply_in};
 use dm_base::{ActId, Items};
 use dm_cert::Reply;
 use dm_feed::Line;
+use dm_parts::PlanByParts;
 use dm_records::{Answer, Reason};
 use dm_rows::{Message, Refusal};
-use dm_tree::{AssembleFault, Plan, Tree};
+use dm_tree::Plan;
 use std::alloc::{AllocError, Global};
 
 /// What a reply tells.
@@ -20,6 +21,8 @@ pub(crate) enum Told<'r> {
     Answer(Answer),
 
     Plan(&'r Plan),
+
+    Solved(&'r PlanByParts),
 }
 
 /// What a reply tells. `Err` is want of memory alone; a cycle takes it.
@@ -41,6 +44,7 @@ pub(crate) fn told_in<'r>(alloc: Global, reply: &'r Reply) -> Result<Told<'r>, A
         Reply::Plans => Ok(Told::Answer(Answer::Plans)),
         Reply::Range(nodes) => Ok(Told::Answer(Answer::Range(*nodes as u128))),
         Reply::Planned(plan) => Ok(Told::Plan(plan)),
+        Reply::Solved(plan) => Ok(Told::Solved(plan)),
     }
 }
 
@@ -73,39 +77,6 @@ fn copy_of_ids(alloc: Global, ids: &[ActId]) -> Result<Items<ActId>, AllocError>
     Ok(Items::from_vec(Vec::from_slice(alloc, ids)?))
 }
 
-pub(crate) fn copy_of_plan(alloc: Global, plan: &Plan) -> Result<Plan, AllocError>
-    ensures { IfOk result (λ copy. copy ≡ plan.now) }
-{
-    let Ok(choices) = Vec::from_slice(alloc, plan.choices.as_slice()) else {
-        return Err(AllocError);
-    };
-    let tree = match copy_of_tree(alloc, &plan.tree) {
-        Ok(tree) => tree,
-        Err(AllocError) => return Err(AllocError),
-    };
-    Ok(Plan {
-        entry: plan.entry,
-        choices: Items::from_vec(choices),
-        cost: plan.cost,
-        bound: plan.bound,
-        mark: plan.mark,
-        tree,
-    })
-}
-
-fn copy_of_tree(alloc: Global, tree: &Tree) -> Result<Tree, AllocError>
-    ensures { IfOk result (λ copy. copy ≡ tree.now) }
-{
-    let Ok(nodes) = Vec::from_slice(alloc, tree.as_slice()) else {
-        return Err(AllocError);
-    };
-    match Tree::from_nodes(alloc, nodes) {
-        Ok(copy) => Ok(copy),
-        Err(AssembleFault::OutOfMemory) => Err(AllocError),
-        Err(AssembleFault::NotATree) => unreachable!(),
-    }
-}
-
 /// An equal line. It takes no memory, since no line says an adopted list.
 pub(crate) fn copy_of_line(said: &Line) -> Line
     requires { IsSpelledLine said.now }
@@ -116,6 +87,7 @@ pub(crate) fn copy_of_line(said: &Line) -> Line
         Line::Time(event) => Line::Time(*event),
         Line::CostNow => Line::CostNow,
         Line::Plan(nodes) => Line::Plan(*nodes),
+        Line::Solve(nodes) => Line::Solve(*nodes),
         Line::Adopt => Line::Adopt,
         Line::Read => Line::Read,
     }

@@ -1,4 +1,5 @@
 //! The next line of a text, read as each kind of record. A line that is cut or misshapen stops the judgement.
+ghost use Rattle.dm_cert.specs.PlanTexts.{IsVersion};
 ghost use Rattle.dm_records.specs.RunLines.{IsNumberLine, IsVersionLine, IsEntryLine, IsOpeningLine, IsStopLine, IsNoteLine, IsTimeLine, IsWordLine, IsItemLine};
 ghost use Rattle.dm_records.specs.Readings.{numbered, opening, note, timed, item_of};
 ghost use Rattle.dm_check.specs.FalseRecords.{Reads};
@@ -177,6 +178,7 @@ pub(crate) fn entry_told(alloc: Global, lines: &mut Lines) -> Result<EntryLine, 
 
 /// The first line of a log's item, in a version.
 pub(crate) fn item_told(alloc: Global, lines: &mut Lines, version: u32) -> Result<LogLine, Stop>
+    requires { IsVersion version }
     ensures { Judged (Reads (IsItemLine version)) item_of lines.old lines.new result }
 {
     let line = lines.line();

@@ -1,14 +1,14 @@
 //! Logs that are judged as they stand in memory.
-ghost use Rattle.std.specs.Prelude.{ℕ, ◌≡◌, ◌+◌, ◌<◌, ◌≤◌, List, [], ◌∷◌, ◌++◌, ◌↔◌, Bool, IsTrue, All, length, IfOk, OnOk};
+ghost use Rattle.std.specs.Prelude.{ℕ, ◌≡◌, ◌+◌, ◌<◌, ◌≤◌, List, [], ◌↔◌, Bool, IsTrue, All, length, IfOk};
 ghost use Rattle.dm_base.specs.declared.limits.TheConstants.{FEEDS, PENALTY};
 ghost use Rattle.dm_rows.specs.declared.messages.Entry.{Entry as EntryValue};
 ghost use Rattle.dm_rows.specs.Rows.{IsSized};
 ghost use Rattle.dm_feed.specs.Lines.{IsSpelledLine};
-ghost use Rattle.dm_feed.specs.declared.grammar.Line.{Line as Said};
+ghost use Rattle.dm_parts.specs.Sizes.{ids_of, most_ids};
 ghost use Rattle.dm_cert.specs.declared.limits.TheConstants.{PLANS};
 ghost use Rattle.dm_cert.specs.declared.replies.LogItem.{LogItem as Item};
 ghost use Rattle.dm_cert.specs.declared.replies.LogItem.TheVariants.{Malformed, Answered};
-ghost use Rattle.dm_cert.specs.declared.replies.Reply.TheVariants.{Planned};
+ghost use Rattle.dm_cert.specs.declared.replies.Reply.TheVariants.{Planned, Solved};
 ghost use Rattle.dm_cert.specs.Answers.{Setting};
 ghost use Rattle.dm_cert.specs.Logs.{AreTrueLogs};
 ghost use Rattle.dm_cert.specs.RunTexts.{IsSpelledItem, IsSpelledLog, IsSpelledReply};
@@ -19,12 +19,13 @@ ghost use Rattle.dm_check.specs.Inside.TrueLogs.{IsNextOn, LogIsOn};
 
 use crate::logged_claims::replay_over;
 use crate::named::{are_all, flag_named};
-use crate::replies::{Told, copy_of_plan, told_in};
-use crate::told_items::{Logs, is_next_answer, is_next_plan};
+use crate::replies::{Told, told_in};
+use crate::told_items::{Logs, is_next_answer, is_next_plan, is_next_solution, keep_plan};
 use dm_cert::{FeedLog, LogItem, Reply};
 use dm_check_answers::{Asked, Journal, Past, RunSetting};
 use dm_feed::Line;
 use dm_network::Network;
+use dm_parts::PlanByParts;
 use dm_records::Answer;
 use dm_rows::{Entry, Rows};
 use dm_tree::Plan;
@@ -100,21 +101,6 @@ fn is_true_malformed(past: &mut Past, line: u32) -> bool
     true
 }
 
-/// A plan comes behind, where there are not all plans yet.
-fn keep_plan(alloc: Global, past: &mut Past, line: u32, plan: &Plan) -> Result<(), AllocError>
-    requires { past.old.plans < PLANS }
-    ensures { OnOk result ((before : List Item) (said : Said) → IsPast before past.old
-        → IsPast (before ++ Answered line said (Planned plan.now) ∷ []) past.new) }
-{
-    match copy_of_plan(alloc, plan) {
-        Ok(copy) => {
-            past.add_plan(line, copy);
-            Ok(())
-        }
-        Err(AllocError) => Err(AllocError),
-    }
-}
-
 impl<'j> Logs<'j> {
     /// Whether an answer of one line is the next item of the log of this feed.
     fn is_true_answer(
@@ -175,7 +161,41 @@ impl<'j> Logs<'j> {
             Ok(false) => return Ok(false),
             Err(AllocError) => return Err(AllocError),
         }
-        match keep_plan(alloc, past, line, plan) {
+        match keep_plan(alloc, past, line, plan.entry, plan.choices.as_slice()) {
+            Ok(()) => Ok(true),
+            Err(AllocError) => Err(AllocError),
+        }
+    }
+
+    /// Whether a plan by parts is the next item of the log of this feed.
+    fn is_true_solution(
+        &mut self,
+        past: &mut Past,
+        feed: u32,
+        line: u32,
+        said: &Line,
+        plan: &PlanByParts,
+    ) -> Result<bool, AllocError>
+        requires said { IsSpelledLine said.now }
+        requires few { ids_of plan.now.parts ≤ most_ids }
+        ensures tells { (before : List Item) → IsPast before past.old
+            → IfOk result (IsNextOn self.old.replay.journal.setting self.old.replay.journal.history feed before
+            (Answered line said.now (Solved plan.now)) past.new self.old.named.items self.new.named.items) }
+        ensures same { self.new.replay.journal ≡ self.old.replay.journal }
+    {
+        let alloc = self.replay.journal().setting.alloc;
+        let asked = Asked {
+            past: &*past,
+            feed,
+            line,
+            said,
+        };
+        match is_next_solution(&mut self.replay, &asked, plan) {
+            Ok(true) => (),
+            Ok(false) => return Ok(false),
+            Err(AllocError) => return Err(AllocError),
+        }
+        match keep_plan(alloc, past, line, plan.entry, plan.choices.as_slice()) {
             Ok(()) => Ok(true),
             Err(AllocError) => Err(AllocError),
         }
@@ -201,6 +221,7 @@ impl<'j> Logs<'j> {
         match told_in(alloc, reply) {
             Ok(Told::Answer(answer)) => self.is_true_answer(past, feed, line, said, &answer),
             Ok(Told::Plan(plan)) => self.is_true_plan(past, feed, line, said, plan),
+            Ok(Told::Solved(plan)) => self.is_true_solution(past, feed, line, said, plan),
             Err(AllocError) => Err(AllocError),
         }
     }

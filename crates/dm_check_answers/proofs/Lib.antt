@@ -1,3 +1,4 @@
+pub mod Added
 pub mod Rows
 pub mod Claimed
 pub mod Replayed

@@ -4,7 +4,7 @@ use Rattle.std.specs.Borrow.{Bor}
 use Rattle.dm_base.specs.declared.limits.TheConstants.{PENALTY}
 use Rattle.dm_rows.specs.declared.messages.Entry.{Entry}
 use Rattle.dm_rows.specs.Rows.{IsSized}
-use Rattle.dm_tree.specs.declared.plans.Plan.{Plan}
+use Rattle.dm_tree.specs.declared.adopting.Chosen.{Chosen}
 use Rattle.dm_cert.specs.declared.limits.TheConstants.{PLANS}
 use Rattle.dm_cert.specs.declared.replies.LogItem.{LogItem}
 use Rattle.dm_cert.specs.declared.replies.Reply.{Reply}
@@ -80,7 +80,7 @@ IsEntryAt history n (Some entry) = IsEntry history n entry.now
 IsEntryAt history n None = (entry : Entry) → IsEntry history n entry → ⊥
 
 -- whether the answer to an adoption is true where this is the latest plan
-abbrev pub AdoptsTruly : List Entry → ℕ → ℕ → Plan → Reply → Bool → Type 0
+abbrev pub AdoptsTruly : List Entry → ℕ → ℕ → Chosen → Reply → Bool → Type 0
 AdoptsTruly history feed line plan (Ok n) result = Tells (IsAdopted history feed line n plan) result
 AdoptsTruly history feed line plan (Old n) result = Tells (IsOld history n plan) result
 AdoptsTruly history feed line plan (Refused at) result = Tells (HasNoRoom history at.entry at.why plan) result

@@ -13,17 +13,17 @@ use crate::matching::is_adopted;
 use dm_base::limits::ENTRIES;
 use dm_records::{Answer, Reason};
 use dm_rows::Entry;
-use dm_tree::Plan;
+use dm_tree::Chosen;
 
 /// Whether the history has so many entries, and more than the plan is for.
-fn is_old(entries: &[Entry], number: u32, plan: &Plan) -> bool
+fn is_old(entries: &[Entry], number: u32, plan: &Chosen) -> bool
     ensures { Tells (IsOld entries.now number plan.now) result }
 {
     number as usize <= entries.len() && plan.entry < number
 }
 
 /// Whether the plan is for a full history, and the reason says so.
-fn has_no_room(entries: &[Entry], number: u32, why: &Reason, plan: &Plan) -> bool
+fn has_no_room(entries: &[Entry], number: u32, why: &Reason, plan: &Chosen) -> bool
     ensures { Tells (HasNoRoom entries.now number (reason_of why.now) plan.now) result }
 {
     let is_there = number as usize <= entries.len();
@@ -46,7 +46,13 @@ pub(crate) fn is_true_of_adopt(journal: &Journal<'_>, asked: &Asked<'_>, answer:
 }
 
 /// The same where this is the latest plan.
-fn is_true_of_adopted(entries: &[Entry], feed: u32, line: u32, plan: &Plan, answer: &Answer) -> bool
+fn is_true_of_adopted(
+    entries: &[Entry],
+    feed: u32,
+    line: u32,
+    plan: &Chosen,
+    answer: &Answer,
+) -> bool
     ensures { AdoptsTruly entries.now feed line plan.now (reply_of answer.now) result }
 {
     match answer {

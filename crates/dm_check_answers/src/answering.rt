@@ -48,7 +48,9 @@ impl<'a> Replay<'a> {
                 _ => Ok(false),
             },
             Line::Read => Ok(is_true_of_read(&self.journal, answer)),
-            Line::Plan(budget) => Ok(is_true_of_plan(&self.journal, asked, *budget, answer)),
+            Line::Plan(budget) | Line::Solve(budget) => {
+                Ok(is_true_of_plan(&self.journal, asked, *budget, answer))
+            }
             Line::Adopt => Ok(is_true_of_adopt(&self.journal, asked, answer)),
         }
     }

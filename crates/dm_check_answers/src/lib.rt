@@ -17,8 +17,8 @@
 //! rows, as if nothing were known. No clause says any of this; `is_true_answer` is exact either way.
 //!
 //! `Past` goes along a log. `is_next_line` and `is_in_order` tell exactly whether a line and the entry number of an answer are in
-//! order behind it. `add_malformed`, `add_answer` and `add_plan` put an item behind it. [`is_budget`] tells exactly whether a
-//! plan may be asked to have so many nodes.
+//! order behind it. `add_malformed`, `add_answer` and `add_plan` put an item behind it, `add_plan` a plan of either kind.
+//! [`is_budget`] tells exactly whether a plan may be asked to have so many nodes.
 //!
 //! Memory is taken for the rows, for the admission of an `Adopt`, and for the claims.
 #![tactic(auto)]

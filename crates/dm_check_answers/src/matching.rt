@@ -10,7 +10,7 @@ use dm_base::ActId;
 use dm_feed::Line;
 use dm_records::{Answer, Reason};
 use dm_rows::{Decision, Entry, Message};
-use dm_tree::Plan;
+use dm_tree::Chosen;
 
 /// Whether two decisions are one.
 fn is_decision(one: Decision, other: Decision) -> bool
@@ -158,7 +158,13 @@ pub(crate) fn is_entered(
 }
 
 /// Whether the plan's choices are the entry of this number, by this feed and line, behind the entries that it is for.
-pub(crate) fn is_adopted(entries: &[Entry], number: u32, feed: u32, line: u32, plan: &Plan) -> bool
+pub(crate) fn is_adopted(
+    entries: &[Entry],
+    number: u32,
+    feed: u32,
+    line: u32,
+    plan: &Chosen,
+) -> bool
     ensures { Tells (IsAdopted entries.now feed line number plan.now) result }
 {
     if number as u64 != plan.entry as u64 + 1 {
@@ -171,7 +177,7 @@ pub(crate) fn is_adopted(entries: &[Entry], number: u32, feed: u32, line: u32, p
 }
 
 /// Whether the message adopts the plan's choices.
-fn adopts(message: &Message, plan: &Plan) -> bool
+fn adopts(message: &Message, plan: &Chosen) -> bool
     ensures { Tells (message.now ≡ Adopt plan.now.choices) result }
 {
     match message {

@@ -1,23 +1,25 @@
 //! What the next answer of a feed needs of the items before it.
-ghost use Rattle.std.specs.Prelude.{◌++◌, [], ◌∷◌, ◌<◌, List, true};
+ghost use Rattle.std.specs.Prelude.{◌≡◌, ◌++◌, [], ◌∷◌, ◌<◌, List, true};
 ghost use Rattle.dm_cert.specs.declared.limits.TheConstants.{PLANS};
 ghost use Rattle.dm_feed.specs.declared.grammar.Line.{Line as Said};
 ghost use Rattle.dm_cert.specs.declared.replies.LogItem.{LogItem};
 ghost use Rattle.dm_cert.specs.declared.replies.LogItem.TheVariants.{Malformed, Answered};
-ghost use Rattle.dm_cert.specs.declared.replies.Reply.TheVariants.{Planned};
+ghost use Rattle.dm_cert.specs.Answers.{reply_with};
 ghost use Rattle.dm_cert.specs.Logs.{kind_of_reply, Follows};
 ghost use Rattle.dm_records.specs.Readings.{reply_of};
+ghost use Rattle.dm_parts.specs.declared.kinds.AnyPlan.{AnyPlan as Given};
+ghost use Rattle.dm_parts.specs.Kinds.{chosen_of};
 ghost use Rattle.dm_check_rows.specs.Claims.{Tells};
 ghost use Rattle.dm_check_answers.specs.Judging.{IsPast, line_before, number_before};
 
 use dm_records::Answer;
-use dm_tree::Plan;
+use dm_tree::Chosen;
 
-/// The line and the entry number that were last, or 0, the latest plan, and how many plans there were.
+/// The line and the entry number that were last, or 0, what an adoption takes of the latest plan, and how many plans there were.
 pub struct Past {
     pub line: u32,
     pub number: u32,
-    pub latest: Option<Plan>,
+    pub latest: Option<Chosen>,
     pub plans: usize,
 }
 
@@ -92,11 +94,11 @@ impl Past {
         }
     }
 
-    /// A plan comes behind, where there are not all plans yet.
-    pub fn add_plan(&mut self, line: u32, plan: Plan)
+    /// A plan of either kind comes behind, where there are not all plans yet.
+    pub fn add_plan(&mut self, line: u32, plan: Chosen)
         requires { self.old.plans < PLANS }
-        ensures { (before : List LogItem) (said : Said) → IsPast before self.old
-            → IsPast (before ++ Answered line said (Planned plan) ∷ []) self.new }
+        ensures { (before : List LogItem) (said : Said) (given : Given) → chosen_of given ≡ plan → IsPast before self.old
+            → IsPast (before ++ Answered line said (reply_with given) ∷ []) self.new }
     {
         self.line = line;
         self.number = plan.entry;

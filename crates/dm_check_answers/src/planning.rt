@@ -1,6 +1,6 @@
-//! Answers of one line to `plan`.
+//! Answers of one line to `plan` and `solve`.
 ghost use Rattle.std.specs.Prelude.{◌≡◌, List, true, false};
-ghost use Rattle.dm_feed.specs.declared.grammar.Line.TheVariants.{Plan as AskPlan};
+ghost use Rattle.dm_feed.specs.declared.grammar.Line.TheVariants.{Plan as AskPlan, Solve as AskSolve};
 ghost use Rattle.dm_cert.specs.declared.replies.LogItem.{LogItem};
 ghost use Rattle.dm_cert.specs.Answers.{IsBudget, IsOutOfRange, IsTrueReply};
 ghost use Rattle.dm_records.specs.Readings.{reply_of};
@@ -28,16 +28,19 @@ pub fn is_budget(journal: &Journal<'_>, budget: u64) -> bool
     1 <= budget && budget <= most
 }
 
-/// Whether the answer to a question for a plan is true, where it is no plan.
+/// Whether the answer to a question for a plan of either kind is true, where it is no plan.
 pub(crate) fn is_true_of_plan(
     journal: &Journal<'_>,
     asked: &Asked<'_>,
     budget: u64,
     answer: &Answer,
 ) -> bool
-    ensures { (before : List LogItem) → IsPast before asked.now.past.now
+    ensures plan { (before : List LogItem) → IsPast before asked.now.past.now
         → Tells (IsTrueReply (setting_of journal.now.setting) (history_of journal.now) asked.now.feed before asked.now.line (AskPlan budget)
         (reply_of answer.now)) result }
+    ensures solve { (before : List LogItem) → IsPast before asked.now.past.now
+        → Tells (IsTrueReply (setting_of journal.now.setting) (history_of journal.now) asked.now.feed before asked.now.line
+        (AskSolve budget) (reply_of answer.now)) result }
 {
     let is_budget = is_budget(journal, budget);
     match answer {

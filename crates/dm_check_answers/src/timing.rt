@@ -44,7 +44,7 @@ impl<'a> Replay<'a> {
                 Answer::Cost(number, cost) => self.is_cost_at(*number, *cost),
                 _ => Ok(false),
             },
-            Line::Plan(_) | Line::Adopt | Line::Read => Ok(false),
+            Line::Plan(_) | Line::Solve(_) | Line::Adopt | Line::Read => Ok(false),
         }
     }
 

@@ -15,7 +15,8 @@ use Rattle.dm_rows.specs.Active.{HasNoCycle}
 use Rattle.dm_rows.specs.Cost.{Costs}
 use Rattle.dm_tree.specs.Plans.{AreSomeOf, DiffersFrom, CostsWith, whole_task}
 use Rattle.dm_check_rows.specs.Claims.{Tells}
-use Rattle.dm_check_plans.specs.Inside.Paths.{AreFree, decides, is_next, IsLeftToChoose, AreTrueChoices}
+use Rattle.dm_check_plans.specs.Choosing.{AreTrueChoices}
+use Rattle.dm_check_plans.specs.Inside.Paths.{AreFree, decides, is_next, IsLeftToChoose}
 use Rattle.dm_rows.proofs.Sides.{same_choice, same_itself}
 use Rattle.dm_paths.proofs.Setting.{in_front}
 

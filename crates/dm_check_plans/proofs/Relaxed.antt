@@ -13,7 +13,7 @@ use Rattle.dm_rows.specs.Relax.{is_relaxed_active, is_relaxed_dropped}
 use Rattle.dm_rows.specs.Timetable.{time_at, MeetsHolding, IsLeastHolding}
 use Rattle.dm_rows.proofs.AsGraph.{relaxed_enter_no_passed}
 use Rattle.dm_tree.specs.Relaxed.{IsRelaxedLeast, HasNoRelaxedCycle, relaxed_cost_of}
-use Rattle.dm_check_plans.specs.Inside.RelaxedProblems.{RelaxedProblemValue, HasRelaxedCycle, times_of}
+use Rattle.dm_check_plans.specs.RelaxedProblems.{RelaxedProblemValue, HasRelaxedCycle, times_of}
 use Rattle.dm_check_plans.proofs.Cycles.{cycle_or_none}
 use Rattle.dm_paths.proofs.Setting.{DiffersInDecisions, differs_in_none, differs_with}
 use Rattle.dm_paths.proofs.Agreeing.{passed_same, span_same}

@@ -9,7 +9,7 @@ use Rattle.dm_rows.specs.declared.messages.Choice.{Choice}
 use Rattle.dm_rows.specs.declared.messages.Decision.{Decision}
 use Rattle.dm_rows.specs.Cost.{Costs, cost_of}
 use Rattle.dm_rows.specs.Decide.{with_decisions}
-use Rattle.dm_rows.specs.Relax.{is_relaxed_active}
+use Rattle.dm_rows.specs.Relax.{is_relaxed_active, is_undecided_change, is_undecided_pair}
 use Rattle.dm_rows.specs.Rows.{RowsValue}
 use Rattle.dm_rows.specs.Timetable.{IsLeastHolding}
 use Rattle.dm_rows.proofs.AsGraph.{relaxed_enter_no_passed}
@@ -20,12 +20,16 @@ use Rattle.dm_tree.specs.Relaxed.{IsRelaxedLeast, RelaxedCosts, relaxed_cost_of,
 use Rattle.dm_tree.specs.Plans.{whole_task, IsViolatedThere, IsTrueInner, IsTrueBound, IsTrueOpen}
 use Rattle.dm_rows.specs.Sides.{IsOrdered}
 use Rattle.dm_check_rows.specs.Claims.{Tells}
-use Rattle.dm_check_plans.specs.Inside.RelaxedProblems.{HasRelaxedCycle}
+use Rattle.dm_check_plans.specs.RelaxedProblems.{HasRelaxedCycle}
 use Rattle.dm_check_plans.specs.Inside.Violations.{IsSomeViolated}
-use Rattle.dm_check_plans.specs.Inside.Visiting.{IsTrueNode, IsNextOpen, is_cycle}
-use Rattle.dm_paths.proofs.Open.{violated_is_open}
+use Rattle.dm_check_plans.specs.Visiting.{IsNextOpen}
+use Rattle.dm_check_plans.specs.Inside.Visiting.{IsTrueNode, is_cycle}
+use Rattle.dm_paths.specs.declared.places.ChoicePlace.{ChoicePlace}
+use Rattle.dm_paths.specs.Decisions.{IsOpen}
+use Rattle.dm_paths.specs.Places.{at_place, IsPlaceOf}
+use Rattle.dm_paths.proofs.Open.{violated_is_open, open_where_flagged, flagged_where_open}
 
-one_least : (net : Net) (rows : RowsValue) (held : ℕ → Bool) (x y : List ℕ) → IsLeastHolding net rows held x → IsLeastHolding net rows held y → x ≡ y
+pub one_least : (net : Net) (rows : RowsValue) (held : ℕ → Bool) (x y : List ℕ) → IsLeastHolding net rows held x → IsLeastHolding net rows held y → x ≡ y
 one_least net rows held x y p q =
     let a = p.meets.size in
     let b = q.meets.size in
@@ -40,9 +44,16 @@ one_own : (net : Net) (rows : RowsValue) (penalty a b : ℕ) → Costs net rows 
 one_own net rows penalty a b p q =
     p.cost ∙ ap (λ (x : List ℕ). cost_of net rows x penalty) (one_least net rows _ p.times q.times p.least q.least) ∙ sym q.cost
 
+-- a flag tells whether a choice is open
+pub open_is_told : (net : Net) → IsNetwork net → (rows : RowsValue) (path : List Decision) (choice : Choice) (place : ChoicePlace) → IsPlaceOf net choice place → (b : Bool) →
+    b ≡ at_place (is_undecided_change net rows path) (is_undecided_pair net rows path) place → Tells (IsOpen net rows path choice) b
+open_is_told net network rows path choice place there true flag = open_where_flagged net network rows path choice place there (sym flag)
+open_is_told net network rows path choice place there false flag = λ o.
+    both_ways (at_place (is_undecided_change net rows path) (is_undecided_pair net rows path) place) (sym flag) (flagged_where_open net network rows path choice place there o)
+
 module _ (net : Net) (rows : RowsValue) (penalty budget : ℕ) (path : List Decision) where
   -- where some timetable is least there is no cycle
-  least_has_none : IsNetwork net → (x : List ℕ) → IsRelaxedLeast net rows path x → HasNoRelaxedCycle net rows path
+  pub least_has_none : IsNetwork net → (x : List ℕ) → IsRelaxedLeast net rows path x → HasNoRelaxedCycle net rows path
   least_has_none network x least =
       (held_is_met_exactly_without_cycle net (with_decisions net rows path) (is_relaxed_active net rows path) network (relaxed_enter_no_passed net rows path)).0 (x, least.meets)
 
@@ -59,7 +70,7 @@ module _ (net : Net) (rows : RowsValue) (penalty budget : ℕ) (path : List Deci
   cycle_told network some plan_cost Hole false e = λ t. t
 
   module _ (times : List ℕ) (least : IsRelaxedLeast net rows path times) where
-    one_cost : (c : ℕ) → RelaxedCosts net rows path penalty c → c ≡ relaxed_cost_of net rows path times penalty
+    pub one_cost : (c : ℕ) → RelaxedCosts net rows path penalty c → c ≡ relaxed_cost_of net rows path times penalty
     one_cost c costs =
         costs.cost ∙ ap (λ (x : List ℕ). relaxed_cost_of net rows path x penalty)
         (one_least net (with_decisions net rows path) (is_relaxed_active net rows path) costs.times times costs.least least)

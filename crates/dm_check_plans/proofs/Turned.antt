@@ -22,7 +22,7 @@ use Rattle.dm_marks.specs.Places.{PlaceSetValue}
 use Rattle.dm_check_times.specs.Noting.{AreAlikeBut}
 use Rattle.dm_check_times.specs.Changes.{AreChangesTo}
 use Rattle.dm_check_times.specs.KeptCosts.{KeptCostValue, IsKeptCostOf, IsPricedFor}
-use Rattle.dm_check_plans.specs.Inside.RelaxedProblems.{RelaxedProblemValue, IsRelaxedProblemOf, IsCosted}
+use Rattle.dm_check_plans.specs.RelaxedProblems.{RelaxedProblemValue, IsRelaxedProblemOf, IsCosted}
 use Rattle.dm_paths.proofs.Apart.{Apart, choice_list_from}
 use Rattle.dm_paths.proofs.Decided.{changes_decided, pairs_decided, changes_undecided, pairs_undecided}
 use Rattle.dm_paths.proofs.Lists.{pushed, decides_free, apart_from_once}

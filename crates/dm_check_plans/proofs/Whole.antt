@@ -18,7 +18,8 @@ use Rattle.dm_tree.specs.Inside.Filling.{visits}
 use Rattle.dm_tree.proofs.Standing.{visits_below, visits_filled, stands_among, among_stands}
 use Rattle.dm_check_rows.specs.Claims.{Tells}
 use Rattle.dm_check_plans.specs.Inside.Leaves.{is_open, is_at, is_below, node_at, SomeNode, NoneNode}
-use Rattle.dm_check_plans.specs.Inside.Paths.{AreTrueChoices}
+use Rattle.dm_check_plans.specs.Choosing.{AreTrueChoices}
+use Rattle.dm_check_plans.specs.Visiting.{HoldsOfAll}
 use Rattle.dm_check_plans.specs.Inside.Visiting.{IsTrueNode, AreTrueNodes, IsMarked, IsToldOf}
 use Rattle.dm_paths.proofs.Setting.{in_front}
 
@@ -108,7 +109,7 @@ module _ (nodes : List Node) (shape : Shape) (in_preorder : preorder shape ≡ n
   visits_are =
       ap (visits ([] ∷ [])) (sym in_preorder ∙ sym (append-nil (preorder shape))) ∙ visits_filled [] [] shape [] proper ∙ append-nil (visits_below [] shape)
 
-  placed : (path : List Decision) (n : Node) → StandsAt shape path n → Contains nodes n
+  pub placed : (path : List Decision) (n : Node) → StandsAt shape path n → Contains nodes n
   placed path n s = subst (λ (ns : List Node). Contains ns n) in_preorder (stands_preorder shape path n s)
 
   somewhere : (n : Node) → Contains nodes n → StandsSomewhere shape n
@@ -126,18 +127,18 @@ module _ (nodes : List Node) (shape : Shape) (in_preorder : preorder shape ≡ n
   some_there : (test : Node → Bool) (path : List Decision) (n : Node) → StandsAt shape path n → test n ≡ true → SomeNode test nodes
   some_there test path n s meets = let h = test_there test path n s in record { place = h.0; within = h.1; meets = h.2 ∙ meets }
 
-  module _ (task : Task) (cost : ℕ) where
-    pub node_true : AreTrueNodes task cost ([] ∷ []) nodes → (path : List Decision) (n : Node) → StandsAt shape path n → IsTrueNode task cost path n
+  module _ (P : List Decision → Node → Type 0) where
+    pub node_true : HoldsOfAll P ([] ∷ []) nodes → (path : List Decision) (n : Node) → StandsAt shape path n → P path n
     node_true all path n s =
-        All-contains (λ l. IsTrueNode task cost l.path l.node) (visits_below [] shape) (record { path = path; node = n })
-        (subst (All (λ (l : Leaf). IsTrueNode task cost l.path l.node)) visits_are all) (stands_among [] shape path n s)
+        All-contains (λ l. P l.path l.node) (visits_below [] shape) (record { path = path; node = n })
+        (subst (All (λ (l : Leaf). P l.path l.node)) visits_are all) (stands_among [] shape path n s)
 
-    pub nodes_true : ((path : List Decision) (n : Node) → StandsAt shape path n → IsTrueNode task cost path n) → AreTrueNodes task cost ([] ∷ []) nodes
+    pub nodes_true : ((path : List Decision) (n : Node) → StandsAt shape path n → P path n) → HoldsOfAll P ([] ∷ []) nodes
     nodes_true each k d lt =
         let l : Leaf = get_or (visits ([] ∷ []) nodes) k d in
         let c : Contains (visits_below [] shape) l = subst (λ (ls : List Leaf). Contains ls l) visits_are (Contains-get_or (visits ([] ∷ []) nodes) k d lt) in
         let s = among_stands [] shape l c in
-        subst (λ (p : List Decision). IsTrueNode task cost p l.node) (sym s.is) (each s.rest l.node s.stands)
+        subst (λ (p : List Decision). P p l.node) (sym s.is) (each s.rest l.node s.stands)
 
   -- ---- the bound and the mark
 
@@ -204,7 +205,7 @@ module _ (task : Task) (plan : Plan) where
       IsToldOf plan.tree plan.bound plan.mark task.budget → IsTruePlan task plan
   whole_plan tree choices all told =
       let each : (path : List Decision) (n : Node) → StandsAt tree.shape path n → IsTrueNode task plan.cost path n =
-      node_true plan.tree tree.shape tree.in_preorder tree.proper task plan.cost all in
+      node_true plan.tree tree.shape tree.in_preorder tree.proper (IsTrueNode task plan.cost) all in
       record {
         choices = choices.in_order;
         differ = choices.differ;
@@ -217,7 +218,7 @@ module _ (task : Task) (plan : Plan) where
         cycles = λ path s. each path Cycle s;
         bounds = λ path c s. each path (Bound c) s;
         opens = λ path c s. each path (Open c) s;
-        bound = least_bound plan.tree tree.shape tree.in_preorder tree.proper plan.bound task.budget told.reached told.below;
+        bound = least_bound plan.tree tree.shape tree.in_preorder tree.proper plan.bound task.budget told.least.reached told.least.below;
         mark = mark_is plan.tree tree.shape tree.in_preorder tree.proper plan.bound task.budget plan.mark told.marked;
         size = told.size;
         used = budget_used plan.tree tree.shape tree.in_preorder tree.proper plan.bound task.budget plan.mark told.marked;
@@ -227,7 +228,7 @@ module _ (task : Task) (plan : Plan) where
   its_choices p = record { in_order = p.choices; differ = p.differ; costs = p.cost }
 
   pub its_nodes : IsTruePlan task plan → AreTrueNodes task plan.cost ([] ∷ []) plan.tree
-  its_nodes p = nodes_true plan.tree p.shape p.in_preorder p.proper task plan.cost each
+  its_nodes p = nodes_true plan.tree p.shape p.in_preorder p.proper (IsTrueNode task plan.cost) each
     where
       each : (path : List Decision) (n : Node) → StandsAt p.shape path n → IsTrueNode task plan.cost path n
       each path (Inner c) s = p.inners path c s
@@ -238,8 +239,10 @@ module _ (task : Task) (plan : Plan) where
 
   pub its_leaves : IsTruePlan task plan → IsToldOf plan.tree plan.bound plan.mark task.budget
   its_leaves p = record {
-    reached = bound_reached plan.tree p.shape p.in_preorder p.proper plan.bound task.budget p.bound;
-    below = none_below plan.tree p.shape p.in_preorder p.proper plan.bound task.budget p.bound;
+    least = record {
+      reached = bound_reached plan.tree p.shape p.in_preorder p.proper plan.bound task.budget p.bound;
+      below = none_below plan.tree p.shape p.in_preorder p.proper plan.bound task.budget p.bound;
+    };
     marked = is_marked plan.tree p.shape p.in_preorder p.proper plan.bound task.budget plan.mark p.mark p.used;
     size = p.size;
   }

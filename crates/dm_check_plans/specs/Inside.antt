@@ -3,7 +3,6 @@ pub mod Paths
 pub mod Moves
 pub mod Violations
 pub mod Timetables
-pub mod RelaxedProblems
 pub mod Visiting
 pub mod Leaves
 pub mod Judged

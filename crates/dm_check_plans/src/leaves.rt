@@ -1,5 +1,7 @@
 //! What the leaves of a tree carry.
 ghost use Rattle.std.specs.Prelude.{◌≡◌, true, false, length};
+ghost use Rattle.dm_check_rows.specs.Claims.{Tells};
+ghost use Rattle.dm_check_plans.specs.Visiting.{IsLeastCarried};
 ghost use Rattle.dm_check_plans.specs.Inside.Leaves.{is_open, is_at, is_below, meets, SomeNode, NoneNode};
 
 use dm_base::Cost;
@@ -16,6 +18,16 @@ pub enum Wanted {
 
     /// One that carries a smaller cost.
     Below(Cost),
+}
+
+/// Whether some leaf carries this cost, and none a smaller one.
+pub fn is_least(nodes: &[Node], bound: Cost) -> bool
+    ensures { Tells (IsLeastCarried nodes.now bound) result }
+{
+    if is_any(nodes, Wanted::Below(bound)) {
+        return false;
+    }
+    is_any(nodes, Wanted::At(bound))
 }
 
 /// Whether some leaf is what is wanted.

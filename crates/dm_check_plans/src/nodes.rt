@@ -1,15 +1,15 @@
 //! The nodes of a tree, each by the relaxed problem of its path.
-ghost use Rattle.std.specs.Prelude.{ℕ, ◌≡◌, [], ◌∷◌, true, false, IfOk, MatchBool, OnOk};
+ghost use Rattle.std.specs.Prelude.{ℕ, ◌≡◌, [], ◌∷◌, true, false, IfOk};
 ghost use Rattle.dm_tree.specs.Plans.{IsTrueInner, IsTrueBound, IsTrueOpen};
 ghost use Rattle.dm_tree.specs.Inside.Filling.{fills};
-ghost use Rattle.dm_tree.specs.Pending.{pending};
 ghost use Rattle.dm_check_rows.specs.Claims.{Tells};
 ghost use Rattle.dm_check_plans.specs.Inside.Judged.{task_of, IsOwn};
-ghost use Rattle.dm_check_plans.specs.Inside.RelaxedProblems.{IsRelaxedProblemOf, IsSolved};
-ghost use Rattle.dm_check_plans.specs.Inside.Visiting.{IsTrueNode, AreTrueNodes, IsNextOpen, GoesOn, is_cycle};
+ghost use Rattle.dm_check_plans.specs.RelaxedProblems.{IsRelaxedProblemOf, IsSolved};
+ghost use Rattle.dm_check_plans.specs.Inside.Visiting.{IsTrueNode, AreTrueNodes, is_cycle};
 
 use crate::grounds::Grounds;
 use crate::relaxed_problem::RelaxedProblem;
+use crate::stepping::go_on;
 use dm_base::Cost;
 use dm_check_times::HeldCycle;
 use dm_rows::Choice;
@@ -33,48 +33,13 @@ impl Grounds<'_> {
             if !self.is_true(&mut problem, *node) {
                 return Ok(false);
             }
-            match self.go_on(&mut problem, *node) {
+            match go_on(&mut problem, self.net, self.rows, *node) {
                 Ok(true) => {}
                 Ok(false) => return Ok(true),
                 Err(full) => return Err(full),
             }
         }
         Ok(true)
-    }
-
-    /// Goes on from a true node to the next place in preorder: to the first child of a choice, and from a leaf to the second child
-    /// of the last choice of which the path took the first. It is false where no place is left.
-    fn go_on(&self, problem: &mut RelaxedProblem, node: Node) -> Result<bool, AllocError>
-        requires problem { IsRelaxedProblemOf self.now.net.now self.now.rows.now problem.old }
-        requires open { IsNextOpen self.now.net.now self.now.rows.now problem.old.path node }
-        ensures problem { OnOk result (IsRelaxedProblemOf self.now.net.now self.now.rows.now problem.new) }
-        ensures next { IfOk result (λ more. GoesOn node more problem.old.path problem.new.path) }
-    {
-        match node.choice() {
-            Some(choice) => match problem.decide(self.net, self.rows, choice.first()) {
-                Ok(()) => Ok(true),
-                Err(full) => Err(full),
-            },
-            None => self.turn_back(problem),
-        }
-    }
-
-    /// Goes on from a leaf.
-    fn turn_back(&self, problem: &mut RelaxedProblem) -> Result<bool, AllocError>
-        requires problem { IsRelaxedProblemOf self.now.net.now self.now.rows.now problem.old }
-        ensures problem { OnOk result (IsRelaxedProblemOf self.now.net.now self.now.rows.now problem.new) }
-        ensures next { IfOk result (λ more. MatchBool more (pending problem.old.path ≡ problem.new.path ∷ pending problem.new.path)
-            (pending problem.old.path ≡ [])) }
-    {
-        while let Some(decision) = problem.take_back(self.net, self.rows) {
-            if decision.is_first() {
-                return match problem.decide(self.net, self.rows, decision.other()) {
-                    Ok(()) => Ok(true),
-                    Err(full) => Err(full),
-                };
-            }
-        }
-        Ok(false)
     }
 
     /// Whether a node is true at the path.

@@ -1,25 +1,26 @@
 //! The relaxed problem of a path, as decisions are made and taken back.
-ghost use Rattle.std.specs.Prelude.{◌≡◌, ◌≤◌, ◌++◌, [], ◌∷◌, IsTrue, ◌↔◌, length, IfOk, IfSome, IfNone, OnOk, OnErr};
+ghost use Rattle.std.specs.Prelude.{◌≡◌, ◌<◌, ◌≤◌, ◌++◌, [], ◌∷◌, IsTrue, ◌↔◌, length, IfOk, IfSome, IfNone, OnOk, OnErr};
 ghost use Rattle.dm_base.specs.declared.limits.TheConstants.{PENALTY};
 ghost use Rattle.dm_rows.specs.Rows.{IsSized};
 ghost use Rattle.dm_rows.specs.Decide.{choice_of};
+ghost use Rattle.dm_rows.specs.Relax.{is_relaxed_dropped};
 ghost use Rattle.dm_tree.specs.Relaxed.{relaxed_cost_of, IsViolated};
 ghost use Rattle.dm_check_rows.specs.Claims.{Tells};
 ghost use Rattle.dm_check_times.specs.Binding.{AreBelowLimit};
 ghost use Rattle.dm_check_times.specs.KeptCosts.{IsKeptCostOf, IsPricedFor};
 ghost use Rattle.dm_paths.specs.Flags.{is_flagged};
 ghost use Rattle.dm_paths.specs.Decisions.{IsOpen};
-ghost use Rattle.dm_check_plans.specs.Inside.RelaxedProblems.{IsRelaxedProblemOf, IsSolved, HasRelaxedCycle, times_of};
+ghost use Rattle.dm_check_plans.specs.RelaxedProblems.{IsRelaxedProblemOf, IsSolved, HasRelaxedCycle, times_of};
 ghost use Rattle.dm_check_plans.specs.Inside.Violations.{IsSomeViolated};
 
 use crate::held_timetable::HeldTimetable;
 use crate::timed::TimedRows;
 use crate::turning::{turn, weigh};
-use dm_base::Cost;
+use dm_base::{Cost, Secs};
 use dm_check_times::{Charges, HeldCycle, KeptCost, changes_of};
 use dm_marks::PlaceSet;
 use dm_network::Network;
-use dm_paths::{Undecided, all_undecided, binding_flags, flip_of};
+use dm_paths::{Undecided, all_undecided, binding_flags, flip_of, place_of_choice};
 use dm_rows::{Choice, Decision, Rows};
 use std::alloc::{AllocError, Global};
 use std::marker::Model;
@@ -59,7 +60,7 @@ impl Drop for RelaxedProblem {
 }
 
 impl Model for RelaxedProblem {
-    ghost use Rattle.dm_check_plans.specs.Inside.RelaxedProblems.{RelaxedProblemValue};
+    ghost use Rattle.dm_check_plans.specs.RelaxedProblems.{RelaxedProblemValue};
 
     ghost Value = { RelaxedProblemValue };
 
@@ -199,6 +200,34 @@ impl RelaxedProblem {
         ensures { result ≡ relaxed_cost_of net.now rows.now self.now.path (times_of self.now) penalty }
     {
         self.kept_cost.cost(net, penalty)
+    }
+
+    /// The times, in seconds.
+    pub fn times(&self) -> &[Secs]
+        ensures { result.now ≡ times_of self.now }
+    {
+        self.timetable.times()
+    }
+
+    /// Whether the relaxed problem charges for an activity.
+    pub fn is_charged(&self, net: &Network, rows: &Rows, a: usize) -> bool
+        requires problem { IsRelaxedProblemOf net.now rows.now self.now }
+        requires is_activity { a < length net.now.activities }
+        ensures { result ≡ is_relaxed_dropped net.now rows.now self.now.path a }
+    {
+        self.charged[a]
+    }
+
+    /// Whether a choice is free and the path leaves it undecided.
+    pub fn is_open(&self, net: &Network, rows: &Rows, choice: Choice) -> bool
+        requires { IsRelaxedProblemOf net.now rows.now self.now }
+        ensures { Tells (IsOpen net.now rows.now self.now.path choice) result }
+    {
+        net.reveal();
+        match place_of_choice(net, choice) {
+            Some(place) => self.undecided.is(place),
+            None => false,
+        }
     }
 
     /// Whether a choice is undecided and violated, where the times are the least ones.

@@ -10,7 +10,7 @@ use Rattle.dm_cert.specs.declared.replies.LogItem.TheVariants.{Malformed, Answer
 use Rattle.dm_cert.specs.declared.replies.Reply.{Reply}
 use Rattle.dm_cert.specs.Answers.{Setting}
 use Rattle.dm_cert.specs.PlanTexts.{line_end}
-use Rattle.dm_cert.specs.RunTexts.{item_text, reply_text, FitsItem, IsSpelledItem}
+use Rattle.dm_cert.specs.RunTexts.{item_text, reply_text, FitsItem, IsSpelledItem, KnowsItem}
 use Rattle.dm_cert.proofs.LineFeeds.{NoFeed, has_no_feed, no_feed_append}
 use Rattle.dm_cert.proofs.SpelledPlans.{HasLine}
 use Rattle.dm_records.specs.Laws.{IsHeldItem}
@@ -20,13 +20,15 @@ use Rattle.dm_records.proofs.Splitting.{parts_no_feed}
 use Rattle.dm_check.specs.FalseRecords.{TellsItem, IsNextItem}
 use Rattle.dm_records.proofs.LinesSpelled.{number_then}
 use Rattle.dm_check.proofs.Truth.PlanItems.{plan_told}
-use Rattle.dm_check.proofs.Truth.Replies.{reply_line, formed_or_plan, IsPlanned}
+use Rattle.dm_check.proofs.Truth.Replies.{reply_line, formed_or_plan, IsPlanned, IsSolved}
+use Rattle.dm_check.proofs.Truth.SolvedItems.{solution_told}
 use Rattle.dm_check.proofs.Truth.Standing.{IsTold, line_stands}
 
 -- the item stands in print, and memory holds it
-pub record IsPrinted (answered : LogItem) : Type 0 where
+pub record IsPrinted (version : ℕ) (answered : LogItem) : Type 0 where
   pub fits : FitsItem answered
   pub spelled : IsSpelledItem answered
+  pub known : KnowsItem version answered
   pub held : IsHeldItem answered
 
 -- ---- items of one line
@@ -39,7 +41,7 @@ malformed_line version n low = record {
   line = decimal n ++ codes " malformed";
   text_is = malformed_text version n;
   one_line = has_no_feed (decimal n ++ codes " malformed") (number_then n (codes " malformed") (omega arith) refl);
-  spelled = (malformed_text version n, low);
+  spelled = (malformed_text version n, low, tt);
 }
 
 said_no_feed : (n : ℕ) (said : Line) (tail : List ℕ) → n ≤ largest_id → All Fits (parts_of_line said) → NoFeed tail → NoFeed (said_body n said tail)
@@ -56,15 +58,15 @@ unfolding item_text
 answered_is version n said r body is =
     ap (λ xs. decimal n ++ (codes " " ++ (spelling_of_line said ++ (codes " -> " ++ xs)))) (append-nil (reply_text version r) ∙ is) ∙ sym (simp append_assoc)
 
-answered_line : (version n : ℕ) (said : Line) (r : Reply) → n ≤ largest_id → IsFormedSaid said → IsFormedReply r → ItemHasLine version (Answered n said r)
-answered_line version n said r low formed reply =
+answered_line : (version n : ℕ) (said : Line) (r : Reply) → n ≤ largest_id → IsFormedSaid said → IsFormedReply r → KnowsItem version (Answered n said r) → ItemHasLine version (Answered n said r)
+answered_line version n said r low formed reply knows =
     let line = reply_line version r reply in
     let is = answered_is version n said r line.body line.is in
     record {
       line = said_body n said line.body;
       text_is = is;
       one_line = has_no_feed (said_body n said line.body) (said_no_feed n said line.body low formed.fits line.one_line);
-      spelled = (is, (low, formed, reply));
+      spelled = (is, (low, formed, reply), knows);
     }
 
 module _ (s : Setting) (history : List Entry) (feed : ℕ) (before : List LogItem) where
@@ -80,17 +82,22 @@ module _ (s : Setting) (history : List Entry) (feed : ℕ) (before : List LogIte
         told = record { value = lone answered; behind = line.next; told = line.told; then = (next, refl, refl) };
       }
 
-  by_form : (line : ℕ) (said : Line) (r : Reply) → IsNextItem s history feed before (Answered line said r) → IsPrinted (Answered line said r) → IsFormedReply r ⊎ IsPlanned r → ItemIsTold (Answered line said r)
+  by_form : (line : ℕ) (said : Line) (r : Reply) → IsNextItem s history feed before (Answered line said r) → IsPrinted s.version (Answered line said r) → IsFormedReply r ⊎ (IsPlanned r ⊎ IsSolved r) → ItemIsTold (Answered line said r)
   by_form line said r next printed (inl formed) =
       lone_told (Answered line said r)
-      (answered_line s.version line said r printed.fits.0 (record { spelled = printed.spelled.0; fits = printed.fits.1 }) formed) next
-  by_form line said r next printed (inr planned) =
-      let P : Reply → Type 0 = λ q. IsNextItem s history feed before (Answered line said q) → IsPrinted (Answered line said q) → ItemIsTold (Answered line said q) in
+      (answered_line s.version line said r printed.fits.0 (record { spelled = printed.spelled.0; fits = printed.fits.1 }) formed printed.known) next
+  by_form line said r next printed (inr (inl planned)) =
+      let P : Reply → Type 0 = λ q. IsNextItem s history feed before (Answered line said q) → IsPrinted s.version (Answered line said q) → ItemIsTold (Answered line said q) in
       subst P (sym planned.is)
-      (λ n p. plan_told s history feed before line said planned.plan n p.fits.0 (record { spelled = p.spelled.0; fits = p.fits.1 }) p.fits.2.0 p.fits.2.1 p.held)
+      (λ n p. plan_told s history feed before line said planned.plan n p.fits.0 (record { spelled = p.spelled.0; fits = p.fits.1 }) p.fits.2.0 p.fits.2.1 p.held p.known.0)
+      next printed
+  by_form line said r next printed (inr (inr solved)) =
+      let P : Reply → Type 0 = λ q. IsNextItem s history feed before (Answered line said q) → IsPrinted s.version (Answered line said q) → ItemIsTold (Answered line said q) in
+      subst P (sym solved.is)
+      (λ n p. solution_told s history feed before line said solved.plan n p.fits.0 (record { spelled = p.spelled.0; fits = p.fits.1 }) p.fits.2.0 p.fits.2.1 p.spelled.1 p.held p.known.1)
       next printed
 
-  pub item_told : (answered : LogItem) → IsNextItem s history feed before answered → IsPrinted answered → ItemIsTold answered
+  pub item_told : (answered : LogItem) → IsNextItem s history feed before answered → IsPrinted s.version answered → ItemIsTold answered
   item_told (Malformed line) next printed = lone_told (Malformed line) (malformed_line s.version line printed.fits) next
   item_told (Answered line said r) next printed =
       by_form line said r next printed (formed_or_plan s history feed before line said r next.is_true printed.fits.2 printed.spelled.1)

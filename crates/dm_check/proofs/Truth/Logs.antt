@@ -13,7 +13,7 @@ use Rattle.dm_cert.specs.declared.replies.LogItem.{LogItem}
 use Rattle.dm_cert.specs.declared.replies.FeedLog.{FeedLog}
 use Rattle.dm_cert.specs.Answers.{Setting}
 use Rattle.dm_cert.specs.PlanTexts.{line_end, largest_cost}
-use Rattle.dm_cert.specs.RunTexts.{entry_text, feed_text, stop_text, item_text, log_text, note_text, FitsEntry, FitsNote, FitsItem, FitsLog, IsSpelledItem, IsSpelledLog}
+use Rattle.dm_cert.specs.RunTexts.{entry_text, feed_text, stop_text, item_text, log_text, note_text, FitsEntry, FitsNote, FitsItem, FitsLog, IsSpelledItem, IsSpelledLog, KnowsItem, KnowsLog}
 use Rattle.dm_records.specs.Laws.{IsHeldItem, IsHeldLog}
 use Rattle.dm_records.specs.RunLines.{LogOpening, IsEntryLine, IsOpeningLine, IsStopLine, IsNoteLine, IsTimeLine}
 use Rattle.dm_check.specs.declared.verdicts.BadKind.TheVariants as kind
@@ -46,30 +46,32 @@ time_told net rows before t next id time place rest left =
 -- ---- logs
 
 -- the log stands in print, and memory holds it
-pub record IsPrintedLog (log : FeedLog) : Type 0 where
+pub record IsPrintedLog (version : ℕ) (log : FeedLog) : Type 0 where
   pub fits : FitsLog log
   pub spelled : IsSpelledLog log
+  pub known : KnowsLog version log
   pub held : IsHeldLog log
 
-items_printed : (log : FeedLog) → IsPrintedLog log → Each (λ before x. IsPrinted x) [] log.items
-items_printed log printed =
-    each_of_splits (λ before x. IsPrinted x) log.items
+items_printed : (version : ℕ) (log : FeedLog) → IsPrintedLog version log → Each (λ before x. IsPrinted version x) [] log.items
+items_printed version log printed =
+    each_of_splits (λ before x. IsPrinted version x) log.items
     (λ before x later e. record {
       fits = all_there FitsItem before x later (subst (All FitsItem) e printed.fits);
       spelled = all_there IsSpelledItem before x later (subst (All IsSpelledItem) e printed.spelled);
+      known = all_there (KnowsItem version) before x later (subst (All (KnowsItem version)) e printed.known);
       held = all_there IsHeldItem before x later (subst (All IsHeldItem) e printed.held.items);
     })
     [] log.items refl
 
-pub log_told : (s : Setting) (history : List Entry) (before : List FeedLog) (log : FeedLog) → IsTrueBehind s history before log → IsPrintedLog log → length before + 1 ≤ largest_id →
+pub log_told : (s : Setting) (history : List Entry) (before : List FeedLog) (log : FeedLog) → IsTrueBehind s history before log → IsPrintedLog s.version log → length before + 1 ≤ largest_id →
     IsTold (TellsLog s history) (λ k. log_text s.version (k + 1)) before log
 log_told s history before log is printed low place rest left =
     let n : ℕ = length before + 1 in
     let items : List LogItem = log.items in
     let stop : List ℕ = stop_text log.stop ++ rest in
     let at : place.left ≡ feed_text n (length items) ++ (flat_map (item_text s.version) items ++ stop) = left ∙ log_same s.version n items log.stop rest in
-    let each = each_both (IsNextItem s history n) (λ held x. IsPrinted x) (IsTold (TellsItem s history n) (λ k. item_text s.version)) (λ held x next p. item_told s history n held x next p)
-    [] items (items_next s history n [] items is.answers is.in_order) (items_printed log printed) in
+    let each = each_both (IsNextItem s history n) (λ held x. IsPrinted s.version x) (IsTold (TellsItem s history n) (λ k. item_text s.version)) (λ held x next p. item_told s history n held x next p)
+    [] items (items_next s history n [] items is.answers is.in_order) (items_printed s.version log printed) in
     let opening : LogOpening = record { feed = n; items = length items } in
     let size : length items ≤ largest_cost = let few = printed.held.size in omega arith in
     then_stands (Rules IsOpeningLine (λ o. o.feed ≡ n) kind.Form (λ o. o.items)) _ (length items) log place (flat_map (item_text s.version) items ++ stop) rest

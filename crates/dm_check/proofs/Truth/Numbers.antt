@@ -18,8 +18,8 @@ use Rattle.dm_rows.specs.History.{IsLegal}
 use Rattle.dm_feed.specs.Parts.{Fits, id, largest_value}
 use Rattle.dm_feed.specs.Lines.{parts_of_message, IsSaid}
 use Rattle.dm_feed.specs.declared.grammar.Line.{Line}
-use Rattle.dm_feed.specs.declared.grammar.Line.TheVariants.{Say, Time as AskTime, CostNow as AskCost, Plan as AskPlan, Adopt as AskAdopt, Read as AskRead}
-use Rattle.dm_tree.specs.declared.plans.Plan.{Plan}
+use Rattle.dm_feed.specs.declared.grammar.Line.TheVariants.{Say, Time as AskTime, CostNow as AskCost, Plan as AskPlan, Solve as AskSolve, Adopt as AskAdopt, Read as AskRead}
+use Rattle.dm_tree.specs.declared.adopting.Chosen.{Chosen}
 use Rattle.dm_cert.specs.declared.replies.Reply.{Reply}
 use Rattle.dm_cert.specs.declared.replies.Reply.TheVariants as reply
 use Rattle.dm_cert.specs.declared.replies.LogItem.{LogItem}
@@ -99,7 +99,7 @@ said_reason_fits net rows n m refusal.OutOfMemory said fits within is formed = t
 unknown_fits : (why : Refusal) (event : EventId) → why ≡ refusal.UnknownEvent event → IsFormedReason why → FitsReason why
 unknown_fits why event e formed = subst FitsReason (sym e) (subst IsFormedReason e formed)
 
-full_fits : (history : List Entry) (n : ℕ) (why : Refusal) (latest : Option Plan) → IsSomeAnd latest (λ plan. HasNoRoom history n why plan) → FitsReason why
+full_fits : (history : List Entry) (n : ℕ) (why : Refusal) (latest : Option Chosen) → IsSomeAnd latest (λ plan. HasNoRoom history n why plan) → FitsReason why
 full_fits history n why None is = absurd is
 full_fits history n why (Some plan) is = subst FitsReason (sym is.is_why) full
   where
@@ -128,6 +128,7 @@ reply_spelled (reply.Time n x) formed = tt
 reply_spelled (reply.Cost n c) formed = tt
 reply_spelled (reply.Read n) formed = tt
 reply_spelled (reply.Planned plan) formed = tt
+reply_spelled (reply.Solved plan) formed = absurd formed
 reply_spelled (reply.Old n) formed = tt
 reply_spelled reply.NoPlan formed = tt
 reply_spelled reply.Plans formed = tt
@@ -151,6 +152,7 @@ module _ (s : Setting) (history : List Entry) (sound : IsSound s history) (feed 
   refusal_fits (AskTime event) at formed is reason = unknown_fits at.why event is.is_why reason
   refusal_fits AskCost at formed is reason = absurd is
   refusal_fits (AskPlan budget) at formed is reason = absurd is
+  refusal_fits (AskSolve budget) at formed is reason = absurd is
   refusal_fits AskAdopt at formed is reason = full_fits history at.entry at.why (latest_plan before) is
   refusal_fits AskRead at formed is reason = absurd is
 
@@ -162,6 +164,7 @@ module _ (s : Setting) (history : List Entry) (sound : IsSound s history) (feed 
       omega (arith, low, same)
   time_fits AskCost n x is = absurd is
   time_fits (AskPlan budget) n x is = absurd is
+  time_fits (AskSolve budget) n x is = absurd is
   time_fits AskAdopt n x is = absurd is
   time_fits AskRead n x is = absurd is
 
@@ -170,6 +173,7 @@ module _ (s : Setting) (history : List Entry) (sound : IsSound s history) (feed 
   budget_fits (AskTime event) b formed is = absurd is
   budget_fits AskCost b formed is = absurd is
   budget_fits (AskPlan budget) b formed is = let low : budget ≤ largest_value = formed.fits 1 (id 0) (omega arith) in let same = is.1 in omega arith
+  budget_fits (AskSolve budget) b formed is = let low : budget ≤ largest_value = formed.fits 1 (id 0) (omega arith) in let same = is.1 in omega arith
   budget_fits AskAdopt b formed is = absurd is
   budget_fits AskRead b formed is = absurd is
 
@@ -180,6 +184,7 @@ module _ (s : Setting) (history : List Entry) (sound : IsSound s history) (feed 
   reply_fits said (reply.Cost n c) formed is form = form
   reply_fits said (reply.Read n) formed is form = form
   reply_fits said (reply.Planned plan) formed is form = absurd form
+  reply_fits said (reply.Solved plan) formed is form = absurd form
   reply_fits said (reply.Old n) formed is form = form
   reply_fits said reply.NoPlan formed is form = tt
   reply_fits said reply.Plans formed is form = tt

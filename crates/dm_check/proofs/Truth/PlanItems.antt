@@ -22,7 +22,7 @@ use Rattle.dm_cert.specs.Answers.{Setting}
 use Rattle.dm_cert.specs.PlanLaws.{IsHeld}
 use Rattle.dm_cert.specs.PlanTexts.{line_end, spelling_of_plan, FitsPlan}
 use Rattle.dm_cert.specs.PlansRead.{IsChoiceLine, IsLeafLine, IsNodeLine, ShowsLeaves, ShowsNodes, TellsLeaves, TellsNodes, cut_line, misshapen_line, no_tree}
-use Rattle.dm_cert.specs.RunTexts.{item_text, reply_text}
+use Rattle.dm_cert.specs.RunTexts.{item_text, reply_text, KnowsLine}
 use Rattle.dm_cert.proofs.HeadingsRead.{front_text, heading_spelled}
 use Rattle.dm_cert.proofs.LineFeeds.{NoFeed, has_no_feed, no_feed_append}
 use Rattle.dm_cert.proofs.SpelledPlans.{plan_stands}
@@ -81,10 +81,10 @@ module _ (s : Setting) (history : List Entry) (feed : ℕ) (before : List LogIte
 -- ---- the first line
 
 -- what stands in front of a plan's text in an item
-abbrev front_of : ℕ → Line → ℕ → List ℕ
+abbrev pub front_of : ℕ → Line → ℕ → List ℕ
 front_of line said entry = decimal line ++ (codes " " ++ (spelling_of_line said ++ (codes " -> " ++ (decimal entry ++ codes " "))))
 
-front_joined : (l said n plan rest : List ℕ) →
+pub front_joined : (l said n plan rest : List ℕ) →
     (l ++ (codes " " ++ (said ++ (codes " -> " ++ ((n ++ (codes " " ++ (plan ++ []))) ++ []))))) ++ rest
     ≡ (l ++ (codes " " ++ (said ++ (codes " -> " ++ (n ++ codes " "))))) ++ (plan ++ rest)
 front_joined l said n plan rest = simp (append_assoc, append-nil)
@@ -94,7 +94,7 @@ item_is : (version line : ℕ) (said : Line) (plan : Plan) (rest : List ℕ) →
 unfolding item_text reply_text
 item_is version line said plan rest = front_joined (decimal line) (spelling_of_line said) (decimal plan.entry) (spelling_of_plan version plan) rest
 
-front_then : (l said n text : List ℕ) →
+pub front_then : (l said n text : List ℕ) →
     l ++ (codes " " ++ (said ++ (codes " -> " ++ (n ++ (codes " " ++ text))))) ≡ (l ++ (codes " " ++ (said ++ (codes " -> " ++ (n ++ codes " "))))) ++ text
 front_then l said n text = sym (simp append_assoc)
 
@@ -105,7 +105,7 @@ opening_at line said entry h =
 opening_is : (version line : ℕ) (said : Line) (entry : ℕ) (h : Heading) → opening_text version (opening_at line said entry h) ≡ front_of line said entry ++ front_text version h
 opening_is version line said entry h = front_then (decimal line) (spelling_of_line said) (decimal entry) (front_text version h)
 
-front_no_feed : (line : ℕ) (said : Line) (entry : ℕ) → line ≤ largest_id → All Fits (parts_of_line said) → entry ≤ largest_id → NoFeed (front_of line said entry)
+pub front_no_feed : (line : ℕ) (said : Line) (entry : ℕ) → line ≤ largest_id → All Fits (parts_of_line said) → entry ≤ largest_id → NoFeed (front_of line said entry)
 unfolding spelling_of_line
 front_no_feed line said entry low fits at =
     let number : List ℕ = decimal entry ++ codes " " in
@@ -120,8 +120,8 @@ front_no_feed line said entry low fits at =
 
 module _ (s : Setting) (history : List Entry) (feed : ℕ) (before : List LogItem) where
   pub plan_told : (line : ℕ) (said : Line) (plan : Plan) → IsNextItem s history feed before (Answered line said (Planned plan)) → line ≤ largest_id → IsFormedSaid said → plan.entry ≤ largest_id →
-      FitsPlan plan → IsHeld plan → IsTold (TellsItem s history feed) (λ k. item_text s.version) before (Answered line said (Planned plan))
-  plan_told line said plan next low formed at fits held place rest left =
+      FitsPlan plan → IsHeld plan → KnowsLine s.version said → IsTold (TellsItem s history feed) (λ k. item_text s.version) before (Answered line said (Planned plan))
+  plan_told line said plan next low formed at fits held knows place rest left =
       let x : LogItem = Answered line said (Planned plan) in
       let text : List ℕ = spelling_of_plan s.version plan in
       let stands = plan_stands s.version plan (record { left = text ++ rest; line = place.line }) rest fits (counted_in s.version plan held) refl in
@@ -159,6 +159,7 @@ module _ (s : Setting) (history : List Entry) (feed : ℕ) (before : List LogIte
                 choices = told.told.spelled.choices;
                 size = told.told.spelled.size;
               },
+              knows,
             );
           };
           then = record {

@@ -17,8 +17,10 @@ use Rattle.dm_rows.specs.Refuse.{Refuses}
 use Rattle.dm_rows.specs.Resolve.{after}
 use Rattle.dm_feed.specs.Parts.{largest_id}
 use Rattle.dm_feed.specs.declared.grammar.Line.{Line}
-use Rattle.dm_feed.specs.declared.grammar.Line.TheVariants.{Say, Time as AskTime, CostNow as AskCost, Plan as AskPlan, Adopt as AskAdopt, Read as AskRead}
+use Rattle.dm_feed.specs.declared.grammar.Line.TheVariants.{Say, Time as AskTime, CostNow as AskCost, Plan as AskPlan, Solve as AskSolve, Adopt as AskAdopt, Read as AskRead}
+use Rattle.dm_tree.specs.declared.adopting.Chosen.{Chosen}
 use Rattle.dm_tree.specs.declared.plans.Plan.{Plan}
+use Rattle.dm_parts.specs.declared.parts.PlanByParts.{PlanByParts}
 use Rattle.dm_rows.specs.declared.messages.At.{At}
 use Rattle.dm_cert.specs.declared.replies.Reply.{Reply}
 use Rattle.dm_cert.specs.declared.replies.Reply.TheVariants as reply
@@ -95,6 +97,7 @@ reply_line version (reply.Time n x) formed = at_entry_with version (reply.Time n
 reply_line version (reply.Cost n c) formed = at_entry_with version (reply.Cost n c) n (codes " cost ") (decimal c) refl formed.0 refl (no_feed_decimal c (let low = formed.1 in omega (arith, low)))
 reply_line version (reply.Read n) formed = at_entry version (reply.Read n) n (codes " read") refl formed refl
 reply_line version (reply.Planned plan) formed = absurd formed
+reply_line version (reply.Solved plan) formed = absurd formed
 reply_line version (reply.Old n) formed = at_entry version (reply.Old n) n (codes " old") refl formed refl
 reply_line version reply.NoPlan formed = record { body = codes "noplan"; is = refl; one_line = refl }
 reply_line version reply.Plans formed = record { body = codes "plans"; is = refl; one_line = refl }
@@ -115,7 +118,7 @@ some_id net held ids shows =
     let some = some_arc (arcs_of net held) shows.places shows.is_cycle in
     omega (arith, some, ap length shows.named, length-map shows.places (λ a. (activity_at net a).id))
 
-no_room_no_cycle : (history : List Entry) (n : ℕ) (why : Refusal) (ids : List ActId) (latest : Option Plan) → IsSomeAnd latest (λ plan. HasNoRoom history n why plan) → why ≡ refusal.Cycle ids → ⊥
+no_room_no_cycle : (history : List Entry) (n : ℕ) (why : Refusal) (ids : List ActId) (latest : Option Chosen) → IsSomeAnd latest (λ plan. HasNoRoom history n why plan) → why ≡ refusal.Cycle ids → ⊥
 no_room_no_cycle history n why ids None is e = absurd is
 no_room_no_cycle history n why ids (Some plan) is e = let full = is.is_why in absurd cc
 
@@ -127,6 +130,7 @@ refused_cycle s history feed before line (Say message) at ids is e =
 refused_cycle s history feed before line (AskTime event) at ids is e = let unknown = is.is_why in absurd cc
 refused_cycle s history feed before line AskCost at ids is e = absurd is
 refused_cycle s history feed before line (AskPlan budget) at ids is e = absurd is
+refused_cycle s history feed before line (AskSolve budget) at ids is e = absurd is
 refused_cycle s history feed before line AskAdopt at ids is e = absurd (no_room_no_cycle history at.entry at.why ids (latest_plan before) is e)
 refused_cycle s history feed before line AskRead at ids is e = absurd is
 
@@ -149,16 +153,21 @@ pub record IsPlanned (r : Reply) : Type 0 where
   pub plan : Plan
   pub is : r ≡ reply.Planned plan
 
--- a true reply has the form of one line, or is a plan
+pub record IsSolved (r : Reply) : Type 0 where
+  pub plan : PlanByParts
+  pub is : r ≡ reply.Solved plan
+
+-- a true reply has the form of one line, or is a plan of either kind
 pub formed_or_plan : (s : Setting) (history : List Entry) (feed : ℕ) (before : List LogItem) (line : ℕ) (said : Line) (r : Reply) → IsTrueReply s history feed before line said r →
-    FitsReply r → IsSpelledReply r → IsFormedReply r ⊎ IsPlanned r
+    FitsReply r → IsSpelledReply r → IsFormedReply r ⊎ (IsPlanned r ⊎ IsSolved r)
 formed_or_plan s history feed before line said (reply.Ok n) is fits spelled = inl fits
 formed_or_plan s history feed before line said (reply.Refused at) is fits spelled =
     inl (fits.0, formed_reason at.why fits.1 spelled (λ ids e. refused_cycle s history feed before line said at ids is e))
 formed_or_plan s history feed before line said (reply.Time n x) is fits spelled = inl (fits.0, (let low = fits.1 in omega arith))
 formed_or_plan s history feed before line said (reply.Cost n c) is fits spelled = inl fits
 formed_or_plan s history feed before line said (reply.Read n) is fits spelled = inl fits
-formed_or_plan s history feed before line said (reply.Planned plan) is fits spelled = inr (record { plan = plan; is = refl })
+formed_or_plan s history feed before line said (reply.Planned plan) is fits spelled = inr (inl (record { plan = plan; is = refl }))
+formed_or_plan s history feed before line said (reply.Solved plan) is fits spelled = inr (inr (record { plan = plan; is = refl }))
 formed_or_plan s history feed before line said (reply.Old n) is fits spelled = inl fits
 formed_or_plan s history feed before line said reply.NoPlan is fits spelled = inl tt
 formed_or_plan s history feed before line said reply.Plans is fits spelled = inl tt

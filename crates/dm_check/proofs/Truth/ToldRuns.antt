@@ -20,7 +20,7 @@ use Rattle.dm_cert.specs.declared.notes.Note.{Note}
 use Rattle.dm_cert.specs.declared.replies.LogItem.{LogItem}
 use Rattle.dm_cert.specs.declared.replies.FeedLog.{FeedLog}
 use Rattle.dm_cert.specs.Answers.{Setting, rows_after}
-use Rattle.dm_cert.specs.RunTexts.{Run, run_text, FitsEntry, FitsItem, FitsLog, FitsNote, IsSpelledItem, IsSpelledLog}
+use Rattle.dm_cert.specs.RunTexts.{Run, run_text, FitsEntry, FitsItem, FitsLog, FitsNote, IsSpelledItem, IsSpelledLog, KnowsItem, KnowsLog}
 use Rattle.dm_cert.specs.Runs.{IsTrueNote, AreTrueNotes}
 use Rattle.dm_check.specs.FalseRecords.{IsNextItem, IsNextNote, TellsEntry, TellsItem, TellsLog, TellsNote, TellsTime, entry_before}
 use Rattle.dm_check.proofs.Spelled.{good_is_spelled_so}
@@ -64,11 +64,12 @@ legal s history few each = record {
 
 -- ---- logs
 
--- the log is true, its numbers are ones that types hold, and its items have spellings
+-- the log is true, its numbers are ones that types hold, and its items have spellings in words of the version
 record IsSoundLog (s : Setting) (history : List Entry) (before : List FeedLog) (log : FeedLog) : Type 0 where
   is_true : IsTrueBehind s history before log
   fits : FitsLog log
   spelled : IsSpelledLog log
+  known : KnowsLog s.version log
 
 log_sound : (s : Setting) (history : List Entry) → IsSound s history → Says (TellsLog s history) (IsSoundLog s history)
 log_sound s history sound before place log next told =
@@ -82,6 +83,7 @@ log_sound s history sound before place log next told =
       is_true = record { answers = next_true s history feed [] items next; in_order = next_in_order s history feed [] items next };
       fits = all_of_each (IsSoundItem s history feed) FitsItem (λ held x sound_item. sound_item.fits) [] items all.each;
       spelled = all_of_each (IsSoundItem s history feed) IsSpelledItem (λ held x sound_item. sound_item.spelled) [] items all.each;
+      known = all_of_each (IsSoundItem s history feed) (KnowsItem s.version) (λ held x sound_item. sound_item.known) [] items all.each;
     })
 
 -- ---- notes
@@ -243,6 +245,7 @@ good_texts_are_true net start penalty most_plans text entries plans network limi
           logs = all_of_each (IsSoundLog s history) IsSpelledLog (λ before log sound_log. sound_log.spelled) [] logs each_log.each;
           times = each_time.count;
         };
+        known = all_of_each (IsSoundLog s history) (KnowsLog version) (λ before log sound_log. sound_log.known) [] logs each_log.each;
         spelled = good_is_spelled_so net start penalty most_plans text entries plans good ∙ ap (λ (r : Run). run_text version r) cost_on.then.then.1;
       };
     }

@@ -11,7 +11,7 @@ use Rattle.dm_rows.specs.Cost.{Costs}
 use Rattle.dm_feed.specs.Parts.{largest_id, largest_value}
 use Rattle.dm_cert.specs.Answers.{Setting, rows_after}
 use Rattle.dm_cert.specs.PlanTexts.{line_end, largest_cost}
-use Rattle.dm_cert.specs.RunTexts.{Run, run_text, header_text, entry_text, entries_text, log_text, logs_text, boards_text, note_text, heading_text, time_text, timetable_text, ending_text, FitsEntry, FitsLog, FitsNote, IsSpelledLog}
+use Rattle.dm_cert.specs.RunTexts.{Run, run_text, header_text, entry_text, entries_text, log_text, logs_text, boards_text, note_text, heading_text, time_text, timetable_text, ending_text, FitsEntry, FitsLog, FitsNote, IsSpelledLog, KnowsLog}
 use Rattle.dm_cert.specs.Runs.{setting_of, IsTextOf}
 use Rattle.dm_cert.proofs.LineFeeds.{NoFeed}
 use Rattle.dm_records.specs.Laws.{IsHeldLog, IsInPrint}
@@ -60,15 +60,16 @@ module _ (version most_plans : ℕ) (start : RowsValue) (run : Run) (text : List
 
   logs_told : Each (IsTold (TellsLog s run.history) (λ k. log_text version (k + 1))) [] run.logs
   logs_told =
-      each_both (IsTrueBehind s run.history) (λ before log. (length before + 1 ≤ largest_id) × IsPrintedLog log) (IsTold (TellsLog s run.history) (λ k. log_text version (k + 1)))
+      each_both (IsTrueBehind s run.history) (λ before log. (length before + 1 ≤ largest_id) × IsPrintedLog version log) (IsTold (TellsLog s run.history) (λ k. log_text version (k + 1)))
       (λ before log true_log low. log_told s run.history before log true_log low.1 low.0) [] run.logs
       (logs_behind s run.history run.logs is.is_true.logs)
-      (each_of_splits (λ before log. (length before + 1 ≤ largest_id) × IsPrintedLog log) run.logs
+      (each_of_splits (λ before log. (length before + 1 ≤ largest_id) × IsPrintedLog version log) run.logs
       (λ before log later e. (
         (let size = ap length e ∙ length-append before (log ∷ later) in let few : length run.logs ≤ 64 = is.is_true.few_feeds in omega arith),
         record {
           fits = all_there FitsLog before log later (subst (All FitsLog) e is.fits.logs);
           spelled = all_there IsSpelledLog before log later (subst (All IsSpelledLog) e is.is_spelled.logs);
+          known = all_there (KnowsLog version) before log later (subst (All (KnowsLog version)) e is.known);
           held = all_there IsHeldLog before log later (subst (All IsHeldLog) e print.held.logs);
         },
       ))

@@ -17,3 +17,13 @@ without_plan_at line cert.OutOfMemory = Err OutOfMemory
 
 abbrev pub without_plan : CertFault → Result (Option Plan) Stop
 without_plan fault = without_plan_at fault.line fault.kind
+
+abbrev pub stop_at : ℕ → CertKind → Stop
+stop_at line cert.Form = Found (bad kind.Form line)
+stop_at line cert.Truncated = Found (bad kind.Truncated line)
+stop_at line cert.NotATree = Found (bad kind.Plan line)
+stop_at line cert.OutOfMemory = OutOfMemory
+
+-- and in those of a plan by parts
+abbrev pub stop_of : CertFault → Stop
+stop_of fault = stop_at fault.line fault.kind

@@ -6,7 +6,7 @@ use Rattle.dm_rows.specs.declared.messages.Choice.{Choice}
 use Rattle.dm_rows.specs.Decide.{choice_of, free_choices_of}
 use Rattle.dm_rows.specs.Relax.{is_same_choice}
 use Rattle.dm_rows.specs.Rows.{RowsValue}
-use Rattle.dm_tree.specs.Plans.{Task, AreSomeOf, DiffersFrom, CostsWith}
+use Rattle.dm_tree.specs.Plans.{AreSomeOf}
 
 -- ---- the choices of a plan
 
@@ -21,12 +21,6 @@ decides (Some d) choice = is_same_choice (choice_of d) choice
 
 abbrev pub is_next : List Decision → ℕ → Choice → Bool
 is_next decisions next choice = decides (slice_get decisions next) choice
-
--- the choices are some of those allowed, in their order, differ from the rows, and make them cost this
-pub record AreTrueChoices (task : Task) (choices : List Decision) (cost : ℕ) : Type 0 where
-  pub in_order : AreSomeOf task.allowed (map choice_of choices)
-  pub differ : All (DiffersFrom task) choices
-  pub costs : CostsWith task choices cost
 
 -- The decisions are some of the choices allowed exactly where those left are of those that are left.
 pub record IsLeftToChoose (allowed : List Choice) (decisions : List Decision) (i next : ℕ) : Type 0 where

@@ -1,4 +1,5 @@
 use Rattle.std.proofs.Common.{Bool, refl, subst}
+use Rattle.dm_parts.specs.declared.kinds.AnyPlan.TheVariants.{Whole}
 use Rattle.dm_cert.specs.declared.replies.LogItem.TheVariants.{Answered}
 use Rattle.dm_cert.specs.declared.replies.Reply.TheVariants.{Planned}
 use Rattle.dm_check_rows.specs.Claims.{Tells}
@@ -13,7 +14,7 @@ returns-in-Ok-clause-tells c = λ before past.
     (c.in-Ok-true.ensures.tells before past) in (
       next,
       record {
-        past_is = c.in-Ok.ensures before c.args.said.now past;
+        past_is = (rw c.as_slice.ensures at (c.in-Ok.ensures before c.args.said.now (Whole c.args.plan.now))) refl past;
         size = refl;
         flagged = λ items flagged. nothing_named items answered c.args.self.now.named.items (λ n. refl) flagged;
       },

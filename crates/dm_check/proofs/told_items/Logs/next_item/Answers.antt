@@ -25,9 +25,16 @@ returns-in-Answered-clause-tells c = λ before past.
     (subst (λ (v : ℕ). Reads (IsItemLine v) c.args.lines.now (Ok (item_of c.in-Ok.said, c.item_told.new.lines))) c.journal-journal.ensures.version c.in-Ok.ensures)
     (rw c.in-Answered.is (c.answer_told.ensures.tells before c.item_told.new.lines past))
 
-pub returns-clause-tells : goal.returns-clause-tells
-returns-clause-tells c = λ before past.
+pub returns-in-Planned-clause-tells : goal.returns-in-Planned-clause-tells
+returns-in-Planned-clause-tells c = λ before past.
     item_on c.args.self.now.replay.journal.setting c.args.self.now.replay.journal.history c.args.feed before c.plan_told.new.past c.args.self.now.named.items c.plan_told.new.self.named.items c.args.lines.now c.item_told.new.lines c.plan_told.new.lines
     c.line-first.result (item_of c.in-Ok.said) c.plan_told.result c.line-first.ensures
     (subst (λ (v : ℕ). Reads (IsItemLine v) c.args.lines.now (Ok (item_of c.in-Ok.said, c.item_told.new.lines))) c.journal-journal.ensures.version c.in-Ok.ensures)
     (rw c.in-Planned.is (c.plan_told.ensures.tells before past))
+
+pub returns-clause-tells : goal.returns-clause-tells
+returns-clause-tells c = λ before past.
+    item_on c.args.self.now.replay.journal.setting c.args.self.now.replay.journal.history c.args.feed before c.solution_told.new.past c.args.self.now.named.items c.solution_told.new.self.named.items c.args.lines.now c.item_told.new.lines c.solution_told.new.lines
+    c.line-first.result (item_of c.in-Ok.said) c.solution_told.result c.line-first.ensures
+    (subst (λ (v : ℕ). Reads (IsItemLine v) c.args.lines.now (Ok (item_of c.in-Ok.said, c.item_told.new.lines))) c.journal-journal.ensures.version c.in-Ok.ensures)
+    (rw c.in-Solved.is (c.solution_told.ensures.tells before past))

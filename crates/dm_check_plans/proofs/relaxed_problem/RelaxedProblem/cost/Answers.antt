@@ -4,7 +4,7 @@ use Rattle.dm_rows.specs.Relax.{is_relaxed_dropped}
 use Rattle.dm_check_times.specs.KeptCosts.{IsPricedFor}
 use Rattle.dm_tree.specs.Relaxed.{relaxed_cost_of}
 use Rattle.dm_paths.specs.Flags.{is_flagged}
-use Rattle.dm_check_plans.specs.Inside.RelaxedProblems.{RelaxedProblemValue, IsRelaxedProblemOf, IsSolved, times_of}
+use Rattle.dm_check_plans.specs.RelaxedProblems.{RelaxedProblemValue, IsRelaxedProblemOf, IsSolved, times_of}
 use Rattle.dm_check_plans.proofs.Relaxed.{relaxed_cost}
 use Rattle.dm_check_plans.proofs.Weighed.{charged_alike}
 use Rattle.dm_check_plans.proofs.relaxed_problem.RelaxedProblem.cost.Goals as goal

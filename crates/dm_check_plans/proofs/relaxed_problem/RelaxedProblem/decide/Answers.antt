@@ -6,7 +6,7 @@ use Rattle.dm_check_times.specs.KeptCosts.{IsPricedFor}
 use Rattle.dm_check_plans.specs.Inside.Flags.{AreSetWhere}
 use Rattle.dm_paths.specs.Decisions.{is_charged_by}
 use Rattle.dm_paths.specs.Decisions.{IsOpen}
-use Rattle.dm_check_plans.specs.Inside.RelaxedProblems.{RelaxedProblemValue, IsRelaxedProblemOf}
+use Rattle.dm_check_plans.specs.RelaxedProblems.{RelaxedProblemValue, IsRelaxedProblemOf}
 use Rattle.dm_check_plans.proofs.Turned.{decided, over_vec, moved}
 use Rattle.dm_check_plans.proofs.relaxed_problem.RelaxedProblem.decide.Goals as goal
 

@@ -1,6 +1,6 @@
 use Rattle.std.proofs.Common.{sym, subst}
 use Rattle.dm_check_rows.specs.Claims.{Tells}
-use Rattle.dm_check_plans.specs.Inside.RelaxedProblems.{IsRelaxedProblemOf}
+use Rattle.dm_check_plans.specs.RelaxedProblems.{IsRelaxedProblemOf}
 use Rattle.dm_check_plans.specs.Inside.Violations.{IsSomeViolated}
 use Rattle.dm_check_plans.proofs.Relaxed.{of_problem}
 use Rattle.dm_check_plans.proofs.relaxed_problem.RelaxedProblem.is_any_violated.Goals as goal

@@ -1,7 +1,7 @@
 use Rattle.std.proofs.Common.{IsTrue, sym, subst}
 use Rattle.std.specs.Prelude.{◌↔◌}
 use Rattle.dm_tree.specs.Relaxed.{IsViolated}
-use Rattle.dm_check_plans.specs.Inside.RelaxedProblems.{IsRelaxedProblemOf}
+use Rattle.dm_check_plans.specs.RelaxedProblems.{IsRelaxedProblemOf}
 use Rattle.dm_check_plans.proofs.Relaxed.{of_problem}
 use Rattle.dm_check_plans.proofs.relaxed_problem.RelaxedProblem.is_violated.Goals as goal
 

@@ -3,7 +3,7 @@ use Rattle.dm_rows.specs.Relax.{is_relaxed_active}
 use Rattle.dm_rows.specs.declared.messages.Decision.{Decision}
 use Rattle.dm_check_times.specs.Binding.{AreBelowLimit}
 use Rattle.dm_tree.specs.Relaxed.{IsRelaxedLeast, HasNoRelaxedCycle}
-use Rattle.dm_check_plans.specs.Inside.RelaxedProblems.{RelaxedProblemValue, IsRelaxedProblemOf, HasRelaxedCycle, times_of}
+use Rattle.dm_check_plans.specs.RelaxedProblems.{RelaxedProblemValue, IsRelaxedProblemOf, HasRelaxedCycle, times_of}
 use Rattle.dm_check_plans.proofs.Relaxed.{relaxed_least, enters_no_passed, has_cycle}
 use Rattle.dm_check_plans.proofs.Turned.{settled_again}
 use Rattle.dm_check_plans.proofs.relaxed_problem.RelaxedProblem.solve.Goals as goal

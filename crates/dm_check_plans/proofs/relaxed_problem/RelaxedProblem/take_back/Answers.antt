@@ -5,7 +5,7 @@ use Rattle.dm_paths.specs.Flags.{is_flagged, with_change, with_pair}
 use Rattle.dm_check_times.specs.KeptCosts.{IsPricedFor}
 use Rattle.dm_check_plans.specs.Inside.Flags.{AreSetWhere}
 use Rattle.dm_paths.specs.Decisions.{is_charged_by}
-use Rattle.dm_check_plans.specs.Inside.RelaxedProblems.{RelaxedProblemValue, IsRelaxedProblemOf}
+use Rattle.dm_check_plans.specs.RelaxedProblems.{RelaxedProblemValue, IsRelaxedProblemOf}
 use Rattle.dm_check_plans.proofs.Turned.{taken_back, last_is_open, over_vec, moved}
 use Rattle.dm_check_plans.proofs.relaxed_problem.RelaxedProblem.take_back.Goals as goal
 

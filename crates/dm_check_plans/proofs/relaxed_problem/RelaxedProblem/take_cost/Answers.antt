@@ -1,7 +1,7 @@
 use Rattle.std.proofs.Common.{List, Bool, sym, subst, ◌∙◌}
 use Rattle.dm_check_times.specs.KeptCosts.{IsPricedFor}
 use Rattle.dm_paths.specs.Flags.{is_flagged}
-use Rattle.dm_check_plans.specs.Inside.RelaxedProblems.{IsRelaxedProblemOf}
+use Rattle.dm_check_plans.specs.RelaxedProblems.{IsRelaxedProblemOf}
 use Rattle.dm_check_plans.proofs.Turned.{taken}
 use Rattle.dm_check_plans.proofs.relaxed_problem.RelaxedProblem.take_cost.Goals as goal
 

@@ -1,0 +1,16 @@
+use Rattle.std.proofs.Common.{◌++◌, map, ap, ◌∙◌}
+use Rattle.std.proofs.lemmas.List.{take_all}
+use Rattle.dm_base.specs.declared.ids.EventId.{EventId}
+use Rattle.dm_parts.specs.declared.parts.Part.{Part}
+use Rattle.dm_check_parts.specs.Inside.Claimed.{all_arrivals}
+use Rattle.dm_check_parts.proofs.Together.{gathered_more}
+use Rattle.dm_check_parts.proofs.claiming.arrivals_in.Goals as goal
+
+pub loop-part-preserved : goal.loop-part-preserved
+loop-part-preserved c =
+    gathered_more (λ (part : Part). map (λ (e : EventId). e.0) part.share.arrivals) c.args.parts.now c.loop-part.part-index c.part-item.result c.loop-part-test.true
+    c.loop-part.ids.items c.push_arrivals.new.ids.items c.loop-part.invariant
+    (rw c.as_slice.ensures at c.in-Ok.ensures ∙ ap (λ (part : Part). c.loop-part.ids.items ++ map (λ (e : EventId). e.0) part.share.arrivals) c.part-item.is)
+
+pub returns : goal.returns
+returns c = c.loop-part.invariant ∙ ap all_arrivals (take_all c.loop-part.part-index c.args.parts.now c.loop-part-test.false)

@@ -1,0 +1,6 @@
+use Rattle.std.proofs.Common.{◌≡◌, take}
+use Rattle.dm_check_parts.specs.Inside.Claimed.{all_arrivals}
+use Rattle.dm_check_parts.proofs.claiming.arrivals_in.Given as goal
+
+abbrev pub invariant-loop-part : goal.invariant-loop-part
+invariant-loop-part l = l.ids.items ≡ all_arrivals (take l.part-index l.parts)

@@ -1,0 +1,4 @@
+pub mod Nodes
+pub mod Claimed
+pub mod Grounds
+pub mod Plans
