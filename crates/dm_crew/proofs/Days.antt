@@ -10,7 +10,8 @@ use Rattle.dm_network.specs.Net.{Net}
 use Rattle.dm_rows.specs.Rows.{RowsValue}
 use Rattle.dm_rows.specs.History.{IsLegal}
 use Rattle.dm_rows.specs.declared.rows.Snapshot.{Snapshot}
-use Rattle.dm_tree.specs.declared.plans.Plan.{Plan}
+use Rattle.dm_desk.specs.declared.searches.Search.{Search}
+use Rattle.dm_parts.specs.declared.kinds.AnyPlan.{AnyPlan}
 use Rattle.dm_desk.specs.Planning.{PlansUnder}
 use Rattle.std.proofs.lemmas.Option.{slice_get_within}
 use Rattle.dm_crew.specs.Inside.Seats.{base_in}
@@ -30,7 +31,7 @@ use Rattle.dm_crew.specs.AtOnce.{numbers_to, day_desk, AnswersDay}
 -- ---- what a planner plans for
 
 -- a planner for one base is one for another that is the same
-pub plans_at : (pre : Bor Snapshot → ℕ → Type 0) (post : Bor Snapshot → ℕ → Result Plan AllocError → Type 0) (plans : ℕ) (base other : Base) → other ≡ base →
+pub plans_at : (pre : Bor Snapshot → Search → Type 0) (post : Bor Snapshot → Search → Result AnyPlan AllocError → Type 0) (plans : ℕ) (base other : Base) → other ≡ base →
     PlansUnder pre post (setting_of plans base) → PlansUnder pre post (setting_of plans other)
 plans_at pre post plans base other is under = subst (λ (b : Base). PlansUnder pre post (setting_of plans b)) (sym is) under
 

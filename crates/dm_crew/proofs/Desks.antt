@@ -15,16 +15,16 @@ use Rattle.dm_rows.specs.History.{rows_at, IsLegal}
 use Rattle.dm_rows.specs.Refuse.{Refuses}
 use Rattle.dm_rows.specs.Timetable.{time_at, IsLeast}
 use Rattle.dm_cert.specs.Answers.{IsRefused, IsTimeAt, IsUnknownAt}
-use Rattle.dm_desk.specs.Desks.{Looks, Enters, Posts, TellsTime, TellsCost, TellsLength, IsCopied, IsTrueOf, AdoptsPlan}
+use Rattle.dm_desk.specs.Desks.{Looks, Enters, Posts, TellsTime, TellsCost, TellsLength, IsCopied, IsAdoptable, AdoptsPlan}
 use Rattle.std.specs.Option.{ForSome}
 use Rattle.dm_rows.specs.Active.{HasNoCycle}
 use Rattle.dm_rows.specs.Rows.{IsSized}
 use Rattle.dm_rows.specs.declared.rows.Snapshot.{Snapshot}
 use Rattle.dm_tree.specs.declared.adopting.AdoptRefusal.{AdoptRefusal}
 use Rattle.dm_tree.specs.declared.adopting.AdoptRefusal.TheVariants.{Old, Full, OutOfMemory as NoMemory}
-use Rattle.dm_tree.specs.declared.plans.Plan.{Plan}
+use Rattle.dm_tree.specs.declared.adopting.Chosen.{Chosen}
 use Rattle.dm_server.specs.declared.kept.Base.{Base}
-use Rattle.dm_server.specs.Answers.{ShowsTime, CostsAfter, RefusesAfter, HasLooked, HasEntered, RefusesAdopt, adopts, IsTrueOf as ServerIsTrueOf}
+use Rattle.dm_server.specs.Answers.{ShowsTime, CostsAfter, RefusesAfter, HasLooked, HasEntered, RefusesAdopt, adopts, IsAdoptable as ServerIsAdoptable}
 use Rattle.dm_table.specs.Answers.{RefusesTime}
 use Rattle.dm_turn.specs.Passes.{PassValue, numbered}
 use Rattle.dm_turn.proofs.Fronts.{prefix_trans, prefix_length, get_last}
@@ -183,10 +183,10 @@ copied plans before now (Ok snapshot) h legal here rows sized no_cycle base is =
 }
 copied plans before now (Err e) h legal here rows sized no_cycle base is = tt
 
-pub true_of : (plans : ℕ) (pass : PassValue Base) (plan : Plan) → ForSome pass.base (λ base. IsTrueOf (desk_of plans base pass) plan) → ForSome pass.base (λ base. ServerIsTrueOf base pass.seen plan)
-true_of plans pass plan is base e = let t = is base e in record { budget = t.budget; within = t.within; is_true = t.is_true }
+pub adoptable : (plans : ℕ) (pass : PassValue Base) (plan : Chosen) → ForSome pass.base (λ base. IsAdoptable (desk_of plans base pass) plan) → ForSome pass.base (λ base. ServerIsAdoptable base pass.seen plan)
+adoptable plans pass plan is base e = let t = is base e in record { within = t.within; may = t.may }
 
-pub adopts_plan : (plans : ℕ) (before now : PassValue Base) (plan : Plan) (feed line : ℕ) (answer : Result ℕ AdoptRefusal) → IfOk answer (HasEntered before now (adopts plan feed line)) → Holds IsLegalAfter now → IfOk answer (λ n. n ≡ plan.entry + 1) → OnErr answer (HasLooked before now)
+pub adopts_plan : (plans : ℕ) (before now : PassValue Base) (plan : Chosen) (feed line : ℕ) (answer : Result ℕ AdoptRefusal) → IfOk answer (HasEntered before now (adopts plan feed line)) → Holds IsLegalAfter now → IfOk answer (λ n. n ≡ plan.entry + 1) → OnErr answer (HasLooked before now)
     → IfErr answer (RefusesAdopt plan now.seen) → (base : Base) → before.base ≡ Some base → AdoptsPlan (desk_of plans base before) (desk_of plans base now) plan feed line answer
 adopts_plan plans before now plan feed line (Ok n) entered legal next looked refused base is = record { enters = enters plans base before now (adopts plan feed line) n is entered legal; next = next }
 adopts_plan plans before now plan feed line (Err (Old n)) entered legal next looked refused base is = record { looks = looks plans base before now is looked legal; here = refused.0; older = refused.1 }

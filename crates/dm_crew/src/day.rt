@@ -11,16 +11,16 @@ ghost use Rattle.dm_crew.specs.Inside.Works.{first_pass};
 
 use crate::rounds::Crew;
 use dm_cert::FeedLog;
-use dm_desk::HoldPoint;
+use dm_desk::{HoldPoint, Search};
 use dm_display::Display;
 use dm_network::Network;
 use dm_outside::{Board, Source};
+use dm_parts::AnyPlan;
 use dm_publish::Publisher;
 use dm_rows::{Rows, Snapshot};
 use dm_server::{Kept, Server};
 use dm_settle::NoTimes;
 use dm_table::Table;
-use dm_tree::Plan;
 use dm_turn::Pass;
 use std::alloc::{AllocError, Global};
 use std::marker::Brand;
@@ -52,7 +52,7 @@ pub fn answer_at_once<
     'n,
     R: Threads + Wait + Sync,
     S: Source + Send + Drop,
-    L: Fn(&Snapshot, u64) -> Result<Plan, AllocError> + Sync,
+    L: Fn(&Snapshot, Search) -> Result<AnyPlan, AllocError> + Sync,
     H: HoldPoint + Sync,
 >(
     crew: &Crew<'_, R, L, H>,

@@ -2,15 +2,16 @@
 
 ghost use Rattle.std.specs.Prelude.{◌≡◌, false, Some, IfOk};
 ghost use Rattle.std.specs.Option.{ForSome};
-ghost use Rattle.dm_desk.specs.Desks.{Posts, TellsTime, TellsCost, TellsLength, IsCopied, IsTrueOf, AdoptsPlan};
+ghost use Rattle.dm_desk.specs.Desks.{Posts, TellsTime, TellsCost, TellsLength, IsCopied, IsAdoptable, AdoptsPlan};
 ghost use Rattle.dm_server.specs.declared.kept.Base.{Base as ABase};
+ghost use Rattle.dm_tree.specs.Plans.{chosen};
 ghost use Rattle.dm_crew.specs.Passes.{desk_of, IsSamePass};
 
 use dm_base::{Cost, EventId, Secs};
 use dm_desk::Desk;
-use dm_rows::{At, Entry, Refusal, Snapshot};
+use dm_rows::{At, Decision, Entry, Refusal, Snapshot};
 use dm_server::{Kept, Server};
-use dm_tree::{AdoptRefusal, Plan};
+use dm_tree::AdoptRefusal;
 use dm_turn::Pass;
 use std::alloc::AllocError;
 use std::marker::{Brand, PhantomData};
@@ -85,8 +86,15 @@ impl<R: Wait, P: Seat> Desk for ServerDesk<'_, '_, '_, R, P> {
         self.caller.snapshot(&mut self.pass)
     }
 
-    fn adopt(&mut self, plan: &Plan, feed: u32, line: u32) -> Result<u32, AdoptRefusal> {
-        self.caller.adopt(&mut self.pass, plan, feed, line)
+    fn adopt(
+        &mut self,
+        entry: u32,
+        choices: &[Decision],
+        feed: u32,
+        line: u32,
+    ) -> Result<u32, AdoptRefusal> {
+        self.caller
+            .adopt(&mut self.pass, entry, choices, feed, line)
     }
 }
 
@@ -145,21 +153,22 @@ impl<'n, R: Wait> Caller<'_, '_, 'n, R> {
         self.server.snapshot(self.rt, pass)
     }
 
-    /// Adopts a plan that is true of rows that were seen.
+    /// Adopts choices for rows that were seen.
     fn adopt(
         &self,
         pass: &mut Pass<Kept<'n>>,
-        plan: &Plan,
+        entry: u32,
+        choices: &[Decision],
         feed: u32,
         line: u32,
     ) -> Result<u32, AdoptRefusal>
         requires turn { pass.old.turn ≡ self.now.server.now.id }
         requires idle { pass.old.holds ≡ false }
-        requires plan { ForSome pass.old.base (λ base. IsTrueOf (desk_of self.now.plans base pass.old) plan.now) }
+        requires plan { ForSome pass.old.base (λ base. IsAdoptable (desk_of self.now.plans base pass.old) (chosen entry choices.now)) }
         ensures same { IsSamePass pass.old pass.new }
         ensures adopts { (base : ABase) → pass.old.base ≡ Some base
-            → AdoptsPlan (desk_of self.now.plans base pass.old) (desk_of self.now.plans base pass.new) plan.now feed line result }
+            → AdoptsPlan (desk_of self.now.plans base pass.old) (desk_of self.now.plans base pass.new) (chosen entry choices.now) feed line result }
     {
-        self.server.adopt(self.rt, pass, plan, feed, line)
+        self.server.adopt(self.rt, pass, entry, choices, feed, line)
     }
 }

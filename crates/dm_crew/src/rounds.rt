@@ -17,13 +17,13 @@ use crate::desk::Seat;
 use crate::display::{show, show_growth};
 use crate::work::{Work, count_read};
 use dm_cert::FeedLog;
-use dm_desk::HoldPoint;
+use dm_desk::{HoldPoint, Search};
 use dm_display::Display;
 use dm_outside::{Board, Source};
+use dm_parts::AnyPlan;
 use dm_rounds::{Job, begin, have_ended, logs_of};
 use dm_rows::Snapshot;
 use dm_server::{Kept, Server};
-use dm_tree::Plan;
 use dm_turn::Pass;
 use std::alloc::{AllocError, Global};
 use std::sync::Wait;
@@ -44,7 +44,7 @@ pub struct Crew<'c, R, L, H> {
 
 impl<
     R: Threads + Wait + Sync,
-    L: Fn(&Snapshot, u64) -> Result<Plan, AllocError> + Sync,
+    L: Fn(&Snapshot, Search) -> Result<AnyPlan, AllocError> + Sync,
     H: HoldPoint + Sync,
 > Crew<'_, R, L, H> {
     /// Answers feeds over the server until each has ended, each round's feeds at once. Boards are shown the times before the first

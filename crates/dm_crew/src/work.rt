@@ -7,12 +7,12 @@ ghost use Rattle.dm_crew.specs.Inside.Works.{IsReady, IsWorked, is_read};
 
 use crate::desk::{Caller, Seat, ServerDesk};
 use crate::rounds::Crew;
-use dm_desk::HoldPoint;
+use dm_desk::{HoldPoint, Search};
 use dm_outside::Source;
+use dm_parts::AnyPlan;
 use dm_rounds::{Job, Progress, answer_job};
 use dm_rows::Snapshot;
 use dm_server::{Kept, Server};
-use dm_tree::Plan;
 use dm_turn::Pass;
 use std::alloc::AllocError;
 use std::marker::{Brand, PhantomData};
@@ -35,7 +35,7 @@ impl<'n, S: Source + Drop> Work<'n, S> {
     pub fn worked<
         P: Seat,
         R: Wait,
-        L: Fn(&Snapshot, u64) -> Result<Plan, AllocError>,
+        L: Fn(&Snapshot, Search) -> Result<AnyPlan, AllocError>,
         H: HoldPoint,
     >(self, crew: &Crew<'_, R, L, H>, server: &Server<'n>) -> Work<'n, S>
         requires ready { IsReady server.now.id crew.now.plans P.base self.feed self.pass self.job.value }
@@ -67,7 +67,7 @@ fn answer_seated<
     P: Seat,
     R: Wait,
     S: Source + Drop,
-    L: Fn(&Snapshot, u64) -> Result<Plan, AllocError>,
+    L: Fn(&Snapshot, Search) -> Result<AnyPlan, AllocError>,
     H: HoldPoint,
 >(
     crew: &Crew<'_, R, L, H>,

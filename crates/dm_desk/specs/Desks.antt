@@ -14,8 +14,8 @@ use Rattle.dm_rows.specs.History.{IsLegal}
 use Rattle.dm_rows.specs.Rows.{IsSized}
 use Rattle.dm_tree.specs.declared.adopting.AdoptRefusal.{AdoptRefusal}
 use Rattle.dm_tree.specs.declared.adopting.AdoptRefusal.TheVariants.{Old, Full, OutOfMemory as NoMemory}
-use Rattle.dm_tree.specs.declared.plans.Plan.{Plan}
-use Rattle.dm_tree.specs.Plans.{whole_task, IsTruePlan}
+use Rattle.dm_tree.specs.declared.adopting.Chosen.{Chosen}
+use Rattle.dm_tree.specs.Plans.{MayBeAdopted}
 use Rattle.dm_cert.specs.Answers.{Setting, rows_after, IsEntry, IsRefused, IsTimeAt, IsUnknownAt, IsCostAt}
 
 -- what answers go by besides the entries, the entries that were seen, and the numbers of those that were entered here
@@ -90,35 +90,34 @@ pub record IsCopied (before now : DeskValue) (snapshot : Snapshot) : Type 0 wher
   pub sized : IsSized now.setting.net snapshot.rows
   pub no_cycle : HasNoCycle now.setting.net snapshot.rows
 
--- for some budget the plan is true of the rows after as many entries as it names, which were seen
-pub record IsTrueOf (desk : DeskValue) (plan : Plan) : Type 0 where
-  pub budget : ℕ
+-- the choices of a plan may be adopted for the rows after as many entries as it names, which were seen
+pub record IsAdoptable (desk : DeskValue) (plan : Chosen) : Type 0 where
   pub within : plan.entry ≤ length desk.seen
-  pub is_true : IsTruePlan (whole_task desk.setting.net (rows_after desk.setting desk.seen plan.entry) desk.setting.penalty budget) plan
+  pub may : MayBeAdopted desk.setting.net (rows_after desk.setting desk.seen plan.entry) plan.choices
 
 -- the entry that adopts a plan
-abbrev pub adopts : Plan → ℕ → ℕ → Entry
+abbrev pub adopts : Chosen → ℕ → ℕ → Entry
 adopts plan feed line = record { feed = feed; line = line; message = Adopt plan.choices }
 
 -- the plan's choices were entered, behind the entries that it is for
-pub record EntersPlan (before now : DeskValue) (plan : Plan) (feed line n : ℕ) : Type 0 where
+pub record EntersPlan (before now : DeskValue) (plan : Chosen) (feed line n : ℕ) : Type 0 where
   pub enters : Enters before now (adopts plan feed line) n
   pub next : n ≡ plan.entry + 1
 
 -- the history that is seen has more entries than the plan is for
-pub record FindsOld (before now : DeskValue) (plan : Plan) (n : ℕ) : Type 0 where
+pub record FindsOld (before now : DeskValue) (plan : Chosen) (n : ℕ) : Type 0 where
   pub looks : Looks before now
   pub here : n ≡ length now.seen
   pub older : plan.entry < n
 
 -- it has as many, and takes no more
-pub record FindsNoRoom (before now : DeskValue) (plan : Plan) (n : ℕ) : Type 0 where
+pub record FindsNoRoom (before now : DeskValue) (plan : Chosen) (n : ℕ) : Type 0 where
   pub looks : Looks before now
   pub here : n ≡ length now.seen
   pub full : n ≡ ENTRIES
   pub present : n ≡ plan.entry
 
-abbrev pub AdoptsPlan : DeskValue → DeskValue → Plan → ℕ → ℕ → Result ℕ AdoptRefusal → Type 0
+abbrev pub AdoptsPlan : DeskValue → DeskValue → Chosen → ℕ → ℕ → Result ℕ AdoptRefusal → Type 0
 AdoptsPlan before now plan feed line (Ok n) = EntersPlan before now plan feed line n
 AdoptsPlan before now plan feed line (Err (Old n)) = FindsOld before now plan n
 AdoptsPlan before now plan feed line (Err (Full n)) = FindsNoRoom before now plan n

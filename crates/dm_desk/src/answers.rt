@@ -7,17 +7,18 @@ ghost use Rattle.dm_desk.specs.Answered.{HasSeenLegal, AreTrueOf};
 ghost use Rattle.dm_desk.specs.Planning.{PlansUnder};
 ghost use Rattle.dm_desk.specs.Inside.Replies.{IsDueHeard, HasPlans, Replies, AnswersLine};
 
-use crate::asked::{adopt, plan};
+use crate::asked::{adopt, find};
 use crate::desk::Desk;
+use crate::searches::Search;
 use dm_base::EventId;
 use dm_cert::{LogItem, Reply};
 use dm_feed::{Heard, Line};
+use dm_parts::AnyPlan;
 use dm_rows::{At, Entry, Message, Refusal, Snapshot};
-use dm_tree::Plan;
 use std::alloc::AllocError;
 
 /// Answers a due line of a feed, which was answered these items before.
-pub fn answer<D: Desk, P: Fn(&Snapshot, u64) -> Result<Plan, AllocError>>(
+pub fn answer<D: Desk, P: Fn(&Snapshot, Search) -> Result<AnyPlan, AllocError>>(
     desk: &mut D,
     planner: &P,
     feed: u32,
@@ -39,7 +40,7 @@ pub fn answer<D: Desk, P: Fn(&Snapshot, u64) -> Result<Plan, AllocError>>(
 }
 
 // The reply to what a line says.
-fn reply_to<D: Desk, P: Fn(&Snapshot, u64) -> Result<Plan, AllocError>>(
+fn reply_to<D: Desk, P: Fn(&Snapshot, Search) -> Result<AnyPlan, AllocError>>(
     desk: &mut D,
     planner: &P,
     feed: u32,
@@ -61,7 +62,8 @@ fn reply_to<D: Desk, P: Fn(&Snapshot, u64) -> Result<Plan, AllocError>>(
             Ok(Reply::Cost(entries, cost))
         }
         Line::Read => Ok(Reply::Read(desk.length())),
-        Line::Plan(budget) => plan(desk, planner, items, *budget),
+        Line::Plan(budget) => find(desk, planner, items, Search::Plan(*budget)),
+        Line::Solve(budget) => find(desk, planner, items, Search::Solve(*budget)),
         Line::Adopt => adopt(desk, feed, line, items),
     }
 }

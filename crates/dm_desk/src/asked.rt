@@ -4,56 +4,59 @@ ghost use Rattle.std.specs.Prelude.{ℕ, ◌≤◌, IfOk};
 ghost use Rattle.dm_base.specs.declared.limits.TheConstants.{BUDGET};
 ghost use Rattle.dm_feed.specs.declared.grammar.Line.TheVariants as said;
 ghost use Rattle.dm_desk.specs.Answered.{HasSeenLegal};
-ghost use Rattle.dm_desk.specs.Planning.{PlansUnder};
-ghost use Rattle.dm_desk.specs.Inside.Replies.{HasPlans, Replies, IsPresentPlan};
+ghost use Rattle.dm_desk.specs.Planning.{budget_of, PlansUnder};
+ghost use Rattle.dm_desk.specs.Inside.Replies.{HasPlans, Replies, IsFoundFor, asks};
 
 use crate::desk::Desk;
 use crate::plans::{count_plans, last_plan};
+use crate::searches::Search;
 use dm_base::limits::{BUDGET, ENTRIES};
 use dm_cert::{LogItem, Reply};
+use dm_parts::AnyPlan;
 use dm_rows::{At, Refusal, Snapshot};
-use dm_tree::{AdoptRefusal, Plan};
+use dm_tree::AdoptRefusal;
 use std::alloc::AllocError;
 
-/// A plan, unless the number of nodes is out of range or the feed has had all its plans.
-pub fn plan<D: Desk, P: Fn(&Snapshot, u64) -> Result<Plan, AllocError>>(
+/// A plan of either kind, unless the number of nodes is out of range or the feed has had all its plans.
+pub fn find<D: Desk, P: Fn(&Snapshot, Search) -> Result<AnyPlan, AllocError>>(
     desk: &mut D,
     planner: &P,
     items: &[LogItem],
-    budget: u64,
+    search: Search,
 ) -> Result<Reply, AllocError>
     requires legal { HasSeenLegal (D.value desk.old) }
     requires plans { PlansUnder (P.pre planner.now) (P.post planner.now) (D.value desk.old).setting }
     requires had { HasPlans (D.value desk.old) items.now }
     ensures { IfOk result (λ reply. (feed line : ℕ)
-        → Replies (D.value desk.old) (D.value desk.new) feed line items.now (said.Plan budget) reply) }
+        → Replies (D.value desk.old) (D.value desk.new) feed line items.now (asks search) reply) }
 {
+    let budget = search.budget();
     if budget == 0 || budget > BUDGET {
         return Ok(Reply::Range(budget));
     }
     if count_plans(items) == desk.plans() as usize {
         return Ok(Reply::Plans);
     }
-    let plan = present_plan(desk, planner, budget)?;
-    Ok(Reply::Planned(plan))
+    let plan = found_for(desk, planner, search)?;
+    Ok(Reply::with(plan))
 }
 
 // A plan of the rows after all that the desk then sees.
-fn present_plan<D: Desk, P: Fn(&Snapshot, u64) -> Result<Plan, AllocError>>(
+fn found_for<D: Desk, P: Fn(&Snapshot, Search) -> Result<AnyPlan, AllocError>>(
     desk: &mut D,
     planner: &P,
-    budget: u64,
-) -> Result<Plan, AllocError>
+    search: Search,
+) -> Result<AnyPlan, AllocError>
     requires plans { PlansUnder (P.pre planner.now) (P.post planner.now) (D.value desk.old).setting }
-    requires some { 1 ≤ budget }
-    requires few { budget ≤ BUDGET }
-    ensures { IfOk result (IsPresentPlan (D.value desk.old) (D.value desk.new) budget) }
+    requires some { 1 ≤ budget_of search }
+    requires few { budget_of search ≤ BUDGET }
+    ensures { IfOk result (IsFoundFor (D.value desk.old) (D.value desk.new) search) }
 {
     let snapshot = desk.snapshot()?;
-    planner(&snapshot, budget)
+    planner(&snapshot, search)
 }
 
-/// Adopts the latest plan of a feed, where it has had one.
+/// Adopts the latest plan of a feed of either kind, where it has had one.
 pub fn adopt<D: Desk>(
     desk: &mut D,
     feed: u32,
@@ -64,10 +67,10 @@ pub fn adopt<D: Desk>(
     requires had { HasPlans (D.value desk.old) items.now }
     ensures { IfOk result (Replies (D.value desk.old) (D.value desk.new) feed line items.now said.Adopt) }
 {
-    let Some(plan) = last_plan(items) else {
+    let Some((entry, choices)) = last_plan(items) else {
         return Ok(Reply::NoPlan);
     };
-    match desk.adopt(plan, feed, line) {
+    match desk.adopt(entry, choices, feed, line) {
         Ok(number) => Ok(Reply::Ok(number)),
         Err(AdoptRefusal::Old { now }) => Ok(Reply::Old(now)),
         Err(AdoptRefusal::Full { now }) => Ok(Reply::Refused(At {

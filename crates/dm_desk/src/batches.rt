@@ -7,11 +7,12 @@ ghost use Rattle.dm_desk.specs.Planning.{PlansUnder};
 use crate::answers::answer;
 use crate::desk::Desk;
 use crate::hold_point::HoldPoint;
+use crate::searches::Search;
 use dm_cert::LogItem;
 use dm_feed::{FeedStop, LineReader, Next};
 use dm_outside::Source;
+use dm_parts::AnyPlan;
 use dm_rows::Snapshot;
-use dm_tree::Plan;
 use std::alloc::AllocError;
 
 /// Answers the next due lines of a feed, so many of them or all that are left, and keeps what was answered behind its log,
@@ -20,7 +21,7 @@ use std::alloc::AllocError;
 pub fn answer_batch<
     S: Source,
     D: Desk,
-    P: Fn(&Snapshot, u64) -> Result<Plan, AllocError>,
+    P: Fn(&Snapshot, Search) -> Result<AnyPlan, AllocError>,
     H: HoldPoint,
 >(
     reader: &mut LineReader<S>,

@@ -1,11 +1,12 @@
 //! What answers messages and questions.
 
 ghost use Rattle.std.specs.Prelude.{◌≡◌, IfOk};
-ghost use Rattle.dm_desk.specs.Desks.{Posts, TellsTime, TellsCost, TellsLength, IsCopied, IsTrueOf, AdoptsPlan};
+ghost use Rattle.dm_desk.specs.Desks.{Posts, TellsTime, TellsCost, TellsLength, IsCopied, IsAdoptable, AdoptsPlan};
+ghost use Rattle.dm_tree.specs.Plans.{chosen};
 
 use dm_base::{Cost, EventId, Secs};
-use dm_rows::{At, Entry, Refusal, Snapshot};
-use dm_tree::{AdoptRefusal, Plan};
+use dm_rows::{At, Decision, Entry, Refusal, Snapshot};
+use dm_tree::AdoptRefusal;
 use std::alloc::AllocError;
 
 /// What enters messages into a history and answers questions about it. Each call may first come to see more of the history,
@@ -41,10 +42,17 @@ pub trait Desk {
     fn snapshot(&mut self) -> Result<Snapshot, AllocError>
         ensures { IfOk result (IsCopied (value self.old) (value self.new)) };
 
-    /// Adopts a plan that is true, for some budget, of the rows after as many entries as it names, and answers the number of
-    /// the entry, which is the next after those. [`AdoptRefusal::Old`] comes exactly where there are more entries by now, and
-    /// [`AdoptRefusal::Full`] exactly where there are as many and there is no room for one, but for want of memory.
-    fn adopt(&mut self, plan: &Plan, feed: u32, line: u32) -> Result<u32, AdoptRefusal>
-        requires { IsTrueOf (value self.old) plan.now }
-        ensures { AdoptsPlan (value self.old) (value self.new) plan.now feed line result };
+    /// Adopts the choices of a plan of the rows after so many entries: free ones, in order, with which these rows have no
+    /// cycle. It answers the number of the entry, which is the next after those. [`AdoptRefusal::Old`] comes exactly where
+    /// there are more entries by now, and [`AdoptRefusal::Full`] exactly where there are as many and there is no room for one,
+    /// but for want of memory.
+    fn adopt(
+        &mut self,
+        entry: u32,
+        choices: &[Decision],
+        feed: u32,
+        line: u32,
+    ) -> Result<u32, AdoptRefusal>
+        requires { IsAdoptable (value self.old) (chosen entry choices.now) }
+        ensures { AdoptsPlan (value self.old) (value self.new) (chosen entry choices.now) feed line result };
 }

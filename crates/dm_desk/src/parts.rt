@@ -8,17 +8,18 @@ ghost use Rattle.dm_desk.specs.Inside.Parts.{IsHeard, HandlesLine};
 
 use crate::answers::answer;
 use crate::desk::Desk;
+use crate::searches::Search;
 use dm_cert::LogItem;
 use dm_feed::{Heard, hear_first};
+use dm_parts::AnyPlan;
 use dm_rows::Snapshot;
-use dm_tree::Plan;
 use std::alloc::AllocError;
 
 /// Answers the next due lines among the whole lines of a part of a feed's bytes, so many of them or all that are there, and
 /// keeps what was answered behind its log, which is true of what the desk has seen. `passed` lines of the feed came before the
 /// part. It answers how many bytes of the part were passed, and how many lines of the feed by then. Want of memory leaves the
 /// desk and the log at any point.
-pub fn answer_lines<D: Desk, P: Fn(&Snapshot, u64) -> Result<Plan, AllocError>>(
+pub fn answer_lines<D: Desk, P: Fn(&Snapshot, Search) -> Result<AnyPlan, AllocError>>(
     part: &[u8],
     passed: u32,
     desk: &mut D,
@@ -50,7 +51,7 @@ pub fn answer_lines<D: Desk, P: Fn(&Snapshot, u64) -> Result<Plan, AllocError>>(
 
 // Answers a line of this number, unless it is blank or a comment, and puts the answer behind the log. It answers how many
 // answers came: none or one.
-fn handle<D: Desk, P: Fn(&Snapshot, u64) -> Result<Plan, AllocError>>(
+fn handle<D: Desk, P: Fn(&Snapshot, Search) -> Result<AnyPlan, AllocError>>(
     desk: &mut D,
     planner: &P,
     feed: u32,

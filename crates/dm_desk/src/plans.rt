@@ -1,12 +1,12 @@
 //! The plans that a feed has had.
 
 ghost use Rattle.std.specs.Prelude.{◌≡◌, count_by};
-ghost use Rattle.std.specs.Option.{option_copied};
+ghost use Rattle.std.specs.Option.{option_map};
 ghost use Rattle.dm_cert.specs.Answers.{is_plan, latest_plan};
-ghost use Rattle.dm_desk.specs.Inside.Replies.{plan_in};
+ghost use Rattle.dm_desk.specs.Inside.Replies.{plan_in, lent};
 
 use dm_cert::{LogItem, Reply};
-use dm_tree::Plan;
+use dm_rows::Decision;
 
 /// How many of the items are plans.
 pub fn count_plans(items: &[LogItem]) -> usize
@@ -21,9 +21,9 @@ pub fn count_plans(items: &[LogItem]) -> usize
     plans
 }
 
-/// The last plan among the items.
-pub fn last_plan(items: &[LogItem]) -> Option<&Plan>
-    ensures { option_copied result ≡ latest_plan items.now }
+/// The last plan of either kind among the items: for the rows after how many entries it is, and its choices.
+pub fn last_plan(items: &[LogItem]) -> Option<(u32, &[Decision])>
+    ensures { option_map lent result ≡ latest_plan items.now }
 {
     let mut last = None;
     for item in items {
@@ -40,20 +40,24 @@ fn is_planned(item: &LogItem) -> bool
     matches!(
         item,
         LogItem::Answered {
-            reply: Reply::Planned(_),
+            reply: Reply::Planned(_) | Reply::Solved(_),
             ..
         }
     )
 }
 
-fn planned(item: &LogItem) -> Option<&Plan>
-    ensures { option_copied result ≡ plan_in item.now }
+fn planned(item: &LogItem) -> Option<(u32, &[Decision])>
+    ensures { option_map lent result ≡ plan_in item.now }
 {
     match item {
         LogItem::Answered {
             reply: Reply::Planned(plan),
             ..
-        } => Some(plan),
+        } => Some((plan.entry, plan.choices.as_slice())),
+        LogItem::Answered {
+            reply: Reply::Solved(plan),
+            ..
+        } => Some((plan.entry, plan.choices.as_slice())),
         _ => None,
     }
 }

@@ -6,11 +6,11 @@ ghost use Rattle.dm_desk.specs.Answered.{HasSeenLegal, AreTrueOf};
 ghost use Rattle.dm_desk.specs.Planning.{PlansUnder};
 
 use dm_cert::LogItem;
-use dm_desk::{Desk, HoldPoint, answer_batch};
+use dm_desk::{Desk, HoldPoint, Search, answer_batch};
 use dm_feed::{FeedStop, LineReader};
 use dm_outside::Source;
+use dm_parts::AnyPlan;
 use dm_rows::Snapshot;
-use dm_tree::Plan;
 use std::alloc::AllocError;
 
 /// How far a feed was read.
@@ -34,7 +34,7 @@ pub struct Job<S> {
 pub fn answer_job<
     S: Source + Drop,
     D: Desk,
-    P: Fn(&Snapshot, u64) -> Result<Plan, AllocError>,
+    P: Fn(&Snapshot, Search) -> Result<AnyPlan, AllocError>,
     H: HoldPoint,
 >(
     job: &mut Job<S>,

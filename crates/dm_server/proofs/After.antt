@@ -20,13 +20,13 @@ use Rattle.dm_rows.specs.Timetable.{IsLeast}
 use Rattle.dm_rows.specs.declared.rows.Snapshot.{Snapshot}
 use Rattle.dm_table.specs.Value.{TableValue, IsTable}
 use Rattle.dm_table.specs.Answers.{RefusesPost}
-use Rattle.dm_tree.specs.declared.plans.Plan.{Plan}
-use Rattle.dm_tree.specs.Plans.{whole_task, IsTruePlan}
-use Rattle.dm_tree.proofs.Admitted.{true_plans_are_admitted}
+use Rattle.dm_tree.specs.declared.adopting.Chosen.{Chosen}
+use Rattle.dm_tree.specs.Plans.{MayBeAdopted}
+use Rattle.dm_tree.proofs.Admitted.{free_choices_are_admitted}
 use Rattle.dm_turn.specs.Passes.{PassValue, numbered}
 use Rattle.dm_turn.proofs.Fronts.{prefix_length}
 use Rattle.dm_server.specs.declared.kept.Base.{Base}
-use Rattle.dm_server.specs.Answers.{base_of, rows_after, RefusesAfter, IsTrueOf}
+use Rattle.dm_server.specs.Answers.{base_of, rows_after, RefusesAfter, IsAdoptable}
 use Rattle.dm_server.specs.Inside.Holding.{Gains}
 
 -- what a table refuses a message for is a refusal after its history
@@ -62,26 +62,26 @@ pub least_of_longer : (base : Base) (seen history : List Entry) (n : ℕ) (x : L
 least_of_longer base seen history n x prefix le least =
     subst (λ (rows : RowsValue). IsLeast base.network rows x) (rows_longer base.network base.start seen history n prefix le) least
 
--- a plan that is true of a history's rows is so of a longer one's
-pub true_of_longer : (base : Base) (seen history : List Entry) (plan : Plan) → IsPrefix seen history → IsTrueOf base seen plan → IsTrueOf base history plan
-true_of_longer base seen history plan prefix is =
+-- choices that may be adopted for a history's rows may be so for a longer one's
+pub adoptable_of_longer : (base : Base) (seen history : List Entry) (plan : Chosen) → IsPrefix seen history → IsAdoptable base seen plan → IsAdoptable base history plan
+adoptable_of_longer base seen history plan prefix is =
     record {
-      budget = is.budget;
       within = let short = prefix_length seen history prefix in let within = is.within in omega arith;
-      is_true =
-          subst (λ (rows : RowsValue). IsTruePlan (whole_task base.network rows base.penalty is.budget) plan)
-          (rows_longer base.network base.start seen history plan.entry prefix is.within) is.is_true;
+      may =
+          subst (λ (rows : RowsValue). MayBeAdopted base.network rows plan.choices)
+          (rows_longer base.network base.start seen history plan.entry prefix is.within) is.may;
     }
 
--- a plan that is true of the rows after as many entries as there are is never refused
-pub never_refused : (base : Base) (history : List Entry) (plan : Plan) → IsNetwork base.network → IsTrueOf base history plan →
+-- choices that may be adopted for the rows after as many entries as there are are never refused
+pub never_refused : (base : Base) (history : List Entry) (plan : Chosen) → IsNetwork base.network → IsAdoptable base history plan →
     length history ≤ plan.entry → length history < ENTRIES →
     RefusesNothing (Refuses base.network (rows_after base history) (length history) (Adopt plan.choices))
 never_refused base history plan network is all few =
     let within = is.within in
     let same : plan.entry ≡ length history = omega arith in
-    true_plans_are_admitted base.network (rows_after base history) base.penalty is.budget (length history) plan network few
-    (subst (λ (n : ℕ). IsTruePlan (whole_task base.network (rows_at base.network base.start history n) base.penalty is.budget) plan) same is.is_true)
+    let here : MayBeAdopted base.network (rows_after base history) plan.choices =
+    subst (λ (n : ℕ). MayBeAdopted base.network (rows_at base.network base.start history n) plan.choices) same is.may in
+    free_choices_are_admitted base.network (rows_after base history) network plan.choices here.free (length history) few here.no_cycle
 
 -- so nothing but want of memory refuses it
 pub only_memory : (base : Base) (history : List Entry) (m : Message) → RefusesNothing (Refuses base.network (rows_after base history) (length history) m) →

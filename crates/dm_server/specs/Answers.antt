@@ -15,8 +15,8 @@ use Rattle.dm_rows.specs.Rows.{RowsValue}
 use Rattle.dm_rows.specs.Timetable.{IsLeast}
 use Rattle.dm_table.specs.Value.{TableValue}
 use Rattle.dm_table.specs.Answers.{time_of}
-use Rattle.dm_tree.specs.declared.plans.Plan.{Plan}
-use Rattle.dm_tree.specs.Plans.{whole_task, IsTruePlan}
+use Rattle.dm_tree.specs.declared.adopting.Chosen.{Chosen}
+use Rattle.dm_tree.specs.Plans.{MayBeAdopted}
 use Rattle.dm_turn.specs.Passes.{PassValue, numbered}
 use Rattle.dm_server.specs.declared.kept.Base.{Base}
 use Rattle.dm_tree.specs.declared.adopting.AdoptRefusal.{AdoptRefusal}
@@ -49,20 +49,19 @@ abbrev pub RefusesAfter : Base → List Entry → Message → Refusal → Type 0
 RefusesAfter base history m OutOfMemory = Unit {0}
 RefusesAfter base history m r = Refuses base.network (rows_after base history) (length history) m r
 
--- for some budget the plan is true of the rows after as many entries as it names, which the history has
-pub record IsTrueOf (base : Base) (history : List Entry) (plan : Plan) : Type 0 where
-  pub budget : ℕ
+-- the choices of a plan may be adopted for the rows after as many entries as it names, which the history has
+pub record IsAdoptable (base : Base) (history : List Entry) (plan : Chosen) : Type 0 where
   pub within : plan.entry ≤ length history
-  pub is_true : IsTruePlan (whole_task base.network (rows_at base.network base.start history plan.entry) base.penalty budget) plan
+  pub may : MayBeAdopted base.network (rows_at base.network base.start history plan.entry) plan.choices
 
 -- why a plan is not adopted after a history: this is longer than the plan's, or as long and full; or want of memory
-abbrev pub RefusesAdopt : Plan → List Entry → AdoptRefusal → Type 0
+abbrev pub RefusesAdopt : Chosen → List Entry → AdoptRefusal → Type 0
 RefusesAdopt plan history (Old now) = (now ≡ length history) × (plan.entry < now)
 RefusesAdopt plan history (Full now) = (now ≡ length history) × (now ≡ ENTRIES) × (plan.entry ≡ now)
 RefusesAdopt plan history NoMemory = Unit {0}
 
 -- the entry that adopts a plan
-abbrev pub adopts : Plan → ℕ → ℕ → Entry
+abbrev pub adopts : Chosen → ℕ → ℕ → Entry
 adopts plan feed line = record { feed = feed; line = line; message = Adopt plan.choices }
 
 -- the pass has seen as much or more, and all else of it is as before

@@ -6,7 +6,8 @@ ghost use Rattle.dm_rows.specs.Rows.{IsSized};
 ghost use Rattle.dm_rows.specs.Timetable.{IsLeast};
 ghost use Rattle.dm_table.specs.Answers.{RefusesTime, RefusesPost};
 ghost use Rattle.dm_table.specs.Value.{HasRoomFor, IsTable};
-ghost use Rattle.dm_server.specs.Answers.{base_of, AreTimesAfter, ShowsTime, CostsAfter, RefusesAfter, RefusesAdopt, IsTrueOf, adopts};
+ghost use Rattle.dm_tree.specs.Plans.{chosen};
+ghost use Rattle.dm_server.specs.Answers.{base_of, AreTimesAfter, ShowsTime, CostsAfter, RefusesAfter, RefusesAdopt, IsAdoptable, adopts};
 ghost use Rattle.dm_server.specs.Inside.Holding.{Gains, Stays};
 
 use crate::kept::Kept;
@@ -14,7 +15,7 @@ use dm_base::limits::ENTRIES;
 use dm_base::{Cost, EventId, Items, Secs, Steps};
 use dm_rows::{Decision, Entry, Message, Refusal, Snapshot};
 use dm_settle::Times;
-use dm_tree::{AdoptRefusal, Plan};
+use dm_tree::AdoptRefusal;
 use std::alloc::{AllocError, Global};
 use std::marker::Brand;
 use std::sync::ledger::{Blank, Ledger};
@@ -71,29 +72,30 @@ impl<'n> Kept<'n> {
         self.table.post(entry, &mut steps)
     }
 
-    /// Adopts a plan, or says why it is not adopted after the history.
+    /// Adopts the choices of a plan of the rows at an entry, or says why they are not adopted after the history.
     pub(crate) fn adopt(
         &mut self,
         alloc: Global,
-        plan: &Plan,
+        entry: u32,
+        choices: &[Decision],
         feed: u32,
         line: u32,
     ) -> Result<u32, AdoptRefusal>
-        requires { IsTrueOf (base_of self.old.table.value) self.old.table.value.history plan.now }
-        ensures entered { IfOk result (Gains self.old.table.value self.new.table.value (adopts plan.now feed line)) }
-        ensures number { IfOk result (λ n. n ≡ plan.now.entry + 1) }
+        requires { IsAdoptable (base_of self.old.table.value) self.old.table.value.history (chosen entry choices.now) }
+        ensures entered { IfOk result (Gains self.old.table.value self.new.table.value (adopts (chosen entry choices.now) feed line)) }
+        ensures number { IfOk result (λ n. n ≡ entry + 1) }
         ensures stays { OnErr result (Stays self.old.table.value self.new.table.value) }
-        ensures refused { IfErr result (RefusesAdopt plan.now self.old.table.value.history) }
+        ensures refused { IfErr result (RefusesAdopt (chosen entry choices.now) self.old.table.value.history) }
     {
         self.table.network().reveal();
         let now = self.table.len();
-        if plan.entry < now {
+        if entry < now {
             return Err(AdoptRefusal::Old { now });
         }
         if now == ENTRIES {
             return Err(AdoptRefusal::Full { now });
         }
-        let Ok(choices) = copy_of(alloc, plan.choices.as_slice()) else {
+        let Ok(choices) = copy_of(alloc, choices) else {
             return Err(AdoptRefusal::OutOfMemory);
         };
         let message = Message::Adopt(choices);

@@ -24,9 +24,9 @@
 //! `follow_times` answers the same. It starts from the times after a given number of first entries that the pass had seen. It
 //! lists each event whose time was another then.
 //!
-//! `adopt` takes a plan that is true of the rows after as many entries as it names. The plan is entered as the next entry, or
-//! refused: as old where there are more entries, as full where there are as many and no more are taken, or for want of
-//! memory.
+//! `adopt` takes the choices of a plan of the rows after a number of entries: free ones, in order, with which these rows have
+//! no cycle. They are entered as the next entry, or refused: as old where there are more entries, as full where there are as
+//! many and no more are taken, or for want of memory.
 //!
 //! `rest` is that of the turn and has no clause.
 #![tactic(auto)]

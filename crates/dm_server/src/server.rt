@@ -12,15 +12,16 @@ ghost use Rattle.dm_table.specs.Answers.{RefusesTime};
 ghost use Rattle.dm_table.specs.Value.{IsTable};
 ghost use Rattle.dm_times.specs.Faults.{RefusesTimes};
 ghost use Rattle.dm_turn.specs.Passes.{longer, AreEntriesOf, AreAllAbove};
-ghost use Rattle.dm_server.specs.Answers.{base_of, rows_after, AreTimesAfter, ShowsTime, CostsAfter, RefusesAfter, RefusesAdopt, IsTrueOf, adopts, HasLooked, HasEntered};
+ghost use Rattle.dm_tree.specs.Plans.{chosen};
+ghost use Rattle.dm_server.specs.Answers.{base_of, rows_after, AreTimesAfter, ShowsTime, CostsAfter, RefusesAfter, RefusesAdopt, IsAdoptable, adopts, HasLooked, HasEntered};
 
 use crate::kept::Kept;
 use dm_base::{Cost, EventId, Secs};
 use dm_network::Network;
-use dm_rows::{At, Entry, Refusal, Rows, Snapshot};
+use dm_rows::{At, Decision, Entry, Refusal, Rows, Snapshot};
 use dm_settle::{NoTimes, Times};
 use dm_table::Table;
-use dm_tree::{AdoptRefusal, Plan};
+use dm_tree::AdoptRefusal;
 use dm_turn::{Pass, Turn};
 use std::alloc::{AllocError, Global};
 use std::marker::Model;
@@ -278,29 +279,30 @@ impl<'n> Server<'n> {
         copied
     }
 
-    /// Adopts a plan that is true, for some budget, of the rows after as many entries as it names, which the pass has seen.
-    /// It is entered, as the next entry, exactly where there are no more entries yet, there is room for one, and there is
+    /// Adopts the choices of a plan of the rows at an entry, which the pass has seen: free ones with which these rows have no
+    /// cycle. They are entered, as the next entry, exactly where there are no more entries yet, there is room for one, and there is
     /// enough memory.
     pub fn adopt<R: Wait>(
         &self,
         rt: &R,
         pass: &mut Pass<Kept<'n>>,
-        plan: &Plan,
+        entry: u32,
+        choices: &[Decision],
         feed: u32,
         line: u32,
     ) -> Result<u32, AdoptRefusal>
         requires turn { pass.old.turn ≡ self.now.id }
         requires idle { pass.old.holds ≡ false }
-        requires plan { ForSome pass.old.base (λ base. IsTrueOf base pass.old.seen plan.now) }
-        ensures entered { IfOk result (HasEntered pass.old pass.new (adopts plan.now feed line)) }
+        requires plan { ForSome pass.old.base (λ base. IsAdoptable base pass.old.seen (chosen entry choices.now)) }
+        ensures entered { IfOk result (HasEntered pass.old pass.new (adopts (chosen entry choices.now) feed line)) }
         ensures legal { IsSomeAnd pass.new.base (λ base. IsLegal base.network base.start pass.new.seen) }
-        ensures number { IfOk result (λ n. n ≡ plan.now.entry + 1) }
+        ensures number { IfOk result (λ n. n ≡ entry + 1) }
         ensures looked { OnErr result (HasLooked pass.old pass.new) }
-        ensures refused { IfErr result (RefusesAdopt plan.now pass.new.seen) }
+        ensures refused { IfErr result (RefusesAdopt (chosen entry choices.now) pass.new.seen) }
     {
         let mut held = self.turn.take(rt, pass);
         held.state.reveal();
-        let answer = held.state.adopt(self.alloc, plan, feed, line);
+        let answer = held.state.adopt(self.alloc, entry, choices, feed, line);
         match answer {
             Ok(n) => {
                 self.turn.add(pass, &held);

@@ -8,13 +8,14 @@ use Rattle.dm_rows.specs.declared.messages.Entry.{Entry}
 use Rattle.dm_rows.specs.History.{rows_at}
 use Rattle.dm_rows.specs.Rows.{RowsValue}
 use Rattle.dm_server.specs.declared.kept.Base.{Base}
-use Rattle.dm_server.specs.Answers.{rows_after, IsTrueOf, HasLooked, HasEntered}
-use Rattle.dm_server.proofs.After.{true_of_longer}
+use Rattle.dm_server.specs.Answers.{rows_after, IsAdoptable, HasLooked, HasEntered}
+use Rattle.dm_server.proofs.After.{adoptable_of_longer}
 use Rattle.dm_server_cases.specs.Passes.{IsOver, IsSame, IsServed}
 use Rattle.dm_server_cases.specs.declared.served.TheConstants.{PENALTY, SEATS}
 use Rattle.dm_tree.specs.declared.adopting.AdoptRefusal.{AdoptRefusal}
 use Rattle.dm_tree.specs.declared.plans.Plan.{Plan}
-use Rattle.dm_tree.specs.Plans.{whole_task, IsTruePlan}
+use Rattle.dm_tree.specs.declared.adopting.Chosen.{Chosen}
+use Rattle.dm_tree.specs.Plans.{chosen, MayBeAdopted, whole_task, IsTruePlan}
 use Rattle.dm_turn.specs.Passes.{PassValue, TurnValue}
 
 pub over_still : (net : Net) (price : ℕ) (before now : PassValue Base) → IsSame before now → IsOver net price before → IsOver net price now
@@ -57,34 +58,35 @@ served_looked net server before now s looked =
 same_some : (a b : Base) → Some a ≡ Some b → a ≡ b
 same_some a b e = cc
 
--- a true plan of rows that were copied is true of what the pass has seen
+-- the choices of a true plan of rows that were copied may be adopted for what the pass has seen
 pub plan_over : (net : Net) (price budget : ℕ) (pass : PassValue Base) (rows : RowsValue) (plan : Plan) → IsOver net price pass →
     IsTruePlan (whole_task net rows price budget) plan → plan.entry ≡ length pass.seen →
-    ForSome pass.base (λ base. rows ≡ rows_after base pass.seen) → ForSome pass.base (λ base. IsTrueOf base pass.seen plan)
+    ForSome pass.base (λ base. rows ≡ rows_after base pass.seen) → ForSome pass.base (λ base. IsAdoptable base pass.seen (chosen plan.entry plan.choices))
 plan_over net price budget pass rows plan o t all copied base e =
     let here : Base = record { network = net; start = o.rows; penalty = price } in
     let same : base ≡ here = same_some base here (sym e ∙ o.is) in
     let at : rows ≡ rows_at net o.rows pass.seen (length pass.seen) = copied here o.is in
     let there : rows ≡ rows_at net o.rows pass.seen plan.entry = subst (λ (n : ℕ). rows ≡ rows_at net o.rows pass.seen n) (sym all) at in
-    subst (λ (b : Base). IsTrueOf b pass.seen plan) (sym same)
+    subst (λ (b : Base). IsAdoptable b pass.seen (chosen plan.entry plan.choices)) (sym same)
     (record {
-      budget = budget;
       within = omega (arith, all);
-      is_true = subst (λ (r : RowsValue). IsTruePlan (whole_task net r price budget) plan) there t;
+      may =
+          subst (λ (r : RowsValue). MayBeAdopted net r plan.choices) there
+          (record { free = t.choices; no_cycle = t.cost.no_cycle });
     })
 
 longer : (xs ys zs : List Entry) → IsPrefix xs ys → IsPrefix xs (ys ++ zs)
 longer xs ys zs p = (p.0 ++ zs, sym (append_assoc xs p.0 zs) ∙ ap (λ (q : List Entry). q ++ zs) p.1)
 
--- what is true of what a pass has seen is so when it has seen more
-pub still_true : (before now : PassValue Base) (plan : Plan) (entry : Entry) (result : Result ℕ AdoptRefusal) →
+-- what may be adopted for what a pass has seen may be so when it has seen more
+pub still_true : (before now : PassValue Base) (plan : Chosen) (entry : Entry) (result : Result ℕ AdoptRefusal) →
     IfOk result (HasEntered before now entry) → OnErr result (HasLooked before now) →
-    ForSome before.base (λ base. IsTrueOf base before.seen plan) → ForSome now.base (λ base. IsTrueOf base now.seen plan)
+    ForSome before.base (λ base. IsAdoptable base before.seen plan) → ForSome now.base (λ base. IsAdoptable base now.seen plan)
 still_true before now plan entry (Ok n) entered looked t base e =
     let was : before.base ≡ Some base = sym (ap (λ (p : PassValue Base). p.base) entered.same) ∙ e in
-    subst (λ (s : List Entry). IsTrueOf base s plan) (sym (ap (λ (p : PassValue Base). p.seen) entered.same))
-    (true_of_longer base before.seen (entered.history ++ entry ∷ []) plan
+    subst (λ (s : List Entry). IsAdoptable base s plan) (sym (ap (λ (p : PassValue Base). p.seen) entered.same))
+    (adoptable_of_longer base before.seen (entered.history ++ entry ∷ []) plan
     (longer before.seen entered.history (entry ∷ []) entered.later) (t base was))
 still_true before now plan entry (Err r) entered looked t base e =
     let was : before.base ≡ Some base = sym (ap (λ (p : PassValue Base). p.base) looked.same) ∙ e in
-    true_of_longer base before.seen now.seen plan looked.later (t base was)
+    adoptable_of_longer base before.seen now.seen plan looked.later (t base was)

@@ -1,7 +1,8 @@
 //! Plans of copied rows that are adopted.
 ghost use Rattle.std.specs.Prelude.{◌≡◌, false, IfSome};
 ghost use Rattle.std.specs.Option.{ForSome};
-ghost use Rattle.dm_server.specs.Answers.{IsTrueOf};
+ghost use Rattle.dm_tree.specs.Plans.{chosen};
+ghost use Rattle.dm_server.specs.Answers.{IsAdoptable};
 ghost use Rattle.dm_server_cases.specs.Passes.{IsOver, IsSame};
 
 use crate::calls::{LATE, copied};
@@ -97,7 +98,7 @@ fn planned<'n, R: Wait + AllocGlobal>(
     requires over { IsOver net.now PENALTY pass.old }
     ensures same { IsSame pass.old pass.new }
     ensures over { IsOver net.now PENALTY pass.new }
-    ensures plan { IfSome result (λ plan. ForSome pass.new.base (λ base. IsTrueOf base pass.new.seen plan)) }
+    ensures plan { IfSome result (λ plan. ForSome pass.new.base (λ base. IsAdoptable base pass.new.seen (chosen plan.entry plan.choices))) }
 {
     let snapshot = match copied(rt, net, server, pass) {
         Some(snapshot) => snapshot,
@@ -119,9 +120,9 @@ fn adopt<'n, R: Wait>(
 ) -> Result<u32, AdoptRefusal>
     requires turn { pass.old.turn ≡ server.now.id }
     requires idle { pass.old.holds ≡ false }
-    requires plan { ForSome pass.old.base (λ base. IsTrueOf base pass.old.seen plan.now) }
+    requires plan { ForSome pass.old.base (λ base. IsAdoptable base pass.old.seen (chosen plan.now.entry plan.now.choices)) }
     ensures same { IsSame pass.old pass.new }
-    ensures plan { ForSome pass.new.base (λ base. IsTrueOf base pass.new.seen plan.now) }
+    ensures plan { ForSome pass.new.base (λ base. IsAdoptable base pass.new.seen (chosen plan.now.entry plan.now.choices)) }
 {
-    server.adopt(rt, pass, plan, 1, line)
+    server.adopt(rt, pass, plan.entry, plan.choices.as_slice(), 1, line)
 }

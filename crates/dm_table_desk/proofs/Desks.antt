@@ -21,11 +21,11 @@ use Rattle.dm_cert.specs.Answers.{Setting, IsRefused}
 use Rattle.dm_desk.specs.Desks.{DeskValue, Looks, Enters, RefusesEntry, TellsCost, AdoptsPlan, adopts}
 use Rattle.dm_table.specs.Answers.{RefusesPost}
 use Rattle.dm_table.specs.Value.{TableValue, IsTable}
-use Rattle.dm_tree.specs.declared.plans.Plan.{Plan}
-use Rattle.dm_tree.specs.Plans.{whole_task, IsTruePlan}
-use Rattle.dm_tree.proofs.Admitted.{true_plans_are_admitted}
+use Rattle.dm_tree.specs.declared.adopting.Chosen.{Chosen}
+use Rattle.dm_tree.specs.Plans.{MayBeAdopted}
+use Rattle.dm_tree.proofs.Admitted.{free_choices_are_admitted}
 use Rattle.dm_table_desk.specs.Tables.{setting_of, desk_of}
-use Rattle.dm_table_desk.specs.Inside.Entering.{Gains, IsSameDesk, IsRefusedAfter, IsTrueAt, rows_now}
+use Rattle.dm_table_desk.specs.Inside.Entering.{Gains, IsSameDesk, IsRefusedAfter, IsAdoptableAt, rows_now}
 
 -- ---- what is looked at
 
@@ -124,24 +124,25 @@ refuses_entry plans before now entry n why is same here h =
 
 -- ---- plans
 
--- a plan that is true of the rows after as many entries as there are is never refused
-never_refused : (table : TableValue) (plan : Plan) → IsNetwork table.network → IsTrueAt table plan → length table.history ≤ plan.entry → length table.history < ENTRIES →
+-- choices that may be adopted for the rows after as many entries as there are are never refused
+never_refused : (table : TableValue) (plan : Chosen) → IsNetwork table.network → IsAdoptableAt table plan → length table.history ≤ plan.entry → length table.history < ENTRIES →
     RefusesNothing (Refuses table.network (rows_now table) (length table.history) (Adopt plan.choices))
 never_refused table plan network is all few =
     let within = is.within in
     let same : plan.entry ≡ length table.history = omega arith in
-    true_plans_are_admitted table.network (rows_now table) table.penalty is.budget (length table.history) plan network few
-    (subst (λ (n : ℕ). IsTruePlan (whole_task table.network (rows_at table.network table.start table.history n) table.penalty is.budget) plan) same is.is_true)
+    let here : MayBeAdopted table.network (rows_now table) plan.choices =
+    subst (λ (n : ℕ). MayBeAdopted table.network (rows_at table.network table.start table.history n) plan.choices) same is.may in
+    free_choices_are_admitted table.network (rows_now table) network plan.choices here.free (length table.history) few here.no_cycle
 
 -- so nothing but want of memory refuses it
-pub only_memory : (table : TableValue) (plan : Plan) → IsNetwork table.network → IsTrueAt table plan → length table.history ≤ plan.entry → length table.history < ENTRIES →
+pub only_memory : (table : TableValue) (plan : Chosen) → IsNetwork table.network → IsAdoptableAt table plan → length table.history ≤ plan.entry → length table.history < ENTRIES →
     (why : Refusal) → IsRefusedAfter table (Adopt plan.choices) why → why ≡ refusal.OutOfMemory
 only_memory table plan network is all few why (inl memory) = memory
 only_memory table plan network is all few why (inr refuses) = absurd (never_refused table plan network is all few why refuses)
 
-pub enters_plan : (plans : ℕ) (before now : TableValue) (plan : Plan) (feed line n : ℕ) → IsTrueAt before plan → length before.history ≤ plan.entry → Gains before now (adopts plan feed line) n
+pub enters_plan : (plans : ℕ) (before now : TableValue) (plan : Chosen) (feed line n : ℕ) → IsAdoptableAt before plan → length before.history ≤ plan.entry → Gains before now (adopts plan feed line) n
     → AdoptsPlan (desk_of plans before) (desk_of plans now) plan feed line (Ok n)
-enters_plan plans before now plan feed line n true_plan late g =
-    let within = true_plan.within in
+enters_plan plans before now plan feed line n may late g =
+    let within = may.within in
     let next = grows before now (adopts plan feed line) n g in
     record { enters = enters plans before now (adopts plan feed line) n g; next = omega arith }

@@ -4,14 +4,15 @@ ghost use Rattle.std.specs.Prelude.{◌≡◌, ◌<◌, ℕ, length, IfOk, IfErr
 ghost use Rattle.dm_desk.specs.Desks.{AdoptsPlan};
 ghost use Rattle.dm_table.specs.Answers.{RefusesPost};
 ghost use Rattle.dm_table.specs.Value.{HasRoomFor};
+ghost use Rattle.dm_tree.specs.Plans.{chosen};
 ghost use Rattle.dm_table_desk.specs.Tables.{desk_of};
-ghost use Rattle.dm_table_desk.specs.Inside.Entering.{Gains, IsSameDesk, IsRefusedAfter, IsTrueAt};
+ghost use Rattle.dm_table_desk.specs.Inside.Entering.{Gains, IsSameDesk, IsRefusedAfter, IsAdoptableAt};
 
 use dm_base::limits::ENTRIES;
 use dm_base::{Items, Steps};
 use dm_rows::{Decision, Entry, Message, Refusal};
 use dm_table::Table;
-use dm_tree::{AdoptRefusal, Plan};
+use dm_tree::AdoptRefusal;
 use std::alloc::{AllocError, Global};
 use std::marker::Brand;
 use std::sync::ledger::{Blank, Ledger};
@@ -43,36 +44,37 @@ fn post_with<L: Ledger>(table: &mut Table<'_>, entry: Entry, blank: Blank) -> Re
     table.post(entry, &mut steps)
 }
 
-/// Adopts a plan, or says why it is not adopted after the history.
+/// Adopts the choices of a plan of the rows at an entry, or says why they are not adopted after the history.
 pub(crate) fn adopt(
     alloc: Global,
     table: &mut Table<'_>,
-    plan: &Plan,
+    entry: u32,
+    choices: &[Decision],
     feed: u32,
     line: u32,
 ) -> Result<u32, AdoptRefusal>
-    requires { IsTrueAt table.old plan.now }
-    ensures { (plans : ℕ) → AdoptsPlan (desk_of plans table.old) (desk_of plans table.new) plan.now feed line result }
+    requires { IsAdoptableAt table.old (chosen entry choices.now) }
+    ensures { (plans : ℕ) → AdoptsPlan (desk_of plans table.old) (desk_of plans table.new) (chosen entry choices.now) feed line result }
 {
     table.reveal();
     table.network().reveal();
     let now = table.len();
-    if plan.entry < now {
+    if entry < now {
         return Err(AdoptRefusal::Old { now });
     }
     if now == ENTRIES {
         return Err(AdoptRefusal::Full { now });
     }
-    let Ok(choices) = copy_of(alloc, plan.choices.as_slice()) else {
+    let Ok(choices) = copy_of(alloc, choices) else {
         return Err(AdoptRefusal::OutOfMemory);
     };
     let message = Message::Adopt(choices);
-    let entry = Entry {
+    let adopted = Entry {
         feed,
         line,
         message,
     };
-    match enter(table, entry) {
+    match enter(table, adopted) {
         Ok(number) => Ok(number),
         Err(why) => Err(want_of_memory(why)),
     }

@@ -3,9 +3,9 @@
 use crate::entering::{adopt, enter};
 use dm_base::{Cost, EventId, Secs};
 use dm_desk::Desk;
-use dm_rows::{At, Entry, Refusal, Snapshot};
+use dm_rows::{At, Decision, Entry, Refusal, Snapshot};
 use dm_table::Table;
-use dm_tree::{AdoptRefusal, Plan};
+use dm_tree::AdoptRefusal;
 use std::alloc::{AllocError, Global};
 
 /// A table, as a desk that has entered all its entries.
@@ -60,7 +60,13 @@ impl Desk for TableDesk<'_> {
         self.table.copy()
     }
 
-    fn adopt(&mut self, plan: &Plan, feed: u32, line: u32) -> Result<u32, AdoptRefusal> {
-        adopt(self.alloc, &mut self.table, plan, feed, line)
+    fn adopt(
+        &mut self,
+        entry: u32,
+        choices: &[Decision],
+        feed: u32,
+        line: u32,
+    ) -> Result<u32, AdoptRefusal> {
+        adopt(self.alloc, &mut self.table, entry, choices, feed, line)
     }
 }

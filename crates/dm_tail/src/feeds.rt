@@ -7,14 +7,18 @@ ghost use Rattle.dm_tail.specs.Sources.{source_in};
 
 use crate::growing::Growing;
 use crate::watched::Watched;
-use dm_desk::Desk;
+use dm_desk::{Desk, Search};
+use dm_parts::AnyPlan;
 use dm_rows::Snapshot;
-use dm_tree::Plan;
 use std::alloc::{AllocError, Global};
 
 /// Reads the next bytes of each feed and answers its lines that end, up to so many due ones of each, in the order of the feeds.
 /// `Err` is want of memory alone.
-pub fn answer_feeds<T: Growing + Drop, D: Desk, P: Fn(&Snapshot, u64) -> Result<Plan, AllocError>>(
+pub fn answer_feeds<
+    T: Growing + Drop,
+    D: Desk,
+    P: Fn(&Snapshot, Search) -> Result<AnyPlan, AllocError>,
+>(
     alloc: Global,
     desk: &mut D,
     planner: &P,

@@ -6,9 +6,9 @@ ghost use Rattle.dm_desk.specs.Planning.{PlansUnder};
 use crate::growing::Growing;
 use crate::tail::Tail;
 use dm_cert::LogItem;
-use dm_desk::{Desk, answer_lines};
+use dm_desk::{Desk, Search, answer_lines};
+use dm_parts::AnyPlan;
 use dm_rows::Snapshot;
-use dm_tree::Plan;
 use std::alloc::{AllocError, Global};
 
 /// A feed that grows, and what it was answered.
@@ -37,7 +37,7 @@ impl<T: Growing + Drop> Watched<T> {
 
     /// Reads the next bytes of the feed, which has this number, and answers its lines that end, up to so many due ones. `Err` is
     /// want of memory alone, and leaves desk and feed at any point.
-    pub fn answer<D: Desk, P: Fn(&Snapshot, u64) -> Result<Plan, AllocError>>(
+    pub fn answer<D: Desk, P: Fn(&Snapshot, Search) -> Result<AnyPlan, AllocError>>(
         &mut self,
         alloc: Global,
         desk: &mut D,
@@ -61,7 +61,7 @@ impl<T: Growing + Drop> Watched<T> {
     }
 
     // Answers lines that are pending.
-    fn answer_pending<D: Desk, P: Fn(&Snapshot, u64) -> Result<Plan, AllocError>>(
+    fn answer_pending<D: Desk, P: Fn(&Snapshot, Search) -> Result<AnyPlan, AllocError>>(
         &mut self,
         alloc: Global,
         desk: &mut D,

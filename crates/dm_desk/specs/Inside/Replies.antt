@@ -1,18 +1,26 @@
 -- What the answer to one line does.
+use Rattle.std.specs.Borrow.{Bor}
 use Rattle.std.specs.Prelude.{ℕ, ◌≡◌, ◌+◌, ◌≤◌, ◌∷◌, [], List, length, count_by, Option, None, IfSome}
 use Rattle.dm_feed.specs.declared.grammar.Heard.{Heard}
 use Rattle.dm_feed.specs.declared.grammar.Heard.TheVariants.{Blank, Line as Spoken, Malformed as Unheard}
 use Rattle.dm_feed.specs.declared.grammar.Line.{Line}
+use Rattle.dm_feed.specs.declared.grammar.Line.TheVariants.{Plan as AskPlan, Solve as AskSolve}
 use Rattle.dm_feed.specs.DueItems.{item}
 use Rattle.dm_feed.specs.Lines.{IsSpelledLine}
-use Rattle.dm_tree.specs.declared.plans.Plan.{Plan}
-use Rattle.dm_tree.specs.Plans.{whole_task, IsTruePlan}
+use Rattle.dm_rows.specs.declared.messages.Decision.{Decision}
+use Rattle.dm_rows.specs.declared.rows.Snapshot.{Snapshot}
+use Rattle.dm_tree.specs.declared.adopting.Chosen.{Chosen}
+use Rattle.dm_tree.specs.Plans.{chosen}
+use Rattle.dm_parts.specs.declared.kinds.AnyPlan.{AnyPlan}
 use Rattle.dm_cert.specs.declared.replies.LogItem.{LogItem}
 use Rattle.dm_cert.specs.declared.replies.Reply.{Reply}
-use Rattle.dm_cert.specs.Answers.{rows_after, is_plan, plan_after, latest_plan, IsTrueReply, IsTrueAnswer}
+use Rattle.dm_cert.specs.Answers.{is_plan, plan_after, latest_plan, IsTrueReply, IsTrueAnswer}
 use Rattle.dm_cert.specs.Logs.{kind_of, kind_of_reply, is_entered, names, due_of}
 use Rattle.dm_cert.specs.RunTexts.{IsSpelledReply, IsSpelledItem}
-use Rattle.dm_desk.specs.Desks.{DeskValue, GoesOn, Looks, IsTrueOf}
+use Rattle.dm_desk.specs.Desks.{DeskValue, GoesOn, IsCopied, IsAdoptable}
+use Rattle.dm_desk.specs.declared.searches.Search.{Search}
+use Rattle.dm_desk.specs.declared.searches.Search.TheVariants.{Plan as ForPlan, Solve as ForParts}
+use Rattle.dm_desk.specs.Planning.{FindsFor}
 use Rattle.dm_desk.specs.Answered.{IsBetween, times}
 
 -- a due line, whose messages are no adopted list
@@ -40,17 +48,26 @@ pub record AnswersLine (before now : DeskValue) (feed line : ℕ) (items : List 
 
 -- ---- plans
 
--- the plan that an item is
-abbrev pub plan_in : LogItem → Option Plan
+-- what an adoption takes of the plan that an item is
+abbrev pub plan_in : LogItem → Option Chosen
 plan_in answered = plan_after None answered
 
--- the plans of a feed are as many as it may have at most, and the latest is true of what is seen
+-- an entry and choices that are lent
+abbrev pub lent : ℕ × Bor (List Decision) → Chosen
+lent p = chosen p.0 p.1.now
+
+-- the plans of a feed are as many as it may have at most, and the latest may be adopted for what is seen
 pub record HasPlans (desk : DeskValue) (items : List LogItem) : Type 0 where
   pub few : count_by is_plan items ≤ desk.setting.plans
-  pub latest : IfSome (latest_plan items) (IsTrueOf desk)
+  pub latest : IfSome (latest_plan items) (IsAdoptable desk)
 
--- a true plan of the rows after all that is seen now, of so many nodes at most
-pub record IsPresentPlan (before now : DeskValue) (budget : ℕ) (plan : Plan) : Type 0 where
-  pub looks : Looks before now
-  pub here : plan.entry ≡ length now.seen
-  pub is_true : IsTruePlan (whole_task now.setting.net (rows_after now.setting now.seen plan.entry) now.setting.penalty budget) plan
+-- the line that asks for it
+abbrev pub asks : Search → Line
+asks (ForPlan budget) = AskPlan budget
+asks (ForParts budget) = AskSolve budget
+
+-- rows equal to those after all that is seen now were copied, and this plan was found for them
+pub record IsFoundFor (before now : DeskValue) (search : Search) (plan : AnyPlan) : Type 0 where
+  pub snapshot : Snapshot
+  pub copied : IsCopied before now snapshot
+  pub finds : FindsFor now.setting.net now.setting.penalty snapshot search plan

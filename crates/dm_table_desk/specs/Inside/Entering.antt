@@ -8,8 +8,8 @@ use Rattle.dm_rows.specs.History.{rows_at, IsLegal}
 use Rattle.dm_rows.specs.Refuse.{Refuses}
 use Rattle.dm_rows.specs.Rows.{RowsValue}
 use Rattle.dm_table.specs.Value.{TableValue}
-use Rattle.dm_tree.specs.declared.plans.Plan.{Plan}
-use Rattle.dm_tree.specs.Plans.{whole_task, IsTruePlan}
+use Rattle.dm_tree.specs.declared.adopting.Chosen.{Chosen}
+use Rattle.dm_tree.specs.Plans.{MayBeAdopted}
 use Rattle.dm_table_desk.specs.Tables.{desk_of}
 
 -- one entry more, with this number, and the history is legal; the day is the same
@@ -33,8 +33,7 @@ rows_now table = rows_at table.network table.start table.history (length table.h
 abbrev pub IsRefusedAfter : TableValue → Message → Refusal → Type 0
 IsRefusedAfter table m why = (why ≡ OutOfMemory) ⊎ Refuses table.network (rows_now table) (length table.history) m why
 
--- for some budget the plan is true of the rows after as many entries as it names, which the history has
-pub record IsTrueAt (table : TableValue) (plan : Plan) : Type 0 where
-  pub budget : ℕ
+-- the choices of a plan may be adopted for the rows after as many entries as it names, which the history has
+pub record IsAdoptableAt (table : TableValue) (plan : Chosen) : Type 0 where
   pub within : plan.entry ≤ length table.history
-  pub is_true : IsTruePlan (whole_task table.network (rows_at table.network table.start table.history plan.entry) table.penalty budget) plan
+  pub may : MayBeAdopted table.network (rows_at table.network table.start table.history plan.entry) plan.choices
