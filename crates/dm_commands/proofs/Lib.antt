@@ -6,7 +6,9 @@ pub mod Closing
 pub mod Generated
 pub mod Judging
 pub mod Converse
+pub mod Found
 pub mod Opened
+pub mod Optimal
 pub mod Printed
 pub mod Putting
 pub mod Questions

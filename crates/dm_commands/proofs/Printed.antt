@@ -3,7 +3,8 @@ use Rattle.std.proofs.Common.{◌≡◌, ℕ, ◌≤◌, inl, inr, List, [], len
 use Rattle.std.specs.Prelude.{IfSome}
 use Rattle.std.proofs.lemmas.Option.{slice_get_within, slice_get-get_or}
 use Rattle.dm_network.specs.Net.{Net}
-use Rattle.dm_rows.specs.Rows.{RowsValue}
+use Rattle.dm_network.specs.Start.{IsNetwork}
+use Rattle.dm_rows.specs.Rows.{RowsValue, IsSized}
 use Rattle.dm_rows.specs.Cost.{cost_of}
 use Rattle.dm_rows.specs.Timetable.{IsLeast}
 use Rattle.dm_input.specs.Input.{Told, IsHeld, Opening, OpeningAnswer}
@@ -22,6 +23,7 @@ use Rattle.dm_commands.specs.Headline.{IsRunOf}
 use Rattle.dm_crew.specs.AtOnce.{table_desk, AnswersDay}
 use Rattle.dm_crew.proofs.Days.{each_once}
 use Rattle.dm_commands.specs.Inside.Stages.{IsOpenedAs, IsOpened, AreOpened, AreWithin, run_in}
+use Rattle.dm_commands.proofs.Optimal.{optimal_is_least, knows_logs}
 
 -- ---- one run
 
@@ -80,11 +82,13 @@ module _ {S : Type 0} (left : S → Option (List ℕ)) (source_sound : S → Typ
 
   -- ---- its text
 
-  pub is_run_of : (told : Told) (is_sound : List ℕ → Type 0) (end_boards : Option Run → Type 0) (words : List (List ℕ)) (asked : RunAsked) (opening : Opening) → Asks words (RunOf asked) → AreWithin asked → OpeningAnswer told asked.files (Ok opening) → opening.net ≡ net → opening.rows ≡ rows → price ≡ asked.files.penalty → plans ≡ asked.files.plans
+  pub is_run_of : (told : Told) (is_sound : List ℕ → Type 0) (end_boards : Option Run → Type 0) (words : List (List ℕ)) (asked : RunAsked) (opening : Opening) → Asks words (RunOf asked) → AreWithin asked → IsNetwork net → OpeningAnswer told asked.files (Ok opening) → opening.net ≡ net → opening.rows ≡ rows → price ≡ asked.files.penalty → plans ≡ asked.files.plans
       → batch ≡ asked.batch → AreOpened left source_sound told is_sound asked.feeds feeds → FitsRun (run_in table logs notes) → AreTrueNotes (length table.history) notes → end_boards (Some (run_in table logs notes)) → (status : Status) → status ≡ status_of logs → IsRunOf told is_sound end_boards words status (run_text 2 (run_in table logs notes))
-  is_run_of told is_sound end_boards words asked opening asks within opens is_net is_rows is_price is_plans is_batch opened fits noted boards status is_status =
+  is_run_of told is_sound end_boards words asked opening asks within network opens is_net is_rows is_price is_plans is_batch opened fits noted boards status is_status =
       let of = logs_of_names told is_sound asked.feeds opened in
       let start : table.start ≡ opening.rows = r.start ∙ sym is_rows in
+      let is_true : IsTrueRun 2 asked.files.plans opening.rows (run_in table logs notes) =
+      subst (λ (n : ℕ). IsTrueRun 2 n opening.rows (run_in table logs notes)) is_plans (subst (λ (x : RowsValue). IsTrueRun 2 plans x (run_in table logs notes)) start (run_is_true noted (omega (arith, of.as_many, within.some_feed)) (omega (arith, of.as_many, within.few_feeds)))) in
       record {
         asked = asked;
         is_asked = asks;
@@ -99,9 +103,13 @@ module _ {S : Type 0} (left : S → Option (List ℕ)) (source_sound : S → Typ
         has_status = is_status;
         is_text = record {
           is_version = inr refl;
-          is_true = subst (λ (n : ℕ). IsTrueRun 2 n opening.rows (run_in table logs notes)) is_plans (subst (λ (x : RowsValue). IsTrueRun 2 plans x (run_in table logs notes)) start (run_is_true noted (omega (arith, of.as_many, within.some_feed)) (omega (arith, of.as_many, within.few_feeds))));
+          is_true = is_true;
           fits = fits;
           is_spelled = run_is_spelled;
+          known = knows_logs logs;
           spelled = refl;
         };
+        optimal =
+            optimal_is_least asked.files.plans opening.rows (run_in table logs notes) (subst IsNetwork (sym r.network) network)
+            (subst (IsSized table.network) start r.is_table.sized) is_true;
       }

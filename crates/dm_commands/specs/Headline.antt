@@ -7,10 +7,12 @@ use Rattle.dm_cert.specs.RunTexts.{Run}
 use Rattle.dm_cert.specs.Runs.{IsTextOf}
 use Rattle.dm_commands.specs.declared.status.Status.{Status}
 use Rattle.dm_commands.specs.Feeds.{AreLogsOf, status_of}
+use Rattle.dm_commands.specs.Optimal.{OptimalIsLeast}
 
 -- The text is that of a true run, in version 2: of the network and the start rows that the words and the bytes under their
 -- names determine, at the penalty of the words, with a log for each feed, which may have as many plans as the words say. The
--- logs keep to rounds of the words' batch, the status is theirs, and the boards end as those of the run.
+-- logs keep to rounds of the words' batch, the status is theirs, and the boards end as those of the run. No choices for a plan's
+-- entry cost less than a plan of either kind that is printed as optimal.
 pub record IsRunOf (told : Told) (is_sound : List ℕ → Type 0) (end_boards : Option Run → Type 0) (words : List (List ℕ))
     (status : Status) (text : List ℕ) : Type 0 where
   pub asked : RunAsked
@@ -25,3 +27,4 @@ pub record IsRunOf (told : Told) (is_sound : List ℕ → Type 0) (end_boards : 
   pub rounds : KeepsRounds run.logs asked.batch
   pub has_status : status ≡ status_of run.logs
   pub is_text : IsTextOf 2 asked.files.plans opening.rows run text
+  pub optimal : OptimalIsLeast opening.rows run

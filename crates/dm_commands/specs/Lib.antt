@@ -11,6 +11,7 @@ pub mod Travelled
 pub mod Windowed
 pub mod Answers
 pub mod Boards
+pub mod Optimal
 pub mod Headline
 pub mod Feeds
 pub mod Ends

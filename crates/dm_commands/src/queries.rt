@@ -16,19 +16,20 @@ use crate::journey::end_journeys;
 use crate::ruling::end_rules;
 use crate::status::Status;
 use crate::window::end_window;
+use dm_desk::Search;
 use dm_input::{Opened, read_opening};
 use dm_journal::{Journal, read_journal};
 use dm_network::Network;
 use dm_outside::{Shelf, Sink, TakeFault};
+use dm_parts::AnyPlan;
 use dm_rows::{Rows, Snapshot};
-use dm_tree::Plan;
 use dm_words::{Query, QueryWords};
 use std::alloc::{AllocError, Global};
 
 /// Reads the files that the words name, and then the text, whose journal is followed over the network and from the rows that they
 /// make, and answers what is asked of it.
 pub fn answer_query<
-    F: Fn(&Network, u64, &Snapshot, u64, u32) -> Result<Plan, AllocError>,
+    F: Fn(&Network, u64, &Snapshot, Search, u32) -> Result<AnyPlan, AllocError>,
     H: Shelf,
     K: Sink,
 >(alloc: Global, search: &F, words: &QueryWords<'_>, shelf: &mut H, out: &mut K) -> Status
@@ -49,7 +50,7 @@ pub fn answer_query<
 
 /// Reads a text and answers what the words ask of its journal, or says why that is not known.
 fn ask_text<
-    F: Fn(&Network, u64, &Snapshot, u64, u32) -> Result<Plan, AllocError>,
+    F: Fn(&Network, u64, &Snapshot, Search, u32) -> Result<AnyPlan, AllocError>,
     H: Shelf,
     K: Sink,
 >(
@@ -82,13 +83,10 @@ fn ask_text<
 }
 
 /// Answers what is asked of a journal, or says which of its lines is bad.
-fn answer_journal<F: Fn(&Network, u64, &Snapshot, u64, u32) -> Result<Plan, AllocError>, K: Sink>(
-    alloc: Global,
-    search: &F,
-    journal: &Journal<'_>,
-    query: &Query<'_>,
-    out: &mut K,
-) -> Status
+fn answer_journal<
+    F: Fn(&Network, u64, &Snapshot, Search, u32) -> Result<AnyPlan, AllocError>,
+    K: Sink,
+>(alloc: Global, search: &F, journal: &Journal<'_>, query: &Query<'_>, out: &mut K) -> Status
     requires searches { Searches (F.pre search.now) (F.post search.now) }
     requires within { IsWithinLimits query.now }
     ensures ends { (net : Net) (rows : RowsValue) (penalty : ℕ) (bytes : List ℕ) → IsJournal net rows penalty bytes journal.now

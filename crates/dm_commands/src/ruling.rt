@@ -9,24 +9,22 @@ ghost use Rattle.dm_commands.specs.Inside.Asking.{EndsCompared};
 ghost use Rattle.dm_commands.specs.Inside.Stages.{AreRulesWithin};
 
 use crate::status::Status;
+use dm_desk::Search;
 use dm_network::Network;
 use dm_outside::{Sink, WriteFault};
+use dm_parts::AnyPlan;
 use dm_rows::Snapshot;
 use dm_ruling::print_comparison;
 use dm_table::Table;
-use dm_tree::Plan;
 use dm_waitrule::{Comparison, WaitRule, compare};
 use dm_words::{RuleWord, RulesWords};
 use std::alloc::{AllocError, Global};
 
 /// Prints what a rule chooses after all entries, beside a plan.
-pub fn end_rules<F: Fn(&Network, u64, &Snapshot, u64, u32) -> Result<Plan, AllocError>, K: Sink>(
-    alloc: Global,
-    search: &F,
-    table: &Table<'_>,
-    asked: RulesWords,
-    out: &mut K,
-) -> Status
+pub fn end_rules<
+    F: Fn(&Network, u64, &Snapshot, Search, u32) -> Result<AnyPlan, AllocError>,
+    K: Sink,
+>(alloc: Global, search: &F, table: &Table<'_>, asked: RulesWords, out: &mut K) -> Status
     requires searches { Searches (F.pre search.now) (F.post search.now) }
     requires within { AreRulesWithin asked }
     ensures ends { EndsCompared K.taken K.faults asked table.now out.old out.new result }
@@ -40,7 +38,7 @@ pub fn end_rules<F: Fn(&Network, u64, &Snapshot, u64, u32) -> Result<Plan, Alloc
 }
 
 /// What a rule chooses after all entries, beside a plan.
-fn comparison_of<F: Fn(&Network, u64, &Snapshot, u64, u32) -> Result<Plan, AllocError>>(
+fn comparison_of<F: Fn(&Network, u64, &Snapshot, Search, u32) -> Result<AnyPlan, AllocError>>(
     alloc: Global,
     search: &F,
     table: &Table<'_>,
@@ -53,9 +51,18 @@ fn comparison_of<F: Fn(&Network, u64, &Snapshot, u64, u32) -> Result<Plan, Alloc
     table.reveal();
     let (net, penalty) = (table.network(), table.penalty());
     let snapshot = table.copy()?;
-    let plan = search(net, penalty, &snapshot, asked.budget, asked.workers)?;
+    let plan = search(
+        net,
+        penalty,
+        &snapshot,
+        Search::Plan(asked.budget),
+        asked.workers,
+    )?;
     let rule = rule_named(asked.rule);
-    compare(alloc, net, penalty, &snapshot, rule, plan)
+    match plan {
+        AnyPlan::Whole(plan) => compare(alloc, net, penalty, &snapshot, rule, plan),
+        AnyPlan::ByParts(_) => unreachable!(),
+    }
 }
 
 fn rule_named(word: RuleWord) -> WaitRule

@@ -9,7 +9,8 @@ ghost use Rattle.dm_input.specs.Stops.{IsKept};
 ghost use Rattle.dm_words.specs.Asked.{run_of};
 ghost use Rattle.dm_words.specs.Words.{Asks, RunOf};
 ghost use Rattle.dm_commands.specs.Ends.{Ends};
-ghost use Rattle.dm_commands.specs.Searching.{FindsPlan, MaySearch, Searches};
+ghost use Rattle.dm_desk.specs.Planning.{FindsFor};
+ghost use Rattle.dm_commands.specs.Searching.{MaySearch, Searches};
 ghost use Rattle.dm_commands.specs.Inside.Stages.{AreWithin, IsAtStart};
 
 use crate::ending::{BoardList, Ending};
@@ -19,12 +20,12 @@ use crate::means::CommandMeans;
 use crate::print::end_run;
 use crate::status::Status;
 use dm_crew::{AnsweredDay, Crew, answer_at_once};
-use dm_desk::HoldPoint;
+use dm_desk::{HoldPoint, Search};
 use dm_input::{Opened, read_opening};
 use dm_network::Network;
 use dm_outside::{Board, Shelf, Sink, Source};
+use dm_parts::AnyPlan;
 use dm_rows::{Rows, Snapshot};
-use dm_tree::Plan;
 use dm_words::RunWords;
 use std::alloc::AllocError;
 use std::sync::Wait;
@@ -33,7 +34,7 @@ use std::thread::Threads;
 /// Reads the files of a run, opens and answers its feeds, shows boards the times, and prints it.
 pub fn run_feeds<
     R: Threads + Wait + Sync,
-    F: Fn(&Network, u64, &Snapshot, u64, u32) -> Result<Plan, AllocError> + Sync,
+    F: Fn(&Network, u64, &Snapshot, Search, u32) -> Result<AnyPlan, AllocError> + Sync,
     G: HoldPoint + Sync,
     H: Shelf,
     K: Sink,
@@ -59,6 +60,7 @@ pub fn run_feeds<
         Err(stop) => return end_stopped(&run.files, &stop, out),
     };
     let Opened { net, rows } = opened;
+    net.reveal();
     let Ok(names) = names_of(means.alloc, run.feeds) else {
         return Status::NoMemory;
     };
@@ -78,7 +80,7 @@ pub fn run_feeds<
 pub fn answer_run<
     'n,
     R: Threads + Wait + Sync,
-    F: Fn(&Network, u64, &Snapshot, u64, u32) -> Result<Plan, AllocError> + Sync,
+    F: Fn(&Network, u64, &Snapshot, Search, u32) -> Result<AnyPlan, AllocError> + Sync,
     G: HoldPoint + Sync,
     S: Source + Send + Drop,
 >(
@@ -104,11 +106,11 @@ pub fn answer_run<
     net.reveal();
     let penalty = run.files.penalty;
     let workers = run.workers;
-    let planner = |snapshot: &Snapshot, budget: u64| -> Result<Plan, AllocError>
+    let planner = |snapshot: &Snapshot, asked: Search| -> Result<AnyPlan, AllocError>
         requires { Searches (F.pre means.now.search.now) (F.post means.now.search.now)
-            × MaySearch net.now penalty snapshot.now budget workers }
-        ensures { IfOk result (FindsPlan net.entry.now penalty snapshot.now budget) }
-    { (means.search)(net, penalty, snapshot, budget, workers) };
+            × MaySearch net.now penalty snapshot.now asked workers }
+        ensures { IfOk result (FindsFor net.entry.now penalty snapshot.now asked) }
+    { (means.search)(net, penalty, snapshot, asked, workers) };
     let crew = Crew {
         rt: means.rt,
         alloc: means.alloc,

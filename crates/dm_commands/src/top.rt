@@ -16,11 +16,11 @@ use crate::means::CommandMeans;
 use crate::queries::answer_query;
 use crate::run::run_feeds;
 use crate::status::Status;
-use dm_desk::HoldPoint;
+use dm_desk::{HoldPoint, Search};
 use dm_network::Network;
 use dm_outside::{Board, Shelf, Sink};
+use dm_parts::AnyPlan;
 use dm_rows::Snapshot;
-use dm_tree::Plan;
 use dm_words::{CommandWords, read_words};
 use std::alloc::AllocError;
 use std::sync::Wait;
@@ -30,7 +30,7 @@ use std::thread::Threads;
 /// what the means give.
 pub fn dispatch_with<
     R: Threads + Wait + Sync,
-    F: Fn(&Network, u64, &Snapshot, u64, u32) -> Result<Plan, AllocError> + Sync,
+    F: Fn(&Network, u64, &Snapshot, Search, u32) -> Result<AnyPlan, AllocError> + Sync,
     G: HoldPoint + Sync,
     H: Shelf,
     K: Sink,
@@ -59,7 +59,7 @@ pub fn dispatch_with<
 /// Does what a command asks.
 fn do_command<
     R: Threads + Wait + Sync,
-    F: Fn(&Network, u64, &Snapshot, u64, u32) -> Result<Plan, AllocError> + Sync,
+    F: Fn(&Network, u64, &Snapshot, Search, u32) -> Result<AnyPlan, AllocError> + Sync,
     G: HoldPoint + Sync,
     H: Shelf,
     K: Sink,

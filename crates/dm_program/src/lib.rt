@@ -1,6 +1,6 @@
 //! The top call: what the words of a command line ask for, from files and feeds to the text that is written.
 //!
-//! It stands on dm_commands for what each command does and for the definitions that its clauses name. It stands on dm_workers for
+//! It stands on dm_commands for what each command does and for the definitions that its clauses name. It stands on dm_find for
 //! the search of plans, which it hands to dm_commands. These files of dm_commands say what [`dispatch`] promises:
 //! `specs/Headline` what a run prints, `specs/Generated` what a generated day does, `specs/Checked` what is printed of a text
 //! that is checked, `specs/Answers` what is printed of what is asked of a journal, and `specs/Ends` why a call ends otherwise.
@@ -28,9 +28,9 @@
 //! - Each note has the stop of its place. It names a board whose count has risen and which was not sound for the network.
 //! - A call that ends without a run leaves all boards as they were, except at want of memory.
 //!
-//! A true log has only true plans. Each is a true plan of the rows at its entry, and one that is marked optimal is optimal by the
-//! law of dm_search. Where the shelf tells nothing, the claim is only that some bytes are there, not which. Where the sink tells
-//! nothing, nothing is claimed of what was written.
+//! A true log has only true plans and true plans by parts, each of the rows at its entry. No choices for that entry cost less than
+//! a plan of either kind that is marked optimal (`OptimalIsLeast`). Where the shelf tells nothing, the claim is only that some bytes
+//! are there, not which. Where the sink tells nothing, nothing is claimed of what was written.
 //!
 //! `IsVerdictFor`: the files under the names of the words are refused nowhere. The bytes of the text are those that the shelf
 //! tells under its name, where it tells them. The verdict of dm_check on these bytes, over the network and the start rows of the

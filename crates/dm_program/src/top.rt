@@ -13,15 +13,17 @@ ghost use Rattle.dm_check.specs.FalseRecords.{IsVerdict};
 ghost use Rattle.dm_commands.specs.Answers.{IsAnswerAt};
 ghost use Rattle.dm_commands.specs.Commands.{AsksAbout, AsksOver};
 ghost use Rattle.dm_commands.specs.Ends.{IsDue, Writes, FailsToWrite, WantsMemory, AsksNoRun, EndsAnswered, EndsAt, EndsTold, AreSound, AreShort, IsSoundFor};
-ghost use Rattle.dm_commands.specs.Searching.{FindsPlan, MaySearch};
+ghost use Rattle.dm_commands.specs.Searching.{MaySearch};
+ghost use Rattle.dm_desk.specs.Planning.{FindsFor};
 ghost use Rattle.dm_commands.specs.Verdicts.{verdict_line, verdict_status, long_text_line};
 
 use dm_commands::{BoardList, CommandMeans, Ending, Status, dispatch_with};
+use dm_desk::Search;
+use dm_find::find;
 use dm_network::Network;
 use dm_outside::{Board, Gate, Shelf, Sink};
+use dm_parts::AnyPlan;
 use dm_rows::Snapshot;
-use dm_tree::Plan;
-use dm_workers::search;
 use std::alloc::{AllocError, Global};
 use std::sync::Wait;
 use std::thread::Threads;
@@ -136,13 +138,13 @@ pub fn dispatch<R: Threads + Wait + Sync, H: Shelf, K: Sink, G: Gate>(
     ensures later { K.faults out.old ≤ K.faults out.new }
     ensures boards_kept { map place boards.new.items ≡ map place boards.old.items }
 {
-    let search = |net: &Network, penalty: u64, snapshot: &Snapshot, budget: u64, workers: u32| -> Result<
-        Plan,
+    let search = |net: &Network, penalty: u64, snapshot: &Snapshot, asked: Search, workers: u32| -> Result<
+        AnyPlan,
         AllocError,
     >
-        requires { IsSync R.row × IsSync G.row × MaySearch net.now penalty snapshot.now budget workers }
-        ensures { IfOk result (FindsPlan net.now penalty snapshot.now budget) }
-    { search(rt, alloc, net, penalty, snapshot, budget, workers, gate) };
+        requires { IsSync R.row × IsSync G.row × MaySearch net.now penalty snapshot.now asked workers }
+        ensures { IfOk result (FindsFor net.now penalty snapshot.now asked) }
+    { find(rt, alloc, net, penalty, snapshot, asked, workers, gate) };
     dispatch_with(
         &CommandMeans {
             rt,

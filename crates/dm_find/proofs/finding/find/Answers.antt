@@ -1,0 +1,12 @@
+use Rattle.std.proofs.Common.{◌+◌, ◌^◌, ◌≤◌, length, subst}
+use Rattle.dm_rows.specs.Decide.{free_choices_of}
+use Rattle.dm_desk.specs.declared.searches.Search.{Search}
+use Rattle.dm_desk.specs.Planning.{budget_of}
+use Rattle.dm_find.proofs.Solving.{enough_nodes}
+use Rattle.dm_find.proofs.finding.find.Goals as goal
+
+pub returns-in-Ok-clause-enough : goal.returns-in-Ok-clause-enough
+returns-in-Ok-clause-enough g c = λ terms nodes.
+    let k = length (free_choices_of c.args.net.now c.args.snapshot.now.rows) in
+    enough_nodes c.args.net.now c.args.snapshot.now.rows c.args.penalty c.in-Plan.budget c.in-Ok.plan c.reveal.ensures.network c.requires.sized c.in-Ok.ensures.plan
+    (subst (λ (asked : Search). 2 ^ (k + 1) ≤ budget_of asked + 1) c.in-Plan.is nodes)

@@ -1,0 +1,95 @@
+//! A plan of the kind that was asked for.
+ghost use Rattle.std.specs.Prelude.{ℕ, ◌≡◌, ◌+◌, ◌^◌, ◌≤◌, length, IfOk};
+ghost use Rattle.dm_base.specs.declared.limits.TheConstants.{BUDGET, PENALTY, WORKERS};
+ghost use Rattle.dm_rows.specs.Active.{HasNoCycle};
+ghost use Rattle.dm_rows.specs.Cost.{Costs};
+ghost use Rattle.dm_rows.specs.Decide.{free_choices_of};
+ghost use Rattle.dm_rows.specs.Rows.{IsSized};
+ghost use Rattle.dm_tree.specs.declared.forms.Mark.TheVariants.{Optimal};
+ghost use Rattle.dm_parts.specs.Sizes.{most_ids};
+ghost use Rattle.dm_solve.specs.Terms.{terms_of};
+ghost use Rattle.dm_desk.specs.Planning.{budget_of, SolvesFor, FindsFor};
+ghost use Rattle.dm_find.specs.Found.{cost_of, mark_of};
+
+use dm_desk::{HoldPoint, Search};
+use dm_network::Network;
+use dm_parts::{AnyPlan, PlanByParts};
+use dm_rows::Snapshot;
+use dm_search::whole;
+use dm_solve::plan_by_parts;
+use dm_workers::search;
+use std::alloc::{AllocError, Global};
+use std::sync::Wait;
+use std::thread::Threads;
+
+/// A true plan of the kind that was asked for, of the rows of a snapshot, which have no cycle. It has the snapshot's entry and at
+/// most as many nodes as was asked for, of which there are 1 to 16,384, and is searched by 1 to 16 workers in threads of their own.
+/// The penalty is in seconds for each passenger, at most 1,000,000. The plan costs no more than the rows by themselves. It is optimal
+/// where the nodes are enough for a tree of all free choices, and a text has room for all terms of the network.
+pub fn find<R: Threads + Wait + Sync, H: HoldPoint + Sync>(
+    rt: &R,
+    alloc: Global,
+    net: &Network,
+    penalty: u64,
+    snapshot: &Snapshot,
+    asked: Search,
+    workers: u32,
+    gate: &H,
+) -> Result<AnyPlan, AllocError>
+    requires sized { IsSized net.now snapshot.now.rows }
+    requires no_cycle { HasNoCycle net.now snapshot.now.rows }
+    requires penalty { penalty ≤ PENALTY }
+    requires budget { (1 ≤ budget_of asked) × (budget_of asked ≤ BUDGET) }
+    requires workers { (1 ≤ workers) × (workers ≤ WORKERS) }
+    ensures finds { IfOk result (FindsFor net.now penalty snapshot.now asked) }
+    ensures no_dearer { IfOk result (λ plan. (own : ℕ) → Costs net.now snapshot.now.rows penalty own → cost_of plan ≤ own) }
+    ensures enough { terms_of net.now ≤ most_ids
+        → 2 ^ (length (free_choices_of net.now snapshot.now.rows) + 1) ≤ budget_of asked + 1
+        → IfOk result (λ plan. mark_of plan ≡ Optimal) }
+{
+    net.reveal();
+    match asked {
+        Search::Plan(budget) => {
+            match search(rt, alloc, net, penalty, snapshot, budget, workers, gate) {
+                Ok(plan) => Ok(AnyPlan::Whole(plan)),
+                Err(AllocError) => Err(AllocError),
+            }
+        }
+        Search::Solve(budget) => {
+            match solve(rt, alloc, net, penalty, snapshot, budget, workers, gate) {
+                Ok(plan) => Ok(AnyPlan::ByParts(plan)),
+                Err(AllocError) => Err(AllocError),
+            }
+        }
+    }
+}
+
+/// A true plan by parts, made of a plan that several workers search.
+fn solve<R: Threads + Wait + Sync, H: HoldPoint + Sync>(
+    rt: &R,
+    alloc: Global,
+    net: &Network,
+    penalty: u64,
+    snapshot: &Snapshot,
+    budget: u64,
+    workers: u32,
+    gate: &H,
+) -> Result<PlanByParts, AllocError>
+    requires sized { IsSized net.now snapshot.now.rows }
+    requires no_cycle { HasNoCycle net.now snapshot.now.rows }
+    requires penalty { penalty ≤ PENALTY }
+    requires budget { (1 ≤ budget) × (budget ≤ BUDGET) }
+    requires workers { (1 ≤ workers) × (workers ≤ WORKERS) }
+    ensures solves { IfOk result (SolvesFor net.now penalty snapshot.now budget) }
+    ensures no_dearer { IfOk result (λ plan. (own : ℕ) → Costs net.now snapshot.now.rows penalty own → plan.cost ≤ own) }
+    ensures enough { terms_of net.now ≤ most_ids → 2 ^ (length (free_choices_of net.now snapshot.now.rows) + 1) ≤ budget + 1
+        → IfOk result (λ plan. plan.mark ≡ Optimal) }
+{
+    let plan = match search(rt, alloc, net, penalty, snapshot, budget, workers, gate) {
+        Ok(plan) => plan,
+        Err(AllocError) => return Err(AllocError),
+    };
+    let rows = &snapshot.rows;
+    let task = whole(alloc, net, rows, penalty, budget);
+    plan_by_parts(&task, &plan)
+}
