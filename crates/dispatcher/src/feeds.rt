@@ -18,8 +18,10 @@ use std::{fs, io};
 /// How many reads lie between two looks at whether the server is to end.
 const READS_BETWEEN: u32 = 9;
 
-/// How a line begins that asks for a plan.
+/// How a line begins that asks for a plan, of one kind or the other.
 const PLAN: &[u8] = b"plan";
+
+const SOLVE: &[u8] = b"solve";
 
 /// A feed that says on the standard error why it is read no further. Once the server is told to end, it gives what stood in it at the
 /// start and one piece more, if that stands there by then: so the server comes to its end, however quickly others append. Where the
@@ -122,7 +124,7 @@ impl<'r, R: Clock + Eprint + Files<File = File>> LiveFeed<'r, R> {
         };
         let count = end.min(buf.len());
         buf[..count].copy_from_slice(&rest[..count]);
-        if count == 0 && rest.starts_with(PLAN) {
+        if count == 0 && asks(rest) {
             self.say_waits();
         }
         self.note(&buf[..count]);
@@ -135,7 +137,7 @@ impl<'r, R: Clock + Eprint + Files<File = File>> LiveFeed<'r, R> {
         ensures cause { Counts self.old.feed self.new.feed result }
     {
         let rest = self.held.get(self.given..).unwrap_or_default();
-        if rest.len() >= PLAN.len() {
+        if rest.len() >= SOLVE.len() {
             return Ok(());
         }
         let left = rest.len();
@@ -188,6 +190,16 @@ impl<'r, R: Clock + Eprint + Files<File = File>> LiveFeed<'r, R> {
     }
 }
 
+/// Whether a line that begins so asks for a plan of either kind.
+fn asks(line: &[u8]) -> bool {
+    line.starts_with(PLAN) || line.starts_with(SOLVE)
+}
+
+/// Whether it does, or may do so once more of it stands there.
+fn may_ask(line: &[u8]) -> bool {
+    asks(line) || PLAN.starts_with(line) || SOLVE.starts_with(line)
+}
+
 /// How many bytes stand before the first line that asks for a plan, or may do so once it ends.
 fn before_plan(bytes: &[u8], begins_line: bool) -> usize
     ensures { result ≤ length bytes.now }
@@ -195,7 +207,7 @@ fn before_plan(bytes: &[u8], begins_line: bool) -> usize
     let mut begins = begins_line;
     for (place, byte) in bytes.iter().enumerate() {
         let rest = &bytes[place..];
-        if begins && (rest.starts_with(PLAN) || PLAN.starts_with(rest)) {
+        if begins && may_ask(rest) {
             return place;
         }
         begins = *byte == b'\n';

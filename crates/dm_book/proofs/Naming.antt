@@ -8,14 +8,14 @@ use Rattle.dm_rows.specs.declared.messages.Entry.{Entry}
 use Rattle.dm_rows.specs.declared.messages.Message.TheVariants.{Adopt as AdoptAll}
 use Rattle.dm_feed.specs.declared.grammar.Line.{Line}
 use Rattle.dm_feed.specs.declared.grammar.Line.TheVariants as line
-use Rattle.dm_cert.specs.declared.replies.Reply.TheVariants.{Ok, Refused, Time, Cost, Read, Planned, Old, NoPlan, Plans, Range}
+use Rattle.dm_cert.specs.declared.replies.Reply.TheVariants.{Ok, Refused, Time, Cost, Read, Planned, Solved, Old, NoPlan, Plans, Range}
 use Rattle.dm_cert.specs.declared.replies.LogItem.{LogItem}
 use Rattle.dm_cert.specs.declared.replies.LogItem.TheVariants.{Malformed, Answered}
 use Rattle.dm_cert.specs.declared.replies.FeedLog.{FeedLog}
 use Rattle.dm_cert.specs.Answers.{Setting, IsEntry, IsTrueAnswer, IsTrueReply, latest_plan, IsAdopted}
 use Rattle.dm_cert.specs.Logs.{AreTrueAnswers, IsTrueLog, all_items, kind_of, names}
 use Rattle.dm_cert.proofs.Numbers.{count-cons, one_name}
-use Rattle.dm_tree.specs.declared.plans.Plan.{Plan}
+use Rattle.dm_tree.specs.declared.adopting.Chosen.{Chosen}
 
 -- both histories have the same entry of this number
 pub record IsSameEntry (n : ℕ) (one other : List Entry) : Type 0 where
@@ -23,7 +23,7 @@ pub record IsSameEntry (n : ℕ) (one other : List Entry) : Type 0 where
   pub here : IsEntry one n entry
   pub there : IsEntry other n entry
 
-adopted_same : (one other : List Entry) (feed at n : ℕ) (plan : Option Plan) → IsSomeAnd plan (λ p. IsAdopted one feed at n p) →
+adopted_same : (one other : List Entry) (feed at n : ℕ) (plan : Option Chosen) → IsSomeAnd plan (λ p. IsAdopted one feed at n p) →
     IsSomeAnd plan (λ p. IsAdopted other feed at n p) → IsSameEntry n one other
 adopted_same one other feed at n None p q = absurd p
 adopted_same one other feed at n (Some plan) p q = record { entry = record { feed = feed; line = at; message = AdoptAll plan.choices }; here = p.entry; there = q.entry }
@@ -36,6 +36,7 @@ ok_same s one other feed before at line.Adopt n p q = adopted_same one other fee
 ok_same s one other feed before at (line.Time event) n p q = absurd p
 ok_same s one other feed before at line.CostNow n p q = absurd p
 ok_same s one other feed before at (line.Plan budget) n p q = absurd p
+ok_same s one other feed before at (line.Solve budget) n p q = absurd p
 ok_same s one other feed before at line.Read n p q = absurd p
 
 no_name : false ≡ true → ⊥
@@ -53,6 +54,7 @@ item_same s one other feed n before (Answered at said (Time k x)) p q named = ab
 item_same s one other feed n before (Answered at said (Cost k x)) p q named = absurd (no_name named)
 item_same s one other feed n before (Answered at said (Read k)) p q named = absurd (no_name named)
 item_same s one other feed n before (Answered at said (Planned plan)) p q named = absurd (no_name named)
+item_same s one other feed n before (Answered at said (Solved plan)) p q named = absurd (no_name named)
 item_same s one other feed n before (Answered at said (Old k)) p q named = absurd (no_name named)
 item_same s one other feed n before (Answered at said NoPlan) p q named = absurd (no_name named)
 item_same s one other feed n before (Answered at said Plans) p q named = absurd (no_name named)

@@ -13,6 +13,7 @@ pub(crate) fn is_same_line(one: &Line, other: &Line) -> bool
         (Line::Time(e), Line::Time(f)) => e.0 == f.0,
         (Line::CostNow, Line::CostNow) => true,
         (Line::Plan(budget), Line::Plan(nodes)) => *budget == *nodes,
+        (Line::Solve(budget), Line::Solve(nodes)) => *budget == *nodes,
         (Line::Adopt, Line::Adopt) => true,
         (Line::Read, Line::Read) => true,
         _ => false,

@@ -14,7 +14,7 @@ use std::io;
 use std::rt::Files;
 
 /// The first words of lines, and the form of such a line.
-const FORMS: [(&str, &str); 12] = [
+const FORMS: [(&str, &str); 13] = [
     (
         "delay",
         "the form is `delay event E D` or `delay activity A D`",
@@ -29,6 +29,7 @@ const FORMS: [(&str, &str); 12] = [
     ("cost", "the form is `cost`"),
     ("read", "the form is `read`"),
     ("plan", "the form is `plan B`"),
+    ("solve", "the form is `solve B`"),
     ("adopt", "the form is `adopt`"),
 ];
 
@@ -206,7 +207,7 @@ fn form_of(line: &[u8]) -> &'static str {
             return *form;
         }
     }
-    "no line begins with this word: delay, pass, recall, keep, drop, first, now, time, cost, read, plan, adopt"
+    "no line begins with this word: delay, pass, recall, keep, drop, first, now, time, cost, read, plan, solve, adopt"
 }
 
 /// Says how many lines were refused for each reason.

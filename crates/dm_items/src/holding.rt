@@ -1,10 +1,21 @@
 //! Items that a journal can keep: their numbers are ones that types hold, and memory holds their lists.
 ghost use Rattle.std.specs.Prelude.{All};
+ghost use Rattle.dm_cert.specs.PlanLaws.{IsHeldSolved};
 ghost use Rattle.dm_records.specs.Laws.{IsHeldItem, IsHeldReply};
 ghost use Rattle.dm_items.specs.Holding.{IsHeldPart};
 
 use dm_cert::{LogItem, Reply};
+use dm_parts::{PlanByParts, nodes_in};
 use dm_report::items_fit;
+
+fn solution_is_held(plan: &PlanByParts)
+    ensures { IsHeldSolved plan.now }
+{
+    let _choices = plan.choices.as_slice().len();
+    let parts = plan.parts.as_slice();
+    let _parts = parts.len();
+    let _nodes = nodes_in(parts);
+}
 
 fn reply_is_held(reply: &Reply)
     ensures { IsHeldReply reply.now }
@@ -14,6 +25,7 @@ fn reply_is_held(reply: &Reply)
             let _choices = plan.choices.as_slice().len();
             let _nodes = plan.tree.as_slice().len();
         }
+        Reply::Solved(plan) => solution_is_held(plan),
         Reply::Ok(_) | Reply::Read(_) | Reply::Old(_) | Reply::Refused(_) => {}
         Reply::Time(_, _) | Reply::Cost(_, _) | Reply::Range(_) => {}
         Reply::NoPlan | Reply::Plans => {}

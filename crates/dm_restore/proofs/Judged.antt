@@ -23,6 +23,7 @@ use Rattle.dm_table_desk.specs.Tables.{setting_of}
 use Rattle.dm_book.specs.Books.{AreNone, AreRecorded, IsTrueBook, log_of}
 use Rattle.dm_restore.specs.Restoring.{IsRunIn}
 use Rattle.dm_restore.specs.Inside.Judging.{run_of}
+use Rattle.dm_restore.proofs.Known.{logs_known}
 
 module _ (plans : ℕ) (table : TableValue) (logs : List FeedLog) (is : IsTable table) (network : IsNetwork table.network) (limits : IsWithinLimits table.network) (spelled : All IsSpelledLog logs)
     (some : 1 ≤ length logs) (few : length logs ≤ 64) (held : All IsHeldLog logs) (fits : FitsRun (run_of table logs)) where
@@ -53,6 +54,7 @@ module _ (plans : ℕ) (table : TableValue) (logs : List FeedLog) (is : IsTable 
       };
       fits = fits;
       is_spelled = record { logs = spelled; times = is.least.meets.size };
+      known = logs_known logs;
       spelled = refl;
     };
   }

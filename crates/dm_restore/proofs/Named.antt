@@ -22,8 +22,8 @@ use Rattle.dm_rows.specs.Resolve.{after}
 use Rattle.dm_rows.specs.Refuse.{Refuses}
 use Rattle.dm_feed.specs.declared.grammar.Line.{Line}
 use Rattle.dm_feed.specs.declared.grammar.Line.TheVariants as line
-use Rattle.dm_tree.specs.declared.plans.Plan.{Plan}
-use Rattle.dm_cert.specs.declared.replies.Reply.TheVariants.{Ok, Refused, Time, Cost, Read, Planned, Old, NoPlan, Plans, Range}
+use Rattle.dm_tree.specs.declared.adopting.Chosen.{Chosen}
+use Rattle.dm_cert.specs.declared.replies.Reply.TheVariants.{Ok, Refused, Time, Cost, Read, Planned, Solved, Old, NoPlan, Plans, Range}
 use Rattle.dm_cert.specs.declared.replies.LogItem.{LogItem}
 use Rattle.dm_cert.specs.declared.replies.LogItem.TheVariants.{Malformed, Answered}
 use Rattle.dm_cert.specs.declared.replies.FeedLog.{FeedLog}
@@ -34,7 +34,7 @@ use Rattle.dm_cert.proofs.ListsOfLogs.{get_set_same, get_set_other}
 use Rattle.dm_desk.specs.Desks.{Enters, RefusesEntry}
 use Rattle.dm_table.specs.Value.{TableValue}
 use Rattle.dm_table_desk.specs.Tables.{setting_of, desk_of}
-use Rattle.dm_restore.specs.Inside.Entering.{entry_of_reply, entry_in, IsAt, HasAt, KeepsEntries, HasPutOne, HasPut, Agrees, Notes, AreEntries, EntersAll}
+use Rattle.dm_restore.specs.Inside.Entering.{choices_in, choices_after, entry_of_reply, entry_in, IsAt, HasAt, KeepsEntries, HasPutOne, HasPut, Agrees, Notes, AreEntries, EntersAll}
 
 -- ---- one item
 
@@ -47,19 +47,20 @@ of_some history m n one other is e =
     let parts = some_pair_parts m n one other e in
     subst (λ (k : ℕ). IsEntry history k other) parts.0 (subst (λ (x : Entry). IsEntry history m x) parts.1 is)
 
-adopted_true : (history : List Entry) (feed at m n : ℕ) (entry : Entry) (plan : Option Plan) → IsSomeAnd plan (λ p. IsAdopted history feed at m p) →
-    option_map {U = ℕ × Entry} (λ message. (m, record { feed = feed; line = at; message = message })) (option_map (λ p. AdoptAll p.choices) plan) ≡ Some (n, entry) → IsEntry history n entry
+adopted_true : (history : List Entry) (feed at m n : ℕ) (entry : Entry) (plan : Option Chosen) → IsSomeAnd plan (λ p. IsAdopted history feed at m p) →
+    option_map {U = ℕ × Entry} (λ message. (m, record { feed = feed; line = at; message = message })) (option_map (λ choices. AdoptAll choices) (choices_in plan)) ≡ Some (n, entry) → IsEntry history n entry
 adopted_true history feed at m n entry None is e = absurd is
 adopted_true history feed at m n entry (Some plan) is e =
     of_some history m n (record { feed = feed; line = at; message = AdoptAll plan.choices }) entry is.entry e
 
 ok_true : (s : Setting) (history : List Entry) (feed : ℕ) (before : List LogItem) (at : ℕ) (said : Line) (m n : ℕ) (entry : Entry) →
-    IsTrueReply s history feed before at said (Ok m) → entry_of_reply feed (latest_plan before) at said (Ok m) ≡ Some (n, entry) → IsEntry history n entry
+    IsTrueReply s history feed before at said (Ok m) → entry_of_reply feed (choices_in (latest_plan before)) at said (Ok m) ≡ Some (n, entry) → IsEntry history n entry
 ok_true s history feed before at (line.Say message) m n entry is e = of_some history m n (record { feed = feed; line = at; message = message }) entry is e
 ok_true s history feed before at line.Adopt m n entry is e = adopted_true history feed at m n entry (latest_plan before) is e
 ok_true s history feed before at (line.Time event) m n entry is e = absurd is
 ok_true s history feed before at line.CostNow m n entry is e = absurd is
 ok_true s history feed before at (line.Plan budget) m n entry is e = absurd is
+ok_true s history feed before at (line.Solve budget) m n entry is e = absurd is
 ok_true s history feed before at line.Read m n entry is e = absurd is
 
 no_entry : (n : ℕ) (entry : Entry) → ◌≡◌ {A = Option (ℕ × Entry)} None (Some (n, entry)) → ⊥
@@ -67,7 +68,7 @@ no_entry n entry e = none-some (n, entry) e
 
 -- of an item that is true of a history, the entry is that of the history
 pub entry_true : (s : Setting) (history : List Entry) (feed : ℕ) (before : List LogItem) (answered : LogItem) (n : ℕ) (entry : Entry) →
-    IsTrueAnswer s history feed before answered → entry_in feed (latest_plan before) answered ≡ Some (n, entry) → IsEntry history n entry
+    IsTrueAnswer s history feed before answered → entry_in feed (choices_in (latest_plan before)) answered ≡ Some (n, entry) → IsEntry history n entry
 entry_true s history feed before (Malformed at) n entry is e = absurd (no_entry n entry e)
 entry_true s history feed before (Answered at said (Ok m)) n entry is e = ok_true s history feed before at said m n entry is e
 entry_true s history feed before (Answered at said (Refused r)) n entry is e = absurd (no_entry n entry e)
@@ -75,23 +76,25 @@ entry_true s history feed before (Answered at said (Time k x)) n entry is e = ab
 entry_true s history feed before (Answered at said (Cost k x)) n entry is e = absurd (no_entry n entry e)
 entry_true s history feed before (Answered at said (Read k)) n entry is e = absurd (no_entry n entry e)
 entry_true s history feed before (Answered at said (Planned plan)) n entry is e = absurd (no_entry n entry e)
+entry_true s history feed before (Answered at said (Solved plan)) n entry is e = absurd (no_entry n entry e)
 entry_true s history feed before (Answered at said (Old k)) n entry is e = absurd (no_entry n entry e)
 entry_true s history feed before (Answered at said NoPlan) n entry is e = absurd (no_entry n entry e)
 entry_true s history feed before (Answered at said Plans) n entry is e = absurd (no_entry n entry e)
 entry_true s history feed before (Answered at said (Range v)) n entry is e = absurd (no_entry n entry e)
 
-adopted_named : (history : List Entry) (feed at m : ℕ) (plan : Option Plan) → IsSomeAnd plan (λ p. IsAdopted history feed at m p) →
-    Named m (option_map {U = ℕ × Entry} (λ message. (m, record { feed = feed; line = at; message = message })) (option_map (λ p. AdoptAll p.choices) plan))
+adopted_named : (history : List Entry) (feed at m : ℕ) (plan : Option Chosen) → IsSomeAnd plan (λ p. IsAdopted history feed at m p) →
+    Named m (option_map {U = ℕ × Entry} (λ message. (m, record { feed = feed; line = at; message = message })) (option_map (λ choices. AdoptAll choices) (choices_in plan)))
 adopted_named history feed at m None is = absurd is
 adopted_named history feed at m (Some plan) is = (record { feed = feed; line = at; message = AdoptAll plan.choices }, refl)
 
 ok_named : (s : Setting) (history : List Entry) (feed : ℕ) (before : List LogItem) (at : ℕ) (said : Line) (m : ℕ) →
-    IsTrueReply s history feed before at said (Ok m) → Named m (entry_of_reply feed (latest_plan before) at said (Ok m))
+    IsTrueReply s history feed before at said (Ok m) → Named m (entry_of_reply feed (choices_in (latest_plan before)) at said (Ok m))
 ok_named s history feed before at (line.Say message) m is = (record { feed = feed; line = at; message = message }, refl)
 ok_named s history feed before at line.Adopt m is = adopted_named history feed at m (latest_plan before) is
 ok_named s history feed before at (line.Time event) m is = absurd is
 ok_named s history feed before at line.CostNow m is = absurd is
 ok_named s history feed before at (line.Plan budget) m is = absurd is
+ok_named s history feed before at (line.Solve budget) m is = absurd is
 ok_named s history feed before at line.Read m is = absurd is
 
 no_name : false ≡ true → ⊥
@@ -99,16 +102,17 @@ no_name e = cc
 
 -- of a true item that names an entry there is one
 entry_named : (s : Setting) (history : List Entry) (feed n : ℕ) (before : List LogItem) (answered : LogItem) →
-    IsTrueAnswer s history feed before answered → names n answered ≡ true → Named n (entry_in feed (latest_plan before) answered)
+    IsTrueAnswer s history feed before answered → names n answered ≡ true → Named n (entry_in feed (choices_in (latest_plan before)) answered)
 entry_named s history feed n before (Malformed at) is named = absurd (no_name named)
 entry_named s history feed n before (Answered at said (Ok m)) is named =
     let same : m ≡ n = eqb-true m n named in
-    subst (λ (k : ℕ). Named k (entry_of_reply feed (latest_plan before) at said (Ok m))) same (ok_named s history feed before at said m is)
+    subst (λ (k : ℕ). Named k (entry_of_reply feed (choices_in (latest_plan before)) at said (Ok m))) same (ok_named s history feed before at said m is)
 entry_named s history feed n before (Answered at said (Refused r)) is named = absurd (no_name named)
 entry_named s history feed n before (Answered at said (Time k x)) is named = absurd (no_name named)
 entry_named s history feed n before (Answered at said (Cost k x)) is named = absurd (no_name named)
 entry_named s history feed n before (Answered at said (Read k)) is named = absurd (no_name named)
 entry_named s history feed n before (Answered at said (Planned plan)) is named = absurd (no_name named)
+entry_named s history feed n before (Answered at said (Solved plan)) is named = absurd (no_name named)
 entry_named s history feed n before (Answered at said (Old k)) is named = absurd (no_name named)
 entry_named s history feed n before (Answered at said NoPlan) is named = absurd (no_name named)
 entry_named s history feed n before (Answered at said Plans) is named = absurd (no_name named)
@@ -127,7 +131,7 @@ module _ (s : Setting) (history : List Entry) (feed : ℕ) (before : List LogIte
       let one : one_name n (kind_of answered) ≡ 0 = ap (λ (b : Bool). cond b 1 0) none in
       omega (arith, count_push n before answered, one, some)
 
-  with_none : entry_in feed (latest_plan before) answered ≡ None → now ≡ old → Notes history (before ++ answered ∷ []) first now
+  with_none : entry_in feed (choices_in (latest_plan before)) answered ≡ None → now ≡ old → Notes history (before ++ answered ∷ []) first now
   with_none none same = subst (λ (xs : List (Option Entry)). Notes history (before ++ answered ∷ []) first xs) (sym same) (record {
     agrees = so_far.agrees;
     kept = so_far.kept;
@@ -139,7 +143,7 @@ module _ (s : Setting) (history : List Entry) (feed : ℕ) (before : List LogIte
     ];
   })
 
-  with_one : (number : ℕ) (entry : Entry) → entry_in feed (latest_plan before) answered ≡ Some (number, entry) → HasPutOne old now number entry → Notes history (before ++ answered ∷ []) first now
+  with_one : (number : ℕ) (entry : Entry) → entry_in feed (choices_in (latest_plan before)) answered ≡ Some (number, entry) → HasPutOne old now number entry → Notes history (before ++ answered ∷ []) first now
   with_one number entry here put =
       let stands = entry_true s history feed before answered number entry is here in
       record {
@@ -160,12 +164,12 @@ module _ (s : Setting) (history : List Entry) (feed : ℕ) (before : List LogIte
         ];
       }
 
-  noted_as : (o : Option (ℕ × Entry)) → entry_in feed (latest_plan before) answered ≡ o → HasPut old now o → Notes history (before ++ answered ∷ []) first now
+  noted_as : (o : Option (ℕ × Entry)) → entry_in feed (choices_in (latest_plan before)) answered ≡ o → HasPut old now o → Notes history (before ++ answered ∷ []) first now
   noted_as None e put = with_none e put
   noted_as (Some (number, entry)) e put = with_one number entry e put
 
-  pub one_noted : HasPut old now (entry_in feed (latest_plan before) answered) → Notes history (before ++ answered ∷ []) first now
-  one_noted put = noted_as (entry_in feed (latest_plan before) answered) refl put
+  pub one_noted : HasPut old now (entry_in feed (choices_in (latest_plan before)) answered) → Notes history (before ++ answered ∷ []) first now
+  one_noted put = noted_as (entry_in feed (choices_in (latest_plan before)) answered) refl put
 
 -- an item of a true log is true, where those before it are the feed's items
 pub true_there : (s : Setting) (history : List Entry) (feed : ℕ) (before items : List LogItem) (i : ℕ) (x : LogItem) → AreTrueAnswers s history feed before items →
@@ -182,6 +186,21 @@ taken_more items i x low is = ap (λ (y : LogItem). take i items ++ y ∷ []) is
 
 pub latest_more : (items : List LogItem) (i : ℕ) (x : LogItem) → i < length items → x ≡ get_or items i x → plan_after (latest_plan (take i items)) x ≡ latest_plan (take (i + 1) items)
 latest_more items i x low is = sym (fold_push plan_after None (take i items) x) ∙ ap latest_plan (taken_more items i x low is)
+
+-- the choices of the latest plan, item by item
+pub choices_follow : (latest : Option Chosen) (x : LogItem) → choices_after (choices_in latest) x ≡ choices_in (plan_after latest x)
+choices_follow latest (Malformed at) = refl
+choices_follow latest (Answered at said (Ok m)) = refl
+choices_follow latest (Answered at said (Refused r)) = refl
+choices_follow latest (Answered at said (Time k x)) = refl
+choices_follow latest (Answered at said (Cost k x)) = refl
+choices_follow latest (Answered at said (Read k)) = refl
+choices_follow latest (Answered at said (Planned plan)) = refl
+choices_follow latest (Answered at said (Solved plan)) = refl
+choices_follow latest (Answered at said (Old k)) = refl
+choices_follow latest (Answered at said NoPlan) = refl
+choices_follow latest (Answered at said Plans) = refl
+choices_follow latest (Answered at said (Range v)) = refl
 
 -- ---- the logs
 

@@ -2,11 +2,11 @@
 ghost use Rattle.std.specs.Prelude.{◌≡◌, ◌-◌, ◌<◌, ◌≤◌, ◌^◌, false, [], List, length, IfOk, OnOk, Some};
 ghost use Rattle.std.specs.Option.{option_copied};
 ghost use Rattle.dm_rows.specs.declared.messages.Entry.{Entry as AnEntry};
-ghost use Rattle.dm_cert.specs.Answers.{Setting, plan_after};
+ghost use Rattle.dm_cert.specs.Answers.{Setting};
 ghost use Rattle.dm_cert.specs.Logs.{AreTrueAnswers, AreTrueLogs};
 ghost use Rattle.dm_rows.specs.History.{IsLegal};
 ghost use Rattle.dm_table_desk.specs.Tables.{setting_of};
-ghost use Rattle.dm_restore.specs.Inside.Entering.{message_in, entry_in, HasPut, KeepsEntries, Notes, Agrees, AreEntries, EntersAll};
+ghost use Rattle.dm_restore.specs.Inside.Entering.{message_in, entry_in, choices_after, HasPut, KeepsEntries, Notes, Agrees, AreEntries, EntersAll};
 
 use dm_base::Items;
 use dm_base::limits::ENTRIES;
@@ -15,7 +15,6 @@ use dm_desk::Desk;
 use dm_feed::Line;
 use dm_rows::{Decision, Entry, Message, Refusal};
 use dm_table_desk::TableDesk;
-use dm_tree::Plan;
 use std::alloc::{AllocError, Global};
 
 /// The entries of logs, each at the place before its number. Where no item names an entry of this number there is none.
@@ -45,17 +44,17 @@ fn note_log(
     let mut latest = None;
     for item in items {
         note_item(alloc, entries, feed, latest, item)?;
-        latest = later_plan(latest, item);
+        latest = later_choices(latest, item);
     }
     Ok(())
 }
 
-/// Puts the entry that an item names, if it does, at its place. Before it this was the feed's latest plan.
+/// Puts the entry that an item names, if it does, at its place. Before it these were the choices of the feed's latest plan.
 fn note_item(
     alloc: Global,
     entries: &mut Vec<Option<Entry>>,
     feed: u32,
-    latest: Option<&Plan>,
+    latest: Option<&Items<Decision>>,
     item: &LogItem,
 ) -> Result<(), AllocError>
     ensures { OnOk result (HasPut entries.old.items entries.new.items (entry_in feed (option_copied latest.entry) item.now)) }
@@ -66,24 +65,32 @@ fn note_item(
     put_entry(entries, number, entry)
 }
 
-/// The latest plan behind an item, where before it this was the latest.
-fn later_plan<'p>(latest: Option<&'p Plan>, item: &'p LogItem) -> Option<&'p Plan>
-    ensures { option_copied result ≡ plan_after (option_copied latest.entry) item.now }
+/// The choices of the latest plan behind an item, where before it these were those of the latest.
+fn later_choices<'p>(
+    latest: Option<&'p Items<Decision>>,
+    item: &'p LogItem,
+) -> Option<&'p Items<Decision>>
+    ensures { option_copied result ≡ choices_after (option_copied latest.entry) item.now }
 {
     match item {
         LogItem::Answered {
             reply: Reply::Planned(plan),
             ..
-        } => Some(plan),
+        } => Some(&plan.choices),
+        LogItem::Answered {
+            reply: Reply::Solved(plan),
+            ..
+        } => Some(&plan.choices),
         _ => latest,
     }
 }
 
-/// The entry that an item names, with its number. Before it this was the feed's latest plan. `Err` is want of memory alone.
+/// The entry that an item names, with its number. Before it these were the choices of the feed's latest plan. `Err` is want of
+/// memory alone.
 fn entry_in(
     alloc: Global,
     feed: u32,
-    latest: Option<&Plan>,
+    latest: Option<&Items<Decision>>,
     item: &LogItem,
 ) -> Result<Option<(u32, Entry)>, AllocError>
     ensures { IfOk result (λ found. found ≡ entry_in feed (option_copied latest.entry) item.now) }
@@ -110,7 +117,7 @@ fn entry_in(
 /// The message that a line enters, where it is one that does.
 fn message_in(
     alloc: Global,
-    latest: Option<&Plan>,
+    latest: Option<&Items<Decision>>,
     said: &Line,
 ) -> Result<Option<Message>, AllocError>
     ensures { IfOk result (λ message. message ≡ message_in (option_copied latest.entry) said.now) }
@@ -118,13 +125,13 @@ fn message_in(
     match said {
         Line::Say(message) => Ok(Some(copy_of(alloc, message)?)),
         Line::Adopt => match latest {
-            Some(plan) => {
-                let choices = decisions(alloc, plan.choices.as_slice())?;
+            Some(choices) => {
+                let choices = decisions(alloc, choices.as_slice())?;
                 Ok(Some(Message::Adopt(choices)))
             }
             None => Ok(None),
         },
-        Line::Time(_) | Line::CostNow | Line::Plan(_) | Line::Read => Ok(None),
+        Line::Time(_) | Line::CostNow | Line::Plan(_) | Line::Solve(_) | Line::Read => Ok(None),
     }
 }
 

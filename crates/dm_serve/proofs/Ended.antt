@@ -1,5 +1,5 @@
 -- The end of a day: a round stopped it, or its run was printed.
-use Rattle.std.proofs.Common.{◌≡◌, ◌≢◌, ℕ, ◌≤◌, ◌<◌, ◌^◌, inl, inr, List, length, map, Option, Result, Ok, Err, refl, sym, subst, ◌∙◌, arith}
+use Rattle.std.proofs.Common.{◌≡◌, ◌≢◌, ℕ, ◌≤◌, ◌<◌, ◌^◌, inl, inr, List, length, map, Option, Result, refl, sym, subst, ◌∙◌, arith}
 use Rattle.std.specs.Prelude.{IfOk, codes}
 use Rattle.std.specs.Borrow.{Bor}
 use Rattle.std.specs.declared.alloc.AllocError.{AllocError}
@@ -7,9 +7,9 @@ use Rattle.dm_base.specs.declared.limits.TheConstants.{BUDGET, FEEDS}
 use Rattle.dm_rows.specs.Active.{HasNoCycle}
 use Rattle.dm_rows.specs.Rows.{IsSized}
 use Rattle.dm_rows.specs.declared.rows.Snapshot.{Snapshot}
-use Rattle.dm_tree.specs.declared.plans.Plan.{Plan}
-use Rattle.dm_tree.specs.Plans.{IsTruePlan, whole_task}
-use Rattle.dm_desk.specs.Planning.{PlansFor, PlansUnder}
+use Rattle.dm_parts.specs.declared.kinds.AnyPlan.{AnyPlan}
+use Rattle.dm_desk.specs.declared.searches.Search.{Search}
+use Rattle.dm_desk.specs.Planning.{FindsFor, PlansUnder, budget_of}
 use Rattle.dm_network.specs.Net.{Net}
 use Rattle.dm_cert.specs.declared.notes.Note.{Note}
 use Rattle.dm_cert.specs.Answers.{Setting}
@@ -96,26 +96,21 @@ module _ {K : Type 0} (taken : K → Option (List ℕ)) (faults : K → ℕ) (be
 
 -- ---- the planner of a server
 
-plans_for : (net : Net) (penalty : ℕ) (setting : Setting) → setting.net ≡ net → setting.penalty ≡ penalty → (snapshot : Snapshot) (budget : ℕ) (given : Result Plan AllocError)
-    → IfOk given (λ plan. (plan.entry ≡ snapshot.entry) × IsTruePlan (whole_task net snapshot.rows penalty budget) plan) → IfOk given (PlansFor setting snapshot budget)
-plans_for net penalty setting same_net same_penalty snapshot budget (Err e) h = tt
-plans_for net penalty setting same_net same_penalty snapshot budget (Ok plan) h = record {
-  entry = h.0;
-  is_true =
-      subst (λ (n : Net). IsTruePlan (whole_task n snapshot.rows setting.penalty budget) plan) (sym same_net)
-      (subst (λ (p : ℕ). IsTruePlan (whole_task net snapshot.rows p budget) plan) (sym same_penalty) h.1);
-}
+plans_for : (net : Net) (penalty : ℕ) (setting : Setting) → setting.net ≡ net → setting.penalty ≡ penalty → (snapshot : Snapshot) (asked : Search) (given : Result AnyPlan AllocError)
+    → IfOk given (FindsFor net penalty snapshot asked) → IfOk given (FindsFor setting.net setting.penalty snapshot asked)
+plans_for net penalty setting same_net same_penalty snapshot asked given h =
+    subst (λ (n : Net). IfOk given (FindsFor n setting.penalty snapshot asked)) (sym same_net)
+    (subst (λ (p : ℕ). IfOk given (FindsFor net p snapshot asked)) (sym same_penalty) h)
 
 -- a planner for a network and a penalty is one for what answers go by
-pub plans_under : (pre : Bor Snapshot → ℕ → Type 0) (post : Bor Snapshot → ℕ → Result Plan AllocError → Type 0) (net : Net) (penalty : ℕ) (setting : Setting) → setting.net ≡ net → setting.penalty ≡ penalty → setting.version ≡ 2
-    → ((snapshot : Bor Snapshot) (budget : ℕ) → IsSized net snapshot.now.rows → HasNoCycle net snapshot.now.rows → 1 ≤ budget → budget ≤ BUDGET → pre snapshot budget)
-    → ((snapshot : Bor Snapshot) (budget : ℕ) (given : Result Plan AllocError) → post snapshot budget given
-    → IfOk given (λ plan. (plan.entry ≡ snapshot.now.entry) × IsTruePlan (whole_task net snapshot.now.rows penalty budget) plan))
+pub plans_under : (pre : Bor Snapshot → Search → Type 0) (post : Bor Snapshot → Search → Result AnyPlan AllocError → Type 0) (net : Net) (penalty : ℕ) (setting : Setting) → setting.net ≡ net → setting.penalty ≡ penalty → setting.version ≡ 2
+    → ((snapshot : Bor Snapshot) (asked : Search) → IsSized net snapshot.now.rows → HasNoCycle net snapshot.now.rows → 1 ≤ budget_of asked → budget_of asked ≤ BUDGET → pre snapshot asked)
+    → ((snapshot : Bor Snapshot) (asked : Search) (given : Result AnyPlan AllocError) → post snapshot asked given → IfOk given (FindsFor net penalty snapshot.now asked))
     → PlansUnder pre post setting
 plans_under pre post net penalty setting same_net same_penalty version may gives = record {
-  may_ask = λ snapshot budget sized no_cycle some few.
-      may snapshot budget (subst (λ (n : Net). IsSized n snapshot.now.rows) same_net sized) (subst (λ (n : Net). HasNoCycle n snapshot.now.rows) same_net no_cycle) some few;
-  gives = λ snapshot budget given plans. plans_for net penalty setting same_net same_penalty snapshot.now budget given (gives snapshot budget given plans);
+  may_ask = λ snapshot asked sized no_cycle some few.
+      may snapshot asked (subst (λ (n : Net). IsSized n snapshot.now.rows) same_net sized) (subst (λ (n : Net). HasNoCycle n snapshot.now.rows) same_net no_cycle) some few;
+  gives = λ snapshot asked given plans. plans_for net penalty setting same_net same_penalty snapshot.now asked given (gives snapshot asked given plans);
   version = version;
 }
 

@@ -32,6 +32,7 @@ use Rattle.dm_tail.proofs.Sources.{answers_whole}
 use Rattle.dm_serve.specs.Served.{GoesOnFrom, IsDayOf}
 use Rattle.dm_serve.specs.Inside.Stages.{HasGone, HasGoneSince, IsGoing, log_in, tail_in}
 use Rattle.dm_store_text.specs.Written.{run_in}
+use Rattle.dm_restore.proofs.Known.{logs_known}
 
 -- ---- logs with their stops
 
@@ -114,7 +115,7 @@ module _ {T : Type 0} (given : T → Option (List ℕ)) (s : Setting) (n : ℕ) 
       net = ap (λ (x : Setting). x.net) going.setting;
       penalty = ap (λ (x : Setting). x.penalty) going.setting;
       is_text = subst (λ (x : Setting). IsTextOf 2 x.plans x.start (run_in table logs notes) (run_text 2 (run_in table logs notes))) going.setting
-          (record { is_version = inr refl; is_true = true_run is noted some few; fits = fits; is_spelled = spelled is; spelled = refl });
+          (record { is_version = inr refl; is_true = true_run is noted some few; fits = fits; is_spelled = spelled is; known = logs_known logs; spelled = refl });
       boards = boards;
       as_many = length-map watch.feeds.items log_in ∙ going.as_many;
       as_many_tails = ap length are ∙ (length-map watch.feeds.items tail_in ∙ going.as_many);

@@ -12,12 +12,13 @@ ghost use Rattle.dm_serve.specs.Lives.{LivesOn};
 ghost use Rattle.dm_serve.specs.Inside.Stages.{GoesOver, HasGone, IsGoing, StopsGoing};
 
 use crate::pace::Pace;
+use dm_desk::Search;
 use dm_display::Display;
 use dm_outside::Board;
+use dm_parts::AnyPlan;
 use dm_rows::Snapshot;
 use dm_store::{Journal, Store};
 use dm_tail::Growing;
-use dm_tree::Plan;
 use dm_watch::{RoundStop, Watch};
 use std::alloc::AllocError;
 use std::sync::Wait;
@@ -30,7 +31,7 @@ pub fn go_round<
     T: Growing + Drop,
     S: Store,
     W: Pace,
-    P: Fn(&Snapshot, u64) -> Result<Plan, AllocError>,
+    P: Fn(&Snapshot, Search) -> Result<AnyPlan, AllocError>,
 >(
     rt: &R,
     watch: Watch<'n, T>,
@@ -79,7 +80,12 @@ pub fn go_round<
 }
 
 /// One round, after which boards are shown the times.
-fn go_once<'n, T: Growing + Drop, S: Store, P: Fn(&Snapshot, u64) -> Result<Plan, AllocError>>(
+fn go_once<
+    'n,
+    T: Growing + Drop,
+    S: Store,
+    P: Fn(&Snapshot, Search) -> Result<AnyPlan, AllocError>,
+>(
     watch: Watch<'n, T>,
     journal: &mut Journal<S>,
     planner: &P,

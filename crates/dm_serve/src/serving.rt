@@ -5,7 +5,7 @@ ghost use Rattle.std.specs.Thread.{IsSync};
 ghost use Rattle.dm_base.specs.declared.limits.TheConstants.{BOARDS, BUDGET, PENALTY, WORKERS};
 ghost use Rattle.dm_rows.specs.Active.{HasNoCycle};
 ghost use Rattle.dm_rows.specs.Rows.{IsSized};
-ghost use Rattle.dm_tree.specs.Plans.{whole_task, IsTruePlan};
+ghost use Rattle.dm_desk.specs.Planning.{FindsFor, budget_of};
 ghost use Rattle.dm_cert.specs.RunTexts.{IsSpelledLog};
 ghost use Rattle.dm_input.specs.Stops.{IsKept};
 ghost use Rattle.dm_words.specs.ServerAsked.{server_of};
@@ -29,20 +29,20 @@ use crate::going::go_round;
 use crate::opening::watched_of;
 use crate::pace::Pace;
 use crate::starting::{catch_up_all, read_back, take_up};
-use dm_desk::HoldPoint;
+use dm_desk::{HoldPoint, Search};
 use dm_display::Display;
+use dm_find::find;
 use dm_input::{Opened, read_opening};
 use dm_network::Network;
 use dm_outside::{Board, Shelf, Sink};
+use dm_parts::AnyPlan;
 use dm_restore::{Head, Restored};
 use dm_rows::{Rows, Snapshot};
 use dm_store::{Journal, Store};
 use dm_store_text::{Status, end_files};
 use dm_tail::{Growing, PIECE, Watched};
-use dm_tree::Plan;
 use dm_watch::Watch;
 use dm_words::ServeWords;
-use dm_workers::search;
 use std::alloc::{AllocError, Global};
 use std::sync::Wait;
 use std::thread::Threads;
@@ -436,19 +436,18 @@ fn serve_watch<
     };
     let penalty = serving.words.run.files.penalty;
     let workers = serving.words.run.workers;
-    let planner = |snapshot: &Snapshot, budget: u64| -> Result<Plan, AllocError>
-        requires { IsSync R.row × IsSync G.row × (penalty ≤ PENALTY) × (1 ≤ workers) × (workers ≤ WORKERS) × (1 ≤ budget)
-            × (budget ≤ BUDGET) × IsSized net.now snapshot.now.rows × HasNoCycle net.now snapshot.now.rows }
-        ensures { IfOk result (λ plan. (plan.entry ≡ snapshot.now.entry)
-            × IsTruePlan (whole_task net.entry.now snapshot.now.rows penalty budget) plan) }
+    let planner = |snapshot: &Snapshot, asked: Search| -> Result<AnyPlan, AllocError>
+        requires { IsSync R.row × IsSync G.row × (penalty ≤ PENALTY) × (1 ≤ workers) × (workers ≤ WORKERS) × (1 ≤ budget_of asked)
+            × (budget_of asked ≤ BUDGET) × IsSized net.now snapshot.now.rows × HasNoCycle net.now snapshot.now.rows }
+        ensures { IfOk result (FindsFor net.entry.now penalty snapshot.now asked) }
     {
-        search(
+        find(
             serving.means.rt,
             serving.means.alloc,
             net,
             penalty,
             snapshot,
-            budget,
+            asked,
             workers,
             serving.means.gate,
         )

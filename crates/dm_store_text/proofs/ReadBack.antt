@@ -17,6 +17,7 @@ use Rattle.dm_book.specs.Books.{Book, IsTrueBook, log_of}
 use Rattle.dm_restore.specs.Restoring.{IsRestored}
 use Rattle.dm_store_text.specs.Texts.{IsTextIn, items_of}
 use Rattle.dm_store_text.specs.Written.{run_in}
+use Rattle.dm_restore.proofs.Known.{logs_known}
 
 no_notes : (entries : ℕ) → AreTrueNotes entries []
 no_notes entries = record {
@@ -61,5 +62,5 @@ module _ (s : Setting) (feeds : ℕ) (plans : ℕ) (table : TableValue) (logs : 
       restored = restored;
       whole = whole;
       is_text = subst (λ (t : Setting). IsTextOf 2 t.plans t.start (run_in table logs []) (run_text 2 (run_in table logs []))) same
-          (record { is_version = inr refl; is_true = true_run; fits = fits; is_spelled = spelled all; spelled = refl });
+          (record { is_version = inr refl; is_true = true_run; fits = fits; is_spelled = spelled all; known = logs_known logs; spelled = refl });
     }

@@ -10,19 +10,23 @@ use Rattle.dm_feed.specs.declared.grammar.Line.{Line}
 use Rattle.dm_feed.specs.Parts.{largest_id, Fits}
 use Rattle.dm_feed.specs.Lines.{spelling_of_line, parts_of_line}
 use Rattle.dm_tree.specs.declared.plans.Plan.{Plan}
+use Rattle.dm_parts.specs.declared.parts.PlanByParts.{PlanByParts}
+use Rattle.dm_cert.specs.declared.solved_lines.SolvedHeading.{SolvedHeading}
 use Rattle.dm_cert.specs.declared.plan_lines.Heading.{Heading}
 use Rattle.dm_cert.specs.declared.replies.Reply.{Reply}
 use Rattle.dm_cert.specs.declared.replies.Reply.TheVariants as reply
-use Rattle.dm_cert.specs.declared.replies.Reply.TheVariants.{Planned}
+use Rattle.dm_cert.specs.declared.replies.Reply.TheVariants.{Planned, Solved}
 use Rattle.dm_cert.specs.declared.replies.LogItem.{LogItem}
 use Rattle.dm_cert.specs.declared.replies.LogItem.TheVariants.{Malformed, Answered}
 use Rattle.dm_cert.specs.PlanTexts.{line_end, largest_cost, spelling_of_plan}
+use Rattle.dm_cert.specs.SolvedTexts.{spelling_of_solved}
+use Rattle.dm_cert.specs.SolvedRead.{solved_heading_text}
 use Rattle.dm_cert.specs.RunTexts.{feed_text, item_text, reply_text, reason_text, spaced_id}
 use Rattle.dm_cert.proofs.HeadingsRead.{front_text}
 use Rattle.dm_cert.proofs.LineFeeds.{NoFeed, has_no_feed, no_feed_append, no_feed_decimal}
 use Rattle.dm_cert.proofs.SpelledPlans.{HasLine}
-use Rattle.dm_records.specs.RunLines.{LogOpening, PlanOpening, lone, IsOpeningLine, IsItemLine, IsFormedReason, IsFormedReply, IsFormedSaid, opening_text}
-use Rattle.dm_records.proofs.ItemsRead.{said_body, malformed_text}
+use Rattle.dm_records.specs.RunLines.{LogOpening, PlanOpening, SolvedOpening, lone, IsOpeningLine, IsItemLine, IsFormedReason, IsFormedReply, IsFormedSaid, opening_text, solved_opening_text}
+use Rattle.dm_records.proofs.ItemsRead.{said_body, malformed_text, known_in_second, formed_is_known}
 use Rattle.dm_records.proofs.LinesSpelled.{number_then}
 use Rattle.dm_records.proofs.Splitting.{parts_no_feed}
 
@@ -99,6 +103,7 @@ reply_line version (reply.Range b) formed = record {
   is = ended (codes "range ") (decimal b);
   one_line = no_feed_append (codes "range ") (decimal b) refl (no_feed_decimal b (omega (arith, formed)));
 }
+reply_line version (reply.Solved plan) formed = absurd formed
 
 -- ---- items of one line
 
@@ -110,7 +115,7 @@ malformed_line version n low = record {
   line = decimal n ++ codes " malformed";
   text_is = malformed_text version n;
   one_line = has_no_feed (decimal n ++ codes " malformed") (number_then n (codes " malformed") (omega arith) refl);
-  spelled = (malformed_text version n, low);
+  spelled = (malformed_text version n, low, tt);
 }
 
 said_no_feed : (n : ℕ) (said : Line) (tail : List ℕ) → n ≤ largest_id → All Fits (parts_of_line said) → NoFeed tail → NoFeed (said_body n said tail)
@@ -127,15 +132,15 @@ unfolding item_text
 answered_is version n said r body is =
     ap (λ xs. decimal n ++ (codes " " ++ (spelling_of_line said ++ (codes " -> " ++ xs)))) (append-nil (reply_text version r) ∙ is) ∙ sym (simp append_assoc)
 
-pub answered_line : (version n : ℕ) (said : Line) (r : Reply) → n ≤ largest_id → IsFormedSaid said → IsFormedReply r → ItemHasLine version (Answered n said r)
-answered_line version n said r low formed reply =
+pub answered_line : (version n : ℕ) (said : Line) (r : Reply) → version ≡ 2 → n ≤ largest_id → IsFormedSaid said → IsFormedReply r → ItemHasLine version (Answered n said r)
+answered_line version n said r second low formed reply =
     let line = reply_line version r reply in
     let is = answered_is version n said r line.body line.is in
     record {
       line = said_body n said line.body;
       text_is = is;
       one_line = has_no_feed (said_body n said line.body) (said_no_feed n said line.body low formed.fits line.one_line);
-      spelled = (is, (low, formed, reply));
+      spelled = (is, (low, formed, reply), (known_in_second version said second, formed_is_known version r reply));
     }
 
 -- ---- the first line of a plan
@@ -175,6 +180,32 @@ front_no_feed line said entry low fits at =
     let b : NoFeed told = no_feed_append (codes " -> ") number refl a in
     let c : NoFeed spoken = no_feed_append (spelling_of_line said) told (parts_no_feed (parts_of_line said) fits) b in
     number_then line (codes " " ++ spoken) (omega (arith, low)) (no_feed_append (codes " ") spoken refl c)
+
+-- ---- the first line of a plan by parts
+
+pub solution_is : (line : ℕ) (said : Line) (plan : PlanByParts) (rest : List ℕ) →
+    item_text 2 (Answered line said (Solved plan)) ++ rest ≡ front_of line said plan.entry ++ (spelling_of_solved plan ++ rest)
+unfolding item_text reply_text
+solution_is line said plan rest = front_joined (decimal line) (spelling_of_line said) (decimal plan.entry) (spelling_of_solved plan) rest
+
+abbrev pub solved_opening_at : ℕ → Line → ℕ → SolvedHeading → SolvedOpening
+solved_opening_at line said entry h =
+    record {
+      line = line;
+      said = said;
+      entry = entry;
+      mark = h.mark;
+      cost = h.cost;
+      bound = h.bound;
+      choices = h.choices;
+      parts = h.parts;
+      nodes = h.nodes;
+    }
+
+pub solved_opening_is : (line : ℕ) (said : Line) (entry : ℕ) (h : SolvedHeading) →
+    solved_opening_text (solved_opening_at line said entry h) ++ line_end ≡ front_of line said entry ++ solved_heading_text h
+unfolding solved_heading_text
+solved_opening_is line said entry h = simp (append_assoc, append-nil)
 
 -- ---- how many items follow
 

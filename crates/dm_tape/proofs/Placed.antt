@@ -1,12 +1,17 @@
 -- The line that a fault names begins somewhere in the bytes.
-use Rattle.std.proofs.Common.{◌≡◌, ℕ, zero, suc, ◌+◌, ◌-◌, inl, inr, List, [], ◌∷◌, ◌++◌, length, Result, Ok, Err, refl, sym, ap, subst, ◌∙◌, arith}
+use Rattle.std.proofs.Common.{◌≡◌, ℕ, zero, suc, ◌+◌, ◌-◌, inl, inr, Bool, true, false, eqb, List, [], ◌∷◌, ◌++◌, length, codes, Result, Ok, Err, refl, sym, ap, subst, ◌∙◌, arith}
+use Rattle.std.specs.Prelude.{MatchBool}
 use Rattle.dm_text.specs.Places.{Place, at_start}
 use Rattle.dm_text.specs.Judging.{Line, Then, Times, Gives}
 use Rattle.dm_cert.specs.declared.faults.CertFault.{CertFault}
 use Rattle.dm_cert.specs.declared.faults.CertKind.{CertKind}
 use Rattle.dm_cert.specs.declared.faults.CertKind.TheVariants.{Form, Truncated, NotATree, OutOfMemory}
 use Rattle.dm_cert.specs.PlansRead.{IsChoiceLine, IsNodeLine, TellsChoices, TellsNodes, TellsTree, cut_line, misshapen_line, no_tree}
-use Rattle.dm_records.specs.RunLines.{ItemLine, lone, planned}
+use Rattle.dm_cert.specs.declared.solved_lines.SolvedHeading.{SolvedHeading}
+use Rattle.dm_cert.specs.declared.solved_lines.PartHeading.{PartHeading}
+use Rattle.dm_parts.specs.Sizes.{nodes_of, ids_of, most_ids}
+use Rattle.dm_cert.specs.SolvedRead.{IsPartHeadingLine, IsIdsLine, IsPartNodeLine, IsRestLine, share_of, part_of, solved_of, TellsIds, TellsShare, TellsPart as TellsOfPart, TellsPartNodes, TellsParts, TellsSolvedBehind}
+use Rattle.dm_records.specs.RunLines.{ItemLine, lone, planned, solved, heading_of, solved_item}
 use Rattle.dm_tape.specs.Told.{IsFirstLine, IsFeedLine, TellsNodesOf, TellsBehind, TellsItem, TellsItems, TellsPart, TellsRound, FindsFault, fault_at, fault_of, plan_item}
 use Rattle.dm_tape.specs.Begins.{LeadTo, BeginsAt, IsPlaced}
 use Rattle.dm_tape.specs.declared.faults.RoundFault.{RoundFault}
@@ -78,11 +83,49 @@ module _ (start : Place) where
       subst (IsReached start) (sym told.then.1) after
   tree_keeps first size f here (Err fault) r told = subst (λ (g : CertFault). LineIsReached start g.line) (sym told.2) (tree_fault first size here told.0 f r told.1)
 
+  -- ids that are none have no line
+  ids_keep_at : (word : List ℕ) (count : ℕ) (b : Bool) (here : Place) (answer : Result (List ℕ × Place) CertFault) → IsReached start here →
+      MatchBool b (Gives [] here answer) (Line cut_line misshapen_line (IsIdsLine word count) here answer) → Reaches start answer
+  ids_keep_at word count true here answer r told = gives_keeps [] here answer r told
+  ids_keep_at word count false here answer r told = line_keeps (IsIdsLine word count) here answer r told
+
+  ids_keep : (word : List ℕ) (count : ℕ) → Keeps start (TellsIds word count)
+  ids_keep word count here answer r told = ids_keep_at word count (eqb count 0) here answer r told
+
+  share_keeps : (h : PartHeading) → Keeps start (TellsShare h)
+  share_keeps h =
+      then_keeps (TellsIds (codes "events") h.arrivals) (λ arrivals. Then (TellsIds (codes "changes") h.changes) (λ changes. Gives (share_of arrivals changes))) (ids_keep (codes "events") h.arrivals)
+      (λ arrivals. then_keeps (TellsIds (codes "changes") h.changes) (λ changes. Gives (share_of arrivals changes)) (ids_keep (codes "changes") h.changes)
+      (λ changes. gives_keeps (share_of arrivals changes)))
+
+  part_nodes_keep : (count : ℕ) → Keeps start (TellsPartNodes count)
+  part_nodes_keep count = times_keeps (λ before. Line cut_line misshapen_line IsPartNodeLine) (λ before. line_keeps IsPartNodeLine) count []
+
+  of_part_keeps : (parts nodes ids : ℕ) → Keeps start (TellsOfPart parts nodes ids)
+  of_part_keeps parts nodes ids =
+      then_keeps (Line cut_line misshapen_line (IsPartHeadingLine parts nodes ids)) (λ h. Then (TellsShare h) (λ share. Then (TellsPartNodes h.nodes) (λ tree. Gives (part_of h share tree))))
+      (line_keeps (IsPartHeadingLine parts nodes ids))
+      (λ h. then_keeps (TellsShare h) (λ share. Then (TellsPartNodes h.nodes) (λ tree. Gives (part_of h share tree))) (share_keeps h)
+      (λ share. then_keeps (TellsPartNodes h.nodes) (λ tree. Gives (part_of h share tree)) (part_nodes_keep h.nodes) (λ tree. gives_keeps (part_of h share tree))))
+
+  all_parts_keep : (h : SolvedHeading) → Keeps start (TellsParts h)
+  all_parts_keep h =
+      times_keeps (λ before. TellsOfPart (h.parts - length before) (h.nodes - nodes_of before) (most_ids - ids_of before))
+      (λ before. of_part_keeps (h.parts - length before) (h.nodes - nodes_of before) (most_ids - ids_of before)) h.parts []
+
+  solved_keeps : (entry : ℕ) (h : SolvedHeading) → Keeps start (TellsSolvedBehind entry h)
+  solved_keeps entry h =
+      then_keeps (TellsChoices h.choices) (λ choices. Then (TellsParts h) (λ parts. Then (Line cut_line misshapen_line IsRestLine) (λ rest. Gives (solved_of entry h choices parts rest)))) (choices_keep h.choices)
+      (λ choices. then_keeps (TellsParts h) (λ parts. Then (Line cut_line misshapen_line IsRestLine) (λ rest. Gives (solved_of entry h choices parts rest))) (all_parts_keep h)
+      (λ parts. then_keeps (Line cut_line misshapen_line IsRestLine) (λ rest. Gives (solved_of entry h choices parts rest)) (line_keeps IsRestLine) (λ rest. gives_keeps (solved_of entry h choices parts rest))))
+
   behind_keeps : (first : ℕ) (line : ItemLine) → LineIsReached start first → Keeps start (TellsBehind first line)
   behind_keeps first (lone answered) f = gives_keeps answered
   behind_keeps first (planned o) f =
       then_keeps (TellsChoices o.choices) (λ choices. Then (TellsNodesOf first o.size) (λ nodes. Gives (plan_item o choices nodes))) (choices_keep o.choices)
       (λ choices. then_keeps (TellsNodesOf first o.size) (λ nodes. Gives (plan_item o choices nodes)) (tree_keeps first o.size f) (λ nodes. gives_keeps (plan_item o choices nodes)))
+  behind_keeps first (solved o) f =
+      then_keeps (TellsSolvedBehind o.entry (heading_of o)) (λ plan. Gives (solved_item o plan)) (solved_keeps o.entry (heading_of o)) (λ plan. gives_keeps (solved_item o plan))
 
   item_keeps : Keeps start TellsItem
   item_keeps here answer r told =

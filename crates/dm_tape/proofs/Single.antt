@@ -8,7 +8,9 @@ use Rattle.dm_cert.specs.PlansRead.{IsChoiceLine, IsNodeLine, ShowsNodes, TellsC
 use Rattle.dm_cert.specs.Inside.PlanLines.{Reads, choice_in, node_in}
 use Rattle.dm_cert.proofs.DecisionsRead.{reads_choice}
 use Rattle.dm_cert.proofs.NodesRead.{reads_node}
-use Rattle.dm_records.specs.RunLines.{LogOpening, ItemLine, lone, planned}
+use Rattle.dm_cert.specs.SolvedRead.{TellsSolvedBehind}
+use Rattle.dm_cert.proofs.SpelledSolved.{solved_behind_single}
+use Rattle.dm_records.specs.RunLines.{LogOpening, ItemLine, lone, planned, solved, heading_of, solved_item}
 use Rattle.dm_records.proofs.LinesOnce.{lines_spell_one}
 use Rattle.dm_tape.specs.Told.{IsFirstLine, IsFeedLine, TellsNodesOf, TellsBehind, TellsItem, TellsItems, TellsPart, TellsRound, fault_of, plan_item}
 
@@ -49,6 +51,8 @@ behind_one first (lone answered) = gives_one answered
 behind_one first (planned o) =
     then_one (TellsChoices o.choices) (λ choices. Then (TellsNodesOf first o.size) (λ nodes. Gives (plan_item o choices nodes))) (choices_one o.choices)
     (λ choices. then_one (TellsNodesOf first o.size) (λ nodes. Gives (plan_item o choices nodes)) (nodes_one first o.size) (λ nodes. gives_one (plan_item o choices nodes)))
+behind_one first (solved o) =
+    then_one (TellsSolvedBehind o.entry (heading_of o)) (λ plan. Gives (solved_item o plan)) (solved_behind_single o.entry (heading_of o)) (λ plan. gives_one (solved_item o plan))
 
 item_one : IsSingle TellsItem
 item_one place one other p q =

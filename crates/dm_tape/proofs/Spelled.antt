@@ -7,6 +7,7 @@ use Rattle.dm_text.specs.Judging.{Times, SpellsValue}
 use Rattle.dm_rows.specs.declared.messages.Refusal.{Refusal}
 use Rattle.dm_rows.specs.declared.messages.Refusal.TheVariants as refusal
 use Rattle.dm_tree.specs.declared.plans.Plan.{Plan}
+use Rattle.dm_parts.specs.declared.parts.PlanByParts.{PlanByParts}
 use Rattle.dm_cert.specs.declared.faults.CertFault.{CertFault}
 use Rattle.dm_cert.specs.declared.plan_lines.Heading.{Heading}
 use Rattle.dm_cert.specs.declared.replies.Reply.{Reply}
@@ -15,14 +16,17 @@ use Rattle.dm_cert.specs.declared.replies.LogItem.{LogItem}
 use Rattle.dm_cert.specs.declared.replies.LogItem.TheVariants.{Malformed, Answered}
 use Rattle.dm_cert.specs.PlanTexts.{line_end}
 use Rattle.dm_cert.specs.PlansRead.{IsHeadingLine, TellsPlan, plan_of}
+use Rattle.dm_cert.specs.SolvedTexts.{spelling_of_solved}
+use Rattle.dm_cert.specs.SolvedRead.{solved_heading_text}
 use Rattle.dm_cert.specs.RunTexts.{feed_text, item_text, FitsItem, IsSpelledReason, IsSpelledReply}
 use Rattle.dm_cert.proofs.HeadingsRead.{front_text, heading_spelled}
 use Rattle.dm_cert.proofs.LineFeeds.{has_no_feed, heading_no_feed}
+use Rattle.dm_cert.proofs.SolvedTold.{behind_first, SolvedBehindTold, solved_behind_told}
 use Rattle.dm_cert.proofs.ToldTexts.{line_told, plan_told}
-use Rattle.dm_records.specs.RunLines.{PlanOpening, ItemLine, lone, planned, IsFormedReason, IsFormedReply, IsFormedItem}
+use Rattle.dm_records.specs.RunLines.{PlanOpening, SolvedOpening, ItemLine, lone, planned, solved, heading_of, solved_item, solved_opening_text, IsFormedReason, IsFormedReply, IsFormedItem}
 use Rattle.dm_tape.specs.Rounds.{part_text, parts_text, round_text, NamesSome, ShowsSome, IsTapeItem, IsTapeRound}
 use Rattle.dm_tape.specs.Told.{IsFirstLine, IsFeedLine, TellsBehind, TellsItem, TellsPart, TellsRound}
-use Rattle.dm_tape.proofs.ItemLines.{front_of, item_is, opening_is, opening_same}
+use Rattle.dm_tape.proofs.ItemLines.{front_of, item_is, opening_is, solution_is, solved_opening_is, opening_same}
 
 -- ---- several values
 
@@ -100,6 +104,7 @@ spelled_reply (reply.Old n) formed = (tt, tt)
 spelled_reply reply.NoPlan formed = (tt, tt)
 spelled_reply reply.Plans formed = (tt, tt)
 spelled_reply (reply.Range b) formed = (tt, tt)
+spelled_reply (reply.Solved plan) formed = absurd formed
 
 -- ---- items
 
@@ -108,6 +113,19 @@ of_form (Malformed line) formed fits = record { spelled = tt; fits = fits; some 
 of_form (Answered line said r) formed fits =
     let shown = spelled_reply r formed.2 in
     record { spelled = (formed.1.spelled, shown.0); fits = fits; some = shown.1 }
+
+solved_same : (o : SolvedOpening) (plan : PlanByParts) (place next : Place) → SolvedBehindTold o.entry (heading_of o) plan place next →
+    item_text 2 (solved_item o plan) ++ next.left ≡ (solved_opening_text o ++ line_end) ++ (behind_first plan ++ next.left)
+solved_same o plan place next read =
+    let first : List ℕ = solved_heading_text (heading_of o) in
+    let front : List ℕ = front_of o.line o.said o.entry in
+    let behind : List ℕ = behind_first plan in
+    solution_is o.line o.said plan next.left
+    ∙ (ap (λ n. front_of o.line o.said n ++ (spelling_of_solved plan ++ next.left)) read.entry_is
+    ∙ (ap (λ xs. front ++ (xs ++ next.left)) read.whole
+    ∙ (ap (λ xs. front ++ xs) (append_assoc first behind next.left)
+    ∙ (sym (append_assoc front first (behind ++ next.left))
+    ∙ ap (λ xs. xs ++ (behind ++ next.left)) (sym (solved_opening_is o.line o.said o.entry (heading_of o)))))))
 
 module _ (place behind next : Place) (x : LogItem) where
   lone_stands : (a : LogItem) → SpellsValue IsFirstLine place (lone a) behind → TellsBehind place.line (lone a) behind (Ok (x, next)) → Stands (item_text 2) IsTapeItem x place next
@@ -151,9 +169,26 @@ module _ (place behind next : Place) (x : LogItem) where
         good = record { spelled = (formed.said.spelled, tt); fits = (formed.line, formed.said.fits, (formed.entry, stands.fits)); some = tt };
       })
 
+  solved_stands : (o : SolvedOpening) → SpellsValue IsFirstLine place (solved o) behind → TellsBehind place.line (solved o) behind (Ok (x, next)) → Stands (item_text 2) IsTapeItem x place next
+  solved_stands o told then =
+      let formed = told.spelled.is_line.1 in
+      let plan : PlanByParts = then.value in
+      let read = solved_behind_told o.entry (heading_of o) plan behind then.behind formed.cost formed.bound formed.of_parts then.told in
+      let entry = formed.entry in
+      let same = read.entry_is in
+      subst (λ (y : LogItem). Stands (item_text 2) IsTapeItem y place next) (sym then.then.0)
+      (subst (λ (p : Place). Stands (item_text 2) IsTapeItem (solved_item o plan) place p) (sym then.then.1) (record {
+        left = told.stands.whole
+            ∙ (sym (append_assoc told.bytes line_end behind.left)
+            ∙ (ap (λ xs. (xs ++ line_end) ++ behind.left) (sym told.spelled.is_line.0)
+            ∙ (ap (λ xs. (solved_opening_text o ++ line_end) ++ xs) read.left ∙ sym (solved_same o plan behind then.behind read))));
+        good = record { spelled = (formed.said.spelled, read.spelled); fits = (formed.line, formed.said.fits, (omega (arith, entry, same), read.fits)); some = tt };
+      }))
+
 item_stands_at : (place behind next : Place) (x : LogItem) (first : ItemLine) → SpellsValue IsFirstLine place first behind → TellsBehind place.line first behind (Ok (x, next)) → Stands (item_text 2) IsTapeItem x place next
 item_stands_at place behind next x (lone a) told then = lone_stands place behind next x a told then
 item_stands_at place behind next x (planned o) told then = plan_stands place behind next x o told then
+item_stands_at place behind next x (solved o) told then = solved_stands place behind next x o told then
 
 item_stands : (place : Place) (x : LogItem) (next : Place) → TellsItem place (Ok (x, next)) → Stands (item_text 2) IsTapeItem x place next
 item_stands place x next told = item_stands_at place told.behind next x told.value told.told told.then

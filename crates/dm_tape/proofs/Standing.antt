@@ -14,23 +14,28 @@ use Rattle.dm_feed.specs.Parts.{largest_id}
 use Rattle.dm_feed.specs.Lines.{spelling_of_line}
 use Rattle.dm_tree.specs.declared.forms.Node.{Node}
 use Rattle.dm_tree.specs.declared.plans.Plan.{Plan}
+use Rattle.dm_parts.specs.declared.parts.PlanByParts.{PlanByParts}
 use Rattle.dm_cert.specs.declared.faults.CertFault.{CertFault}
 use Rattle.dm_cert.specs.declared.plan_lines.Heading.{Heading}
+use Rattle.dm_cert.specs.declared.solved_lines.SolvedHeading.{SolvedHeading}
 use Rattle.dm_cert.specs.declared.replies.Reply.{Reply}
 use Rattle.dm_cert.specs.declared.replies.Reply.TheVariants as reply
 use Rattle.dm_cert.specs.declared.replies.LogItem.{LogItem}
 use Rattle.dm_cert.specs.declared.replies.LogItem.TheVariants.{Malformed, Answered}
 use Rattle.dm_cert.specs.PlanTexts.{line_end, largest_cost, choice_text, node_text, spelling_of_plan, FitsDecision, FitsNode, FitsPlan}
 use Rattle.dm_cert.specs.PlansRead.{IsChoiceLine, IsNodeLine, BeginsWithPlan}
+use Rattle.dm_cert.specs.SolvedTexts.{spelling_of_solved, IsSpelledSolved, FitsSolved}
 use Rattle.dm_cert.specs.RunTexts.{feed_text, item_text, reply_text, FitsReason, FitsItem, IsSpelledReason}
 use Rattle.dm_cert.proofs.HeadingsRead.{front_text, heading_spelled}
 use Rattle.dm_cert.proofs.LineFeeds.{has_no_feed}
 use Rattle.dm_cert.proofs.SpelledPlans.{HasLine, line_stands, plan_stands, IsCounted, begun_is_told}
+use Rattle.dm_cert.proofs.SpelledSolved.{few_solved, solved_stands}
 use Rattle.dm_cert.proofs.ToldTexts.{times_told}
-use Rattle.dm_records.specs.RunLines.{PlanOpening, lone, planned, IsFormedReason, IsFormedReply, IsFormedSaid}
+use Rattle.dm_records.specs.RunLines.{PlanOpening, SolvedOpening, lone, planned, solved, solved_opening_text, IsFormedReason, IsFormedReply, IsFormedSaid}
 use Rattle.dm_tape.specs.Rounds.{part_text, parts_text, NamesSome, IsTapeItem}
 use Rattle.dm_tape.specs.Told.{IsFirstLine, IsFeedLine, TellsItem, TellsPart, plan_item}
-use Rattle.dm_tape.proofs.ItemLines.{ItemHasLine, malformed_line, answered_line, front_of, item_is, opening_at, opening_is, front_no_feed, opening_line}
+use Rattle.dm_records.proofs.ItemsRead.{known_in_second}
+use Rattle.dm_tape.proofs.ItemLines.{ItemHasLine, malformed_line, answered_line, front_of, item_is, opening_at, opening_is, front_no_feed, solution_is, solved_opening_at, solved_opening_is, opening_line}
 
 -- the value is told at the place, and this is left behind what it was read from
 pub record Told {V : Type 0} (tells : Place → Result (V × Place) CertFault → Type 0) (v : V) (place : Place) (rest : List ℕ) : Type 0 where
@@ -68,7 +73,7 @@ lone_told answered has fits place rest left =
 
 alone : (line : ℕ) (said : Line) (r : Reply) → IsTapeItem (Answered line said r) → IsFormedReply r → (place : Place) (rest : List ℕ) → place.left ≡ item_text 2 (Answered line said r) ++ rest → Told TellsItem (Answered line said r) place rest
 alone line said r is formed place rest left =
-    lone_told (Answered line said r) (answered_line 2 line said r is.fits.0 (record { spelled = is.spelled.0; fits = is.fits.1 }) formed) is.fits place rest left
+    lone_told (Answered line said r) (answered_line 2 line said r refl is.fits.0 (record { spelled = is.spelled.0; fits = is.fits.1 }) formed) is.fits place rest left
 
 -- ---- items with a plan
 
@@ -131,6 +136,7 @@ planned_told line said plan low formed at fits place rest short left =
                 choices = told.told.spelled.choices;
                 size = told.told.spelled.size;
               },
+              known_in_second 2 said refl,
             );
             fits = tt;
           };
@@ -141,6 +147,59 @@ planned_told line said plan low formed at fits place rest short left =
           told = told.then.told;
           then = record { value = nodes; behind = told.then.then.behind; told = told.then.then.told; then = (plan_is, refl) };
         };
+      };
+    }
+
+-- ---- items with a plan by parts
+
+solution_told : (line : ℕ) (said : Line) (plan : PlanByParts) → line ≤ largest_id → IsFormedSaid said → plan.entry ≤ largest_id → FitsSolved plan → IsSpelledSolved plan → (place : Place) (rest : List ℕ) → IsShort place
+    → place.left ≡ item_text 2 (Answered line said (reply.Solved plan)) ++ rest → Told TellsItem (Answered line said (reply.Solved plan)) place rest
+solution_told line said plan low formed at fits spelled place rest short left =
+    let text : List ℕ = spelling_of_solved plan in
+    let front : List ℕ = front_of line said plan.entry in
+    let is : place.left ≡ front ++ (text ++ rest) = left ∙ solution_is line said plan rest in
+    let counted = few_solved plan (text ++ rest) rest fits spelled (omega (arith, short, ap length is, length-append front (text ++ rest))) refl in
+    let stands = solved_stands plan (record { left = text ++ rest; line = place.line }) rest fits spelled counted refl in
+    let told = stands.told in
+    let h : SolvedHeading = told.value in
+    let o : SolvedOpening = solved_opening_at line said plan.entry h in
+    let bytes : List ℕ = told.told.bytes in
+    let first : solved_opening_text o ≡ front ++ bytes =
+    append_cancel_right (solved_opening_text o) (front ++ bytes) line_end
+    (solved_opening_is line said plan.entry h ∙ (ap (λ xs. front ++ xs) told.told.spelled.spelled ∙ sym (append_assoc front bytes line_end))) in
+    record {
+      next = stands.next;
+      left = stands.left;
+      told = record {
+        value = solved o;
+        behind = told.behind;
+        told = record {
+          bytes = front ++ bytes;
+          stands = record {
+            whole = is ∙ (ap (λ xs. front ++ xs) told.told.stands.whole ∙ sym (append_assoc front bytes (10 ∷ told.behind.left)));
+            one_line = All-append (λ b. b ≡ 10 → ⊥) front bytes (has_no_feed front (front_no_feed line said plan.entry low formed.fits at)) told.told.stands.one_line;
+            counted = told.told.stands.counted;
+          };
+          spelled = record {
+            is_line = (
+              first,
+              record {
+                line = low;
+                said = formed;
+                entry = at;
+                cost = told.told.spelled.cost;
+                bound = told.told.spelled.bound;
+                choices = told.told.spelled.choices;
+                parts = told.told.spelled.parts;
+                nodes = told.told.spelled.nodes;
+                of_parts = told.told.spelled.of_parts;
+              },
+              refl,
+            );
+            fits = tt;
+          };
+        };
+        then = record { value = plan; behind = stands.next; told = told.then; then = (refl, refl) };
       };
     }
 
@@ -157,6 +216,8 @@ item_told (Answered line said (reply.Cost n c)) is place rest short left = alone
 item_told (Answered line said (reply.Read n)) is place rest short left = alone line said (reply.Read n) is is.fits.2 place rest left
 item_told (Answered line said (reply.Planned plan)) is place rest short left =
     planned_told line said plan is.fits.0 (record { spelled = is.spelled.0; fits = is.fits.1 }) is.fits.2.0 is.fits.2.1 place rest short left
+item_told (Answered line said (reply.Solved plan)) is place rest short left =
+    solution_told line said plan is.fits.0 (record { spelled = is.spelled.0; fits = is.fits.1 }) is.fits.2.0 is.fits.2.1 is.spelled.1 place rest short left
 item_told (Answered line said (reply.Old n)) is place rest short left = alone line said (reply.Old n) is is.fits.2 place rest left
 item_told (Answered line said reply.NoPlan) is place rest short left = alone line said reply.NoPlan is tt place rest left
 item_told (Answered line said reply.Plans) is place rest short left = alone line said reply.Plans is tt place rest left

@@ -14,7 +14,7 @@ use Rattle.dm_cert.specs.declared.replies.LogItem.TheVariants.{Malformed, Answer
 use Rattle.dm_cert.specs.RunTexts.{FitsReason, FitsReply}
 use Rattle.dm_cert.specs.PlansRead.{Answers, TellsTree, cut_line, misshapen_line, want_of_memory}
 use Rattle.dm_cert.proofs.Lined.{told_none, told_spelled}
-use Rattle.dm_records.specs.RunLines.{LogOpening, ItemLine, lone, planned, IsItemLine, IsOpeningLine, IsFormedReason, IsFormedReply}
+use Rattle.dm_records.specs.RunLines.{LogOpening, ItemLine, lone, planned, solved, IsItemLine, IsOpeningLine, IsFormedReason, IsFormedReply}
 use Rattle.dm_records.proofs.LinesOnce.{lines_spell_one}
 use Rattle.dm_tape.specs.Told.{IsFirstLine, IsFeedLine, FitsLine, TellsBehind, TellsItem, TellsItems, TellsNodesOf, TellsPart, fault_of}
 use Rattle.dm_tape.specs.declared.typed.Front.{Front}
@@ -59,6 +59,7 @@ fits_reply (reply.Old n) formed small = formed
 fits_reply reply.NoPlan formed small = tt
 fits_reply reply.Plans formed small = tt
 fits_reply (reply.Range b) formed small = small
+fits_reply (reply.Solved plan) formed small = absurd formed
 
 small_reply : (r : Reply) → FitsReply r → IsSmallReply r
 small_reply (reply.Ok n) fits = tt
@@ -71,16 +72,19 @@ small_reply (reply.Old n) fits = tt
 small_reply reply.NoPlan fits = tt
 small_reply reply.Plans fits = tt
 small_reply (reply.Range b) fits = fits
+small_reply (reply.Solved plan) fits = tt
 
 fits_line : (line : List ℕ) (i : ItemLine) → IsItemLine 2 i line → IsSmallLine i → FitsLine i
 fits_line line (lone (Malformed n)) is small = is.1
 fits_line line (lone (Answered n said r)) is small = (is.1.0, is.1.1.fits, fits_reply r is.1.2 small)
 fits_line line (planned o) is small = tt
+fits_line line (solved o) is small = tt
 
 small_line : (i : ItemLine) → FitsLine i → IsSmallLine i
 small_line (lone (Malformed n)) fits = tt
 small_line (lone (Answered n said r)) fits = small_reply r fits.2
 small_line (planned o) fits = tt
+small_line (solved o) fits = tt
 
 pub first_is : (line : List ℕ) (i shown : ItemLine) → IsItemLine 2 i line → shown ≡ i → IsSmallLine i → IsFirstLine shown line
 first_is line i shown is e small = subst (λ (j : ItemLine). IsFirstLine j line) (sym e) (record { is_line = is; fits = fits_line line i is small })

@@ -13,15 +13,18 @@ use Rattle.dm_cert.specs.declared.replies.LogItem.TheVariants.{Answered}
 use Rattle.dm_cert.specs.declared.replies.Reply.TheVariants.{Planned}
 use Rattle.dm_cert.specs.RunTexts.{FitsItem}
 use Rattle.dm_cert.specs.PlansRead.{TellsChoices, TellsTree, cut_line, misshapen_line, want_of_memory, IsBehind}
-use Rattle.dm_records.specs.RunLines.{PlanOpening, ItemLine, lone, planned, IsItemLine, IsOpeningLine}
+use Rattle.dm_cert.specs.SolvedRead.{TellsSolvedBehind}
+use Rattle.dm_records.specs.RunLines.{PlanOpening, ItemLine, lone, planned, solved, heading_of, solved_item, IsItemLine, IsOpeningLine}
 use Rattle.dm_tape.specs.Rounds.{round_text, IsTapeRound}
 
 -- ---- lines
 
--- the numbers of an item of one line are ones that its types hold; those of a plan's first line are in any case
+-- the numbers of an item of one line are ones that its types hold; those of the first line of a plan of either kind are in any
+-- case
 abbrev pub FitsLine : ItemLine → Type 0
 FitsLine (lone answered) = FitsItem answered
 FitsLine (planned opening) = Unit {0}
+FitsLine (solved opening) = Unit {0}
 
 -- the line is the first of an item
 pub record IsFirstLine (first : ItemLine) (line : List ℕ) : Type 0 where
@@ -59,12 +62,15 @@ abbrev pub TellsNodesOf : ℕ → ℕ → Place → Result (List Node × Place) 
 TellsNodesOf first size place (Ok told) = TellsTree 2 size place (Ok told)
 TellsNodesOf first size place (Err fault) = (f : CertFault) × TellsTree 2 size place (Err f) × (fault ≡ fault_of first f)
 
--- what stands behind the first line of an item, which is this line: nothing, or the choices and the nodes of a plan
+-- what stands behind the first line of an item, which is this line: nothing, or the choices and the nodes of a plan, or what a
+-- plan by parts has behind its own
 abbrev pub TellsBehind : ℕ → ItemLine → Place → Result (LogItem × Place) CertFault → Type 0
 TellsBehind first (lone answered) = Gives answered
 TellsBehind first (planned opening) =
     Then (TellsChoices opening.choices) (λ choices.
     Then (TellsNodesOf first opening.size) (λ nodes. Gives (plan_item opening choices nodes)))
+TellsBehind first (solved opening) =
+    Then (TellsSolvedBehind opening.entry (heading_of opening)) (λ plan. Gives (solved_item opening plan))
 
 abbrev pub TellsItem : Place → Result (LogItem × Place) CertFault → Type 0
 TellsItem place = Then (Line cut_line misshapen_line IsFirstLine) (TellsBehind place.line) place

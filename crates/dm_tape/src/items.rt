@@ -1,16 +1,20 @@
 //! The items of a round, read line by line.
 ghost use Rattle.std.specs.Prelude.{◌≡◌};
-ghost use Rattle.dm_text.specs.Judging.{Line};
-ghost use Rattle.dm_records.specs.RunLines.{planned};
-ghost use Rattle.dm_records.specs.Readings.{opening_of, item_of};
+ghost use Rattle.dm_text.specs.Judging.{Line, Then, Gives};
+ghost use Rattle.dm_records.specs.RunLines.{planned, solved_item, heading_of};
+ghost use Rattle.dm_records.specs.Readings.{opening_of, solved_opening_of, item_of};
 ghost use Rattle.dm_cert.specs.PlansRead.{Answers, cut_line, misshapen_line};
+ghost use Rattle.dm_cert.specs.SolvedRead.{TellsSolvedBehind};
 ghost use Rattle.dm_tape.specs.Told.{IsFirstLine, TellsNodesOf, TellsBehind, TellsItem, fault_of, plan_item};
 ghost use Rattle.dm_tape.specs.Inside.Typed.{line_of_front, IsFrontOf};
 
 use crate::typed::{Front, front_in};
 use dm_base::Items;
-use dm_cert::{CertFault, CertKind, LogItem, Reply, read_choices, read_tree};
-use dm_records::{LogLine, PlanLine, item_line};
+use dm_cert::{
+    CertFault, CertKind, LogItem, Reply, SolvedHeading, read_choices, read_tree, solved_behind,
+};
+use dm_parts::PlanByParts;
+use dm_records::{LogLine, PlanLine, SolvedLine, item_line};
 use dm_rows::Decision;
 use dm_text::Lines;
 use dm_tree::{Plan, Tree};
@@ -137,6 +141,59 @@ fn plan_item(opening: PlanLine, choices: Items<Decision>, tree: Tree) -> LogItem
     }
 }
 
+/// What the first line of an item says of the plan by parts behind it.
+fn heading_of(opening: &SolvedLine) -> SolvedHeading
+    ensures { result ≡ heading_of (solved_opening_of opening.now) }
+{
+    SolvedHeading {
+        mark: opening.mark,
+        cost: opening.cost,
+        bound: opening.bound,
+        choices: opening.choices,
+        parts: opening.parts,
+        nodes: opening.nodes,
+    }
+}
+
+/// The item whose first line opened a plan by parts.
+fn solution_behind(
+    alloc: Global,
+    lines: &mut Lines,
+    opening: SolvedLine,
+) -> Result<LogItem, CertFault>
+    ensures { Answers
+        (Then (TellsSolvedBehind opening.entry (heading_of (solved_opening_of opening)))
+        (λ plan. Gives (solved_item (solved_opening_of opening) plan))) (λ item. item) lines.old lines.new result }
+{
+    let heading = heading_of(&opening);
+    match solved_behind(alloc, opening.entry, heading, lines) {
+        Ok(plan) => Ok(solved_item(opening, plan)),
+        Err(fault) => Err(fault),
+    }
+}
+
+/// The item that answers with this plan by parts.
+fn solved_item(opening: SolvedLine, plan: PlanByParts) -> LogItem
+    ensures { result ≡ solved_item (solved_opening_of opening) plan }
+{
+    let SolvedLine {
+        line,
+        said,
+        entry: _,
+        mark: _,
+        cost: _,
+        bound: _,
+        choices: _,
+        parts: _,
+        nodes: _,
+    } = opening;
+    LogItem::Answered {
+        line,
+        said,
+        reply: Reply::Solved(plan),
+    }
+}
+
 /// The next item.
 pub(crate) fn item_at(alloc: Global, lines: &mut Lines) -> Result<LogItem, CertFault>
     ensures { Answers TellsItem (λ item. item) lines.old lines.new result }
@@ -149,5 +206,6 @@ pub(crate) fn item_at(alloc: Global, lines: &mut Lines) -> Result<LogItem, CertF
     match front {
         Front::Whole(item) => Ok(item),
         Front::Plan(opening) => plan_behind(alloc, lines, first, opening),
+        Front::Solved(opening) => solution_behind(alloc, lines, opening),
     }
 }

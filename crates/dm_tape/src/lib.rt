@@ -1,4 +1,4 @@
-//! Rounds in print and read back: what each feed was answered in a round, with the plans and their trees.
+//! Rounds in print and read back: what each feed was answered in a round, with the plans of either kind.
 //!
 //! It stands on dm_report, which prints the items of logs, and on dm_records and dm_cert, which read their lines and the
 //! lines of plans. A round has for each feed how many items it was answered, and the items as they stand in a run's text of

@@ -7,7 +7,7 @@ ghost use Rattle.dm_tape.specs.Inside.Typed.{IsSmallReason, IsSmallReply, IsSmal
 use dm_base::limits::ENTRIES;
 use dm_base::{ActId, Items};
 use dm_cert::{LogItem, Reply};
-use dm_records::{Answer, LogLine, PlanLine, Reason};
+use dm_records::{Answer, LogLine, PlanLine, Reason, SolvedLine};
 use dm_rows::{At, Refusal};
 use std::alloc::{AllocError, Global};
 
@@ -22,6 +22,9 @@ pub(crate) enum Front {
 
     /// The first line of a plan.
     Plan(PlanLine),
+
+    /// The first line of a plan by parts.
+    Solved(SolvedLine),
 }
 
 /// The number, unless it is too large.
@@ -134,5 +137,6 @@ pub(crate) fn front_in(alloc: Global, line: LogLine) -> Result<Option<Front>, Al
             Ok(Some(Front::Whole(LogItem::Answered { line, said, reply })))
         }
         LogLine::Planned(opening) => Ok(Some(Front::Plan(opening))),
+        LogLine::Solved(opening) => Ok(Some(Front::Solved(opening))),
     }
 }

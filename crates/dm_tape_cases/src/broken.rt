@@ -1,7 +1,7 @@
 //! Rounds that are cut, changed in one byte, or broken at a rule.
 
 use crate::rounds::read;
-use crate::texts::{BROKEN, Broken, TWO_FEEDS};
+use crate::texts::{BROKEN, Broken, SOLVED, TWO_FEEDS};
 use dm_cert::{CertFault, CertKind};
 use dm_samples::Failure;
 use dm_tape::RoundFault;
@@ -33,7 +33,11 @@ fn is_refused(alloc: Global, feeds: u32, bytes: &[u8], due: RoundFault) -> Resul
 
 /// Each front of a round's text ends within the line that is told.
 pub fn cut_anywhere(alloc: Global) -> Result<(), Failure> {
-    let (feeds, text) = TWO_FEEDS;
+    cut_each(alloc, TWO_FEEDS)?;
+    cut_each(alloc, SOLVED)
+}
+
+fn cut_each(alloc: Global, (feeds, text): (u32, &str)) -> Result<(), Failure> {
     let text = text.as_bytes();
     for cut in 0..text.len() {
         let due = line_of(text, cut, CertKind::Truncated);
@@ -45,7 +49,11 @@ pub fn cut_anywhere(alloc: Global) -> Result<(), Failure> {
 /// Each byte of a round's text in turn becomes one that stands in none: the line is told in which it stands. Without its last line
 /// feed the text ends within its last line.
 pub fn changed_anywhere(alloc: Global) -> Result<(), Failure> {
-    let (feeds, text) = TWO_FEEDS;
+    changed_each(alloc, TWO_FEEDS)?;
+    changed_each(alloc, SOLVED)
+}
+
+fn changed_each(alloc: Global, (feeds, text): (u32, &str)) -> Result<(), Failure> {
     let text = text.as_bytes();
     for place in 0..text.len() {
         let kind = if place + 1 < text.len() {

@@ -9,17 +9,19 @@ use std::alloc::{AllocError, Global};
 const ROOM: usize = 100_000;
 
 /// Lines that are no messages: quiet ones, malformed ones, and questions.
-const OTHERS: [&[u8]; 10] = [
+const OTHERS: [&[u8]; 12] = [
     b"",
     b"# a comment",
     b"delay event 1",
     b"adopt",
     b"plan 3",
+    b"solve 5",
     b"cost",
     b"read",
     b"time 7\r",
     b"  time  9 ",
     b"plan 0",
+    b"solve 0",
 ];
 
 /// A feed of so many lines: of each three about two are messages.
@@ -41,7 +43,7 @@ fn put_drawn(
     feed: &mut MemSink,
     page: &mut Page,
 ) -> Result<Result<(), WriteFault>, AllocError> {
-    let other = draws.below(30) as usize;
+    let other = draws.below(36) as usize;
     let put = if let Some(line) = OTHERS.get(other) {
         page.put_bytes(feed, line)
     } else {

@@ -2,23 +2,23 @@
 ghost use Rattle.std.specs.Prelude.{◌≡◌, ◌≤◌, All, IfOk, OnOk};
 ghost use Rattle.dm_base.specs.declared.limits.TheConstants.{BUDGET};
 ghost use Rattle.dm_cert.specs.RunTexts.{IsSpelledItem};
-ghost use Rattle.dm_desk.specs.Planning.{PlansUnder};
+ghost use Rattle.dm_desk.specs.Planning.{budget_of, FindsFor, PlansUnder, SolvesFor};
 ghost use Rattle.dm_rows.specs.Active.{HasNoCycle};
 ghost use Rattle.dm_rows.specs.Rows.{IsSized};
 ghost use Rattle.dm_table_desk.specs.Tables.{setting_of, desk_of};
-ghost use Rattle.dm_tree.specs.Plans.{whole_task, IsTruePlan};
 ghost use Rattle.dm_tape_cases.specs.Feeding.{IsFeeding};
 
 use dm_cert::LogItem;
-use dm_desk::answer_lines;
+use dm_desk::{Search, answer_lines};
 use dm_network::Network;
+use dm_parts::{AnyPlan, PlanByParts};
 use dm_rows::Snapshot;
 use dm_samples::{Failure, rows_on_time};
-use dm_search::plan;
+use dm_search::{plan, whole};
 use dm_settle::NoTimes;
+use dm_solve::plan_by_parts;
 use dm_table::Table;
 use dm_table_desk::TableDesk;
-use dm_tree::Plan;
 use std::alloc::{AllocError, Global};
 
 /// Seconds for each passenger.
@@ -50,17 +50,62 @@ pub fn log_of(
         table,
         plans: PLANS,
     };
-    let planner = |snapshot: &Snapshot, budget: u64| -> Result<Plan, AllocError>
-        requires { (1 ≤ budget) × (budget ≤ BUDGET) × IsSized net.now snapshot.now.rows × HasNoCycle net.now snapshot.now.rows }
-        ensures { IfOk result (λ plan. (plan.entry ≡ snapshot.now.entry)
-            × IsTruePlan (whole_task net.entry.now snapshot.now.rows 10 budget) plan) }
-    { plan(alloc, net, PENALTY, snapshot, budget) };
+    let planner = |snapshot: &Snapshot, asked: Search| -> Result<AnyPlan, AllocError>
+        requires { (1 ≤ budget_of asked) × (budget_of asked ≤ BUDGET) × IsSized net.now snapshot.now.rows
+            × HasNoCycle net.now snapshot.now.rows }
+        ensures { IfOk result (FindsFor net.entry.now 10 snapshot.now asked) }
+    { found(alloc, net, snapshot, asked) };
     let mut log = Vec::new(alloc);
     answer_parts(&mut desk, &planner, feed, cuts, batch, &mut log)?;
     Ok(log)
 }
 
-fn answer_parts<P: Fn(&Snapshot, u64) -> Result<Plan, AllocError>>(
+/// A plan of the kind that was asked for.
+fn found(
+    alloc: Global,
+    net: &Network,
+    snapshot: &Snapshot,
+    asked: Search,
+) -> Result<AnyPlan, AllocError>
+    requires budget { (1 ≤ budget_of asked) × (budget_of asked ≤ BUDGET) }
+    requires sized { IsSized net.now snapshot.now.rows }
+    requires no_cycle { HasNoCycle net.now snapshot.now.rows }
+    ensures { IfOk result (FindsFor net.now 10 snapshot.now asked) }
+{
+    match asked {
+        Search::Plan(budget) => match plan(alloc, net, PENALTY, snapshot, budget) {
+            Ok(plan) => Ok(AnyPlan::Whole(plan)),
+            Err(AllocError) => Err(AllocError),
+        },
+        Search::Solve(budget) => match solved(alloc, net, snapshot, budget) {
+            Ok(plan) => Ok(AnyPlan::ByParts(plan)),
+            Err(AllocError) => Err(AllocError),
+        },
+    }
+}
+
+/// A plan by parts, made of a plan.
+fn solved(
+    alloc: Global,
+    net: &Network,
+    snapshot: &Snapshot,
+    budget: u64,
+) -> Result<PlanByParts, AllocError>
+    requires budget { (1 ≤ budget) × (budget ≤ BUDGET) }
+    requires sized { IsSized net.now snapshot.now.rows }
+    requires no_cycle { HasNoCycle net.now snapshot.now.rows }
+    ensures { IfOk result (SolvesFor net.now 10 snapshot.now budget) }
+{
+    let plan = match plan(alloc, net, PENALTY, snapshot, budget) {
+        Ok(plan) => plan,
+        Err(AllocError) => return Err(AllocError),
+    };
+    let rows = &snapshot.rows;
+    let task = whole(alloc, net, rows, PENALTY, budget);
+    plan_by_parts(&task, &plan)
+}
+
+fn answer_parts<P: Fn(&Snapshot, Search) -> Result<AnyPlan, AllocError>>(
     desk: &mut TableDesk<'_>,
     planner: &P,
     feed: &[u8],
@@ -85,7 +130,7 @@ fn answer_parts<P: Fn(&Snapshot, u64) -> Result<Plan, AllocError>>(
 }
 
 /// Answers up to so many due lines of a part, behind so many lines, and tells how many bytes and lines were passed.
-fn answer_part<P: Fn(&Snapshot, u64) -> Result<Plan, AllocError>>(
+fn answer_part<P: Fn(&Snapshot, Search) -> Result<AnyPlan, AllocError>>(
     desk: &mut TableDesk<'_>,
     planner: &P,
     part: &[u8],

@@ -4,7 +4,7 @@ ghost use Rattle.dm_cert.specs.RunTexts.{IsSpelledItem};
 
 use crate::drawing::{drawn_feed, is_put};
 use crate::feeding::log_of;
-use crate::texts::{EACH_ANSWER, NO_ANSWER, TWO_FEEDS};
+use crate::texts::{EACH_ANSWER, NO_ANSWER, SOLVED, TWO_FEEDS};
 use dm_base::Items;
 use dm_base::limits::TEXT;
 use dm_cert::{CertKind, LogItem};
@@ -64,8 +64,10 @@ pub fn read_back(alloc: Global) -> Result<(), Failure> {
     is_read_back(alloc, 1, feeds, text.as_bytes())?;
     let (feeds, text) = TWO_FEEDS;
     is_read_back(alloc, 2, feeds, text.as_bytes())?;
+    let (feeds, text) = SOLVED;
+    is_read_back(alloc, 3, feeds, text.as_bytes())?;
     let (feeds, text) = NO_ANSWER;
-    is_read_back(alloc, 3, feeds, text.as_bytes())
+    is_read_back(alloc, 4, feeds, text.as_bytes())
 }
 
 /// The text is that of a round, which is printed so again; what stands behind it is left.

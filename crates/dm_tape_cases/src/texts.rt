@@ -44,13 +44,19 @@ pub const WORKED: [Worked; 7] = [
 /// A round of one feed, with an answer of each kind and a refusal of each kind: its number of feeds, and its text.
 pub const EACH_ANSWER: (u32, &str) = (
     1,
-    "feed 1 26\n1 malformed\n2 delay event 1 60 -> 1 ok\n3 delay activity 1 1000001 -> 1 refused range 1000001\n4 pass 9 5 -> 1 refused unknown-event 9\n5 keep 9 -> 1 refused unknown-activity 9\n6 drop 4 -> 1 refused unknown-change 4\n7 first 1 2 -> 1 refused unknown-pair 1 2\n8 pass 5 231 -> 2 ok\n9 keep 5 -> 2 refused passed 5 231\n10 recall 1 -> 2 refused not-passed 1\n11 now 240 -> 3 ok\n12 now 239 -> 3 refused back 240\n13 first 5 3 -> 3 refused cycle 3 8 7\n14 adopt -> noplan\n15 plan 100 -> 3 plan optimal cost 940000 bound 940000 choices 2 nodes 3\nchoice drop 5\nchoice first 5 3\ninner change 5\nbound 1075000\nbound 940000\n16 adopt -> 4 ok\n17 adopt -> 4 old\n18 time 6 -> 4 time 330\n19 time 9 -> 4 refused unknown-event 9\n20 cost -> 4 cost 940000\n21 read -> 4 read\n22 plan 0 -> range 0\n23 plan 7 -> 4 plan open cost 1075000 bound 900000 choices 1 nodes 5\nchoice keep 5\ninner pair 3 5\ninner change 5\nopen 900000\nbound 1075000\ncycle\n24 plan 16384 -> plans\n30 drop 5 -> 1000000 refused full\n4294967295 adopt -> 1000000 refused full\n",
+    "feed 1 27\n1 malformed\n2 delay event 1 60 -> 1 ok\n3 delay activity 1 1000001 -> 1 refused range 1000001\n4 pass 9 5 -> 1 refused unknown-event 9\n5 keep 9 -> 1 refused unknown-activity 9\n6 drop 4 -> 1 refused unknown-change 4\n7 first 1 2 -> 1 refused unknown-pair 1 2\n8 pass 5 231 -> 2 ok\n9 keep 5 -> 2 refused passed 5 231\n10 recall 1 -> 2 refused not-passed 1\n11 now 240 -> 3 ok\n12 now 239 -> 3 refused back 240\n13 first 5 3 -> 3 refused cycle 3 8 7\n14 adopt -> noplan\n15 plan 100 -> 3 plan optimal cost 940000 bound 940000 choices 2 nodes 3\nchoice drop 5\nchoice first 5 3\ninner change 5\nbound 1075000\nbound 940000\n16 adopt -> 4 ok\n17 adopt -> 4 old\n18 time 6 -> 4 time 330\n19 time 9 -> 4 refused unknown-event 9\n20 cost -> 4 cost 940000\n21 read -> 4 read\n22 plan 0 -> range 0\n23 plan 7 -> 4 plan open cost 1075000 bound 900000 choices 1 nodes 5\nchoice keep 5\ninner pair 3 5\ninner change 5\nopen 900000\nbound 1075000\ncycle\n24 plan 16384 -> plans\n25 solve 7 -> 4 solved open cost 1075000 bound 900000 choices 1 parts 2 nodes 4\nchoice keep 5\npart events 2 changes 1 nodes 3 bound 700000\nevents 3 7\nchanges 5\ninner pair 3 5\nleaf 700000\ncycle\npart events 1 changes 0 nodes 1 bound 150000\nevents 8\nleaf 150000\nrest 50000\n30 drop 5 -> 1000000 refused full\n4294967295 adopt -> 1000000 refused full\n",
 );
 
 /// A round of two feeds, of which the first had a plan.
 pub const TWO_FEEDS: (u32, &str) = (
     2,
     "feed 1 2\n1 delay event 1 60 -> 1 ok\n2 plan 100 -> 1 plan optimal cost 940000 bound 940000 choices 2 nodes 3\nchoice drop 5\nchoice first 5 3\ninner change 5\nbound 1075000\nbound 940000\nfeed 2 1\n4 cost -> 1 cost 1075000\n",
+);
+
+/// A round of two feeds, of which the first had a plan by parts.
+pub const SOLVED: (u32, &str) = (
+    2,
+    "feed 1 2\n1 delay event 1 60 -> 1 ok\n2 solve 100 -> 1 solved open cost 1075000 bound 900000 choices 1 parts 2 nodes 4\nchoice keep 5\npart events 2 changes 1 nodes 3 bound 700000\nevents 3 7\nchanges 5\ninner pair 3 5\nleaf 700000\ncycle\npart events 1 changes 0 nodes 1 bound 150000\nevents 8\nleaf 150000\nrest 50000\nfeed 2 1\n4 cost -> 1 cost 1075000\n",
 );
 
 /// A round of three feeds that were answered nothing.
@@ -67,8 +73,8 @@ pub struct Broken {
     pub byte: usize,
 }
 
-/// The round of two feeds, changed so that it breaks a rule.
-pub const BROKEN: [Broken; 21] = [
+/// A round of two feeds, changed so that it breaks a rule.
+pub const BROKEN: [Broken; 34] = [
     Broken {
         text: "feed 2 2\n1 delay event 1 60 -> 1 ok\n2 plan 100 -> 1 plan optimal cost 940000 bound 940000 choices 2 nodes 3\nchoice drop 5\nchoice first 5 3\ninner change 5\nbound 1075000\nbound 940000\nfeed 2 1\n4 cost -> 1 cost 1075000\n",
         line: 1,
@@ -194,5 +200,83 @@ pub const BROKEN: [Broken; 21] = [
         line: 10,
         kind: CertKind::Truncated,
         byte: 190,
+    },
+    Broken {
+        text: "feed 1 2\n1 delay event 1 60 -> 1 ok\n2 solve 100 -> 1 solved open cost 1075000 bound 900000 choices 1 parts 0 nodes 4\nchoice keep 5\npart events 2 changes 1 nodes 3 bound 700000\nevents 3 7\nchanges 5\ninner pair 3 5\nleaf 700000\ncycle\npart events 1 changes 0 nodes 1 bound 150000\nevents 8\nleaf 150000\nrest 50000\nfeed 2 1\n4 cost -> 1 cost 1075000\n",
+        line: 3,
+        kind: CertKind::Form,
+        byte: 36,
+    },
+    Broken {
+        text: "feed 1 2\n1 delay event 1 60 -> 1 ok\n2 solve 100 -> 1 solved open cost 1075000 bound 900000 choices 1 parts 2 nodes 4\nchoice keep 5\npart events 2 changes 1 nodes 5 bound 700000\nevents 3 7\nchanges 5\ninner pair 3 5\nleaf 700000\ncycle\npart events 1 changes 0 nodes 1 bound 150000\nevents 8\nleaf 150000\nrest 50000\nfeed 2 1\n4 cost -> 1 cost 1075000\n",
+        line: 5,
+        kind: CertKind::Form,
+        byte: 131,
+    },
+    Broken {
+        text: "feed 1 2\n1 delay event 1 60 -> 1 ok\n2 solve 100 -> 1 solved open cost 1075000 bound 900000 choices 1 parts 2 nodes 4\nchoice keep 5\npart events 2 changes 1 nodes 3 bound 700000\nevents 3 7\nchanges 5\ninner pair 3 5\nleaf 700000\ncycle\npart events 1 changes 0 nodes 0 bound 150000\nevents 8\nleaf 150000\nrest 50000\nfeed 2 1\n4 cost -> 1 cost 1075000\n",
+        line: 11,
+        kind: CertKind::Form,
+        byte: 230,
+    },
+    Broken {
+        text: "feed 1 2\n1 delay event 1 60 -> 1 ok\n2 solve 100 -> 1 solved open cost 1075000 bound 900000 choices 1 parts 2 nodes 5\nchoice keep 5\npart events 2 changes 1 nodes 3 bound 700000\nevents 3 7\nchanges 5\ninner pair 3 5\nleaf 700000\ncycle\npart events 1 changes 0 nodes 1 bound 150000\nevents 8\nleaf 150000\nrest 50000\nfeed 2 1\n4 cost -> 1 cost 1075000\n",
+        line: 11,
+        kind: CertKind::Form,
+        byte: 230,
+    },
+    Broken {
+        text: "feed 1 2\n1 delay event 1 60 -> 1 ok\n2 solve 100 -> 1 solved open cost 1075000 bound 900000 choices 1 parts 2 nodes 4\nchoice keep 5\npart events 2 changes 1 nodes 3 bound 700000\nevents 7 3\nchanges 5\ninner pair 3 5\nleaf 700000\ncycle\npart events 1 changes 0 nodes 1 bound 150000\nevents 8\nleaf 150000\nrest 50000\nfeed 2 1\n4 cost -> 1 cost 1075000\n",
+        line: 6,
+        kind: CertKind::Form,
+        byte: 176,
+    },
+    Broken {
+        text: "feed 1 2\n1 delay event 1 60 -> 1 ok\n2 solve 100 -> 1 solved open cost 1075000 bound 900000 choices 1 parts 2 nodes 4\nchoice keep 5\npart events 2 changes 1 nodes 3 bound 700000\nevents 3 3\nchanges 5\ninner pair 3 5\nleaf 700000\ncycle\npart events 1 changes 0 nodes 1 bound 150000\nevents 8\nleaf 150000\nrest 50000\nfeed 2 1\n4 cost -> 1 cost 1075000\n",
+        line: 6,
+        kind: CertKind::Form,
+        byte: 176,
+    },
+    Broken {
+        text: "feed 1 2\n1 delay event 1 60 -> 1 ok\n2 solve 100 -> 1 solved open cost 1075000 bound 900000 choices 1 parts 2 nodes 4\nchoice keep 5\npart events 2 changes 1 nodes 3 bound 700000\nevents 3\nchanges 5\ninner pair 3 5\nleaf 700000\ncycle\npart events 1 changes 0 nodes 1 bound 150000\nevents 8\nleaf 150000\nrest 50000\nfeed 2 1\n4 cost -> 1 cost 1075000\n",
+        line: 6,
+        kind: CertKind::Form,
+        byte: 176,
+    },
+    Broken {
+        text: "feed 1 2\n1 delay event 1 60 -> 1 ok\n2 solve 100 -> 1 solved open cost 1075000 bound 900000 choices 1 parts 2 nodes 4\nchoice keep 5\npart events 65537 changes 1 nodes 3 bound 700000\nevents 3 7\nchanges 5\ninner pair 3 5\nleaf 700000\ncycle\npart events 1 changes 0 nodes 1 bound 150000\nevents 8\nleaf 150000\nrest 50000\nfeed 2 1\n4 cost -> 1 cost 1075000\n",
+        line: 5,
+        kind: CertKind::Form,
+        byte: 131,
+    },
+    Broken {
+        text: "feed 1 2\n1 delay event 1 60 -> 1 ok\n2 solve 100 -> 1 solved open cost 1075000 bound 900000 choices 1 parts 2 nodes 4\nchoice keep 5\npart events 2 changes 1 nodes 3 bound 700000\nevents 3 7\nchanges 5\ninner pair 3 5\nleaf 700000\ncycle\npart events 1 changes 0 nodes 1 bound 150000\nleaf 150000\nrest 50000\nfeed 2 1\n4 cost -> 1 cost 1075000\n",
+        line: 12,
+        kind: CertKind::Form,
+        byte: 275,
+    },
+    Broken {
+        text: "feed 1 2\n1 delay event 1 60 -> 1 ok\n2 solve 100 -> 1 solved open cost 1075000 bound 900000 choices 1 parts 2 nodes 4\nchoice keep 5\npart events 2 changes 1 nodes 3 bound 700000\nevents 3 7\nchanges 5\ninner pair 5 3\nleaf 700000\ncycle\npart events 1 changes 0 nodes 1 bound 150000\nevents 8\nleaf 150000\nrest 50000\nfeed 2 1\n4 cost -> 1 cost 1075000\n",
+        line: 8,
+        kind: CertKind::Form,
+        byte: 197,
+    },
+    Broken {
+        text: "feed 1 2\n1 delay event 1 60 -> 1 ok\n2 solve 100 -> 1 solved open cost 1075000 bound 900000 choices 1 parts 2 nodes 4\nchoice keep 5\npart events 2 changes 1 nodes 3 bound 700000\nevents 3 7\nchanges 5\ninner pair 3 5\nbound 700000\ncycle\npart events 1 changes 0 nodes 1 bound 150000\nevents 8\nleaf 150000\nrest 50000\nfeed 2 1\n4 cost -> 1 cost 1075000\n",
+        line: 9,
+        kind: CertKind::Form,
+        byte: 212,
+    },
+    Broken {
+        text: "feed 1 2\n1 delay event 1 60 -> 1 ok\n2 solve 100 -> 1 solved open cost 1075000 bound 900000 choices 1 parts 2 nodes 4\nchoice keep 5\npart events 2 changes 1 nodes 3 bound 700000\nevents 3 7\nchanges 5\ninner pair 3 5\nleaf 700000\ncycle\npart events 1 changes 0 nodes 1 bound 150000\nevents 8\nleaf 150000\nrest\nfeed 2 1\n4 cost -> 1 cost 1075000\n",
+        line: 14,
+        kind: CertKind::Form,
+        byte: 296,
+    },
+    Broken {
+        text: "feed 1 2\n1 delay event 1 60 -> 1 ok\n2 solve 100 -> 1 solved cost 1075000 bound 900000 choices 1 parts 2 nodes 4\nchoice keep 5\npart events 2 changes 1 nodes 3 bound 700000\nevents 3 7\nchanges 5\ninner pair 3 5\nleaf 700000\ncycle\npart events 1 changes 0 nodes 1 bound 150000\nevents 8\nleaf 150000\nrest 50000\nfeed 2 1\n4 cost -> 1 cost 1075000\n",
+        line: 3,
+        kind: CertKind::Form,
+        byte: 36,
     },
 ];

@@ -16,8 +16,8 @@ use Rattle.dm_rows.specs.Active.{is_active}
 use Rattle.dm_rows.specs.Refuse.{Refuses}
 use Rattle.dm_rows.specs.Resolve.{after}
 use Rattle.dm_feed.specs.declared.grammar.Line.{Line}
-use Rattle.dm_feed.specs.declared.grammar.Line.TheVariants.{Say, Time as AskTime, CostNow as AskCost, Plan as AskPlan, Adopt as AskAdopt, Read as AskRead}
-use Rattle.dm_tree.specs.declared.plans.Plan.{Plan}
+use Rattle.dm_feed.specs.declared.grammar.Line.TheVariants.{Say, Time as AskTime, CostNow as AskCost, Plan as AskPlan, Solve as AskSolve, Adopt as AskAdopt, Read as AskRead}
+use Rattle.dm_tree.specs.declared.adopting.Chosen.{Chosen}
 use Rattle.dm_cert.specs.declared.replies.Reply.{Reply}
 use Rattle.dm_cert.specs.declared.replies.Reply.TheVariants as reply
 use Rattle.dm_cert.specs.declared.replies.LogItem.{LogItem}
@@ -44,7 +44,7 @@ some_id net held ids shows =
     let some = some_arc (arcs_of net held) shows.places shows.is_cycle in
     omega (arith, some, ap length shows.named, length-map shows.places (λ a. (activity_at net a).id))
 
-no_room_no_cycle : (history : List Entry) (n : ℕ) (why : Refusal) (ids : List ActId) (latest : Option Plan) → IsSomeAnd latest (λ plan. HasNoRoom history n why plan) → why ≡ refusal.Cycle ids → ⊥
+no_room_no_cycle : (history : List Entry) (n : ℕ) (why : Refusal) (ids : List ActId) (latest : Option Chosen) → IsSomeAnd latest (λ plan. HasNoRoom history n why plan) → why ≡ refusal.Cycle ids → ⊥
 no_room_no_cycle history n why ids None is e = absurd is
 no_room_no_cycle history n why ids (Some plan) is e = let full = is.is_why in absurd cc
 
@@ -56,6 +56,7 @@ refused_cycle s history feed before line (Say message) at ids is e =
 refused_cycle s history feed before line (AskTime event) at ids is e = let unknown = is.is_why in absurd cc
 refused_cycle s history feed before line AskCost at ids is e = absurd is
 refused_cycle s history feed before line (AskPlan budget) at ids is e = absurd is
+refused_cycle s history feed before line (AskSolve budget) at ids is e = absurd is
 refused_cycle s history feed before line AskAdopt at ids is e = absurd (no_room_no_cycle history at.entry at.why ids (latest_plan before) is e)
 refused_cycle s history feed before line AskRead at ids is e = absurd is
 
@@ -79,6 +80,7 @@ shows_some s history feed before line said (reply.Time n x) is = tt
 shows_some s history feed before line said (reply.Cost n c) is = tt
 shows_some s history feed before line said (reply.Read n) is = tt
 shows_some s history feed before line said (reply.Planned plan) is = tt
+shows_some s history feed before line said (reply.Solved plan) is = tt
 shows_some s history feed before line said (reply.Old n) is = tt
 shows_some s history feed before line said reply.NoPlan is = tt
 shows_some s history feed before line said reply.Plans is = tt

@@ -12,11 +12,12 @@ ghost use Rattle.dm_watch.specs.Inside.Settling.{MaySettle, SettlesSome, HasNew}
 use crate::keeping::new_are_held;
 use crate::settling::{settle, sync_feeds};
 use crate::stops::RoundStop;
+use dm_desk::Search;
+use dm_parts::AnyPlan;
 use dm_rows::Snapshot;
 use dm_store::{Journal, Store};
 use dm_table_desk::TableDesk;
 use dm_tail::{Growing, Watched, answer_feeds};
-use dm_tree::Plan;
 use std::alloc::{AllocError, Global};
 
 /// A table with feeds that grow.
@@ -41,7 +42,7 @@ impl<'n, T: Growing + Drop> Watch<'n, T> {
 
     /// Looks at each feed, answers what they have appended, in the order of the feeds, commits the answers as one block of the
     /// journal, and then appends the replies. It answers the watch, and whether there was anything new.
-    pub fn round<S: Store, P: Fn(&Snapshot, u64) -> Result<Plan, AllocError>>(
+    pub fn round<S: Store, P: Fn(&Snapshot, Search) -> Result<AnyPlan, AllocError>>(
         self,
         journal: &mut Journal<S>,
         planner: &P,

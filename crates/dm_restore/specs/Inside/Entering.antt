@@ -2,6 +2,7 @@
 use Rattle.std.specs.Prelude.{ℕ, ◌≡◌, ◌⊎◌, ◌-◌, ◌<◌, ◌≤◌, Bool, true, false, List, [], ◌∷◌, ◌++◌, length, count_by, slice_get, Option, Some, None}
 use Rattle.std.specs.Option.{option_map}
 use Rattle.dm_base.specs.declared.limits.TheConstants.{ENTRIES}
+use Rattle.dm_rows.specs.declared.messages.Decision.{Decision}
 use Rattle.dm_rows.specs.declared.messages.Entry.{Entry}
 use Rattle.dm_rows.specs.declared.messages.Message.{Message}
 use Rattle.dm_rows.specs.declared.messages.Message.TheVariants.{Adopt as AdoptAll}
@@ -10,9 +11,9 @@ use Rattle.dm_rows.specs.History.{rows_at}
 use Rattle.dm_rows.specs.Refuse.{Refuses}
 use Rattle.dm_feed.specs.declared.grammar.Line.{Line}
 use Rattle.dm_feed.specs.declared.grammar.Line.TheVariants.{Say, Adopt}
-use Rattle.dm_tree.specs.declared.plans.Plan.{Plan}
+use Rattle.dm_tree.specs.declared.adopting.Chosen.{Chosen}
 use Rattle.dm_cert.specs.declared.replies.Reply.{Reply}
-use Rattle.dm_cert.specs.declared.replies.Reply.TheVariants.{Ok}
+use Rattle.dm_cert.specs.declared.replies.Reply.TheVariants.{Ok, Planned, Solved}
 use Rattle.dm_cert.specs.declared.replies.LogItem.{LogItem}
 use Rattle.dm_cert.specs.declared.replies.LogItem.TheVariants.{Malformed, Answered}
 use Rattle.dm_cert.specs.Logs.{names}
@@ -20,19 +21,33 @@ use Rattle.dm_table.specs.Value.{TableValue}
 
 -- ---- one item
 
--- the message that a line enters, where this is the feed's latest plan
-abbrev pub message_in : Option Plan → Line → Option Message
+-- the choices of a feed's latest plan
+abbrev pub choices_in : Option Chosen → Option (List Decision)
+choices_in latest = option_map (λ plan. plan.choices) latest
+
+-- those behind an answer, where before it the feed's latest plan had these
+abbrev pub choices_after_reply : Option (List Decision) → Reply → Option (List Decision)
+choices_after_reply latest (Planned plan) = Some plan.choices
+choices_after_reply latest (Solved plan) = Some plan.choices
+choices_after_reply latest _ = latest
+
+abbrev pub choices_after : Option (List Decision) → LogItem → Option (List Decision)
+choices_after latest (Malformed line) = latest
+choices_after latest (Answered line said reply) = choices_after_reply latest reply
+
+-- the message that a line enters, where the feed's latest plan has these choices
+abbrev pub message_in : Option (List Decision) → Line → Option Message
 message_in latest (Say message) = Some message
-message_in latest Adopt = option_map (λ plan. AdoptAll plan.choices) latest
+message_in latest Adopt = option_map (λ choices. AdoptAll choices) latest
 message_in latest _ = None
 
 -- the entry of a line that is answered so, with its number
-abbrev pub entry_of_reply : ℕ → Option Plan → ℕ → Line → Reply → Option (ℕ × Entry)
+abbrev pub entry_of_reply : ℕ → Option (List Decision) → ℕ → Line → Reply → Option (ℕ × Entry)
 entry_of_reply feed latest line said (Ok number) =
     option_map (λ message. (number, record { feed = feed; line = line; message = message })) (message_in latest said)
 entry_of_reply feed latest line said _ = None
 
-abbrev pub entry_in : ℕ → Option Plan → LogItem → Option (ℕ × Entry)
+abbrev pub entry_in : ℕ → Option (List Decision) → LogItem → Option (ℕ × Entry)
 entry_in feed latest (Malformed line) = None
 entry_in feed latest (Answered line said reply) = entry_of_reply feed latest line said reply
 

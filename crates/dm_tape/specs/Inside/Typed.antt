@@ -9,8 +9,8 @@ use Rattle.dm_cert.specs.declared.replies.LogItem.{LogItem}
 use Rattle.dm_cert.specs.declared.replies.LogItem.TheVariants.{Malformed, Answered}
 use Rattle.dm_cert.specs.declared.faults.CertFault.{CertFault}
 use Rattle.dm_cert.specs.PlansRead.{want_of_memory}
-use Rattle.dm_records.specs.RunLines.{ItemLine, lone, planned}
-use Rattle.dm_records.specs.Readings.{opening_of}
+use Rattle.dm_records.specs.RunLines.{ItemLine, lone, planned, solved}
+use Rattle.dm_records.specs.Readings.{opening_of, solved_opening_of}
 use Rattle.dm_tape.specs.declared.typed.Front.{Front}
 use Rattle.dm_tape.specs.declared.typed.Front.TheVariants as front
 
@@ -34,11 +34,13 @@ IsSmallItem (Answered line said r) = IsSmallReply r
 abbrev pub IsSmallLine : ItemLine → Type 0
 IsSmallLine (lone answered) = IsSmallItem answered
 IsSmallLine (planned opening) = Unit {0}
+IsSmallLine (solved opening) = Unit {0}
 
 -- the first line that a front is
 abbrev pub line_of_front : Front → ItemLine
 line_of_front (front.Whole answered) = lone answered
 line_of_front (front.Plan opening) = planned (opening_of opening)
+line_of_front (front.Solved opening) = solved (solved_opening_of opening)
 
 -- What is made of a value is this one, and it is small; where nothing is, the value is not small.
 abbrev pub IsTyped : {V X : Type 0} → (V → Type 0) → (X → V) → V → Option X → Type 0

@@ -19,7 +19,7 @@ use Rattle.dm_serve.proofs.serving.serve_watch.Goals as goal
 pub go_round-requires-clause-plans : goal.go_round-requires-clause-plans
 go_round-requires-clause-plans g c =
     plans_under _ _ c.args.serving.now.net.now c.args.serving.now.words.now.run.files.penalty (setting_of c.args.watch.desk.plans c.args.watch.desk.table) c.requires.network c.requires.penalty refl
-    (λ snapshot budget sized no_cycle some few. search rules) (λ snapshot budget given h. h)
+    (λ snapshot asked sized no_cycle some few. search rules) (λ snapshot asked given h. h.1)
 
 pub go_round-requires-clause-few : goal.go_round-requires-clause-few
 go_round-requires-clause-few g c = few_feeds _ _ _ c.args.watch.feeds.ok.0 c.requires.as_many c.requires.within.few_feeds
