@@ -3,7 +3,7 @@ from __future__ import annotations
 
 import unittest
 
-from dispatch_tools.bench.against import cbc_bound, contradictions, Found, glpk_bound, plan_of, told_cost
+from dispatch_tools.bench.against import cbc_bound, contradictions, Fault, Found, glpk_bound, plan_of, told_cost
 from dispatch_tools.formats.solution import Solution
 
 CBC = '''Cbc0010I After 0 nodes, 1 on tree, 245843 best solution, best possible 242324.56 (1.19 seconds)
@@ -33,6 +33,8 @@ class Logs(unittest.TestCase):
 
     def test_plan_in_a_text(self) -> None:
         self.assertEqual(plan_of('2 plan 9 -> 1 plan open cost 12 bound 7 choices 0 nodes 9\n'), ('open', 12, 7))
+        self.assertEqual(plan_of('2 solve 9 -> 1 solved optimal cost 12 bound 12 choices 0 parts 3 nodes 9\n'), ('optimal', 12, 12))
+        self.assertRaises(Fault, plan_of, '2 solve 0 -> range 0\n')
 
 
 class Tables(unittest.TestCase):

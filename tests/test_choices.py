@@ -7,9 +7,10 @@ import unittest
 from typing import Optional
 
 from dispatch_tools.days.choices import choices_in, lines_of, NoPlan
-from dispatch_tools.formats.runtext import Bad
+from dispatch_tools.formats.lines import Bad
 from dispatch_tools.here import words_of
 from tests.samples import text
+from tests.test_parts import text_of, WHOLE
 
 TOOL = os.path.abspath(__file__)
 
@@ -78,6 +79,28 @@ class OfWindows(unittest.TestCase):
         with self.assertRaises(NoPlan) as caught:
             choices_in(bytes_of('window_carried_to_a_passed_event'), None)
         self.assertIn('not-free', str(caught.exception))
+
+
+class OfPlansByParts(unittest.TestCase):
+    def test_run(self) -> None:
+        self.assertEqual(lines(text_of(WHOLE)), ['drop 5', 'first 5 3'])
+        self.assertEqual(choices_in(text_of(WHOLE), 1), choices_in(text_of(WHOLE), None))
+
+    def test_latest_of_either_kind(self) -> None:
+        plan = '3 plan 1 -> 1 plan open cost 975000 bound 900000 choices 1 nodes 1\nchoice drop 5\nopen 900000\n'
+        both = text_of(WHOLE + plan).replace(b'feed 1 3', b'feed 1 4').replace(b'3 adopt', b'4 adopt')
+        self.assertEqual(lines(both), ['drop 5'])
+        other = text_of(plan.replace('3 plan', '1 plan') + WHOLE).replace(b'feed 1 3', b'feed 1 4')
+        self.assertEqual(lines(other), ['drop 5', 'first 5 3'])
+
+    def test_window(self) -> None:
+        window = 'window 200 235 entry 1\n' + WHOLE.removeprefix('2 solve 100 -> 1 ')
+        self.assertEqual(lines(window.encode()), ['drop 5', 'first 5 3'])
+        carried = 'rebased 2 cost 7 choices 1\nchoice first 5 3\n'
+        self.assertEqual(lines((window + carried).encode()), ['first 5 3'])
+        for wrong in window.replace('rest 0', 'rest'), window.replace('solved', 'cost'), window.replace('parts 1', 'parts 2'):
+            with self.assertRaises(Bad):
+                choices_in(wrong.encode(), None)
 
 
 class Called(unittest.TestCase):

@@ -30,13 +30,15 @@ from dispatch_tools.formats.files import BadFile
 from dispatch_tools.formats.giv import read_network
 from dispatch_tools.formats.journal import Answered, Head
 from dispatch_tools.formats.names import read_stops
-from dispatch_tools.formats.runtext import Answer, Bad, Entry, Item, read_journal, Text
+from dispatch_tools.formats.lines import Bad, Text
+from dispatch_tools.formats.runtext import Answer, Entry, Item, read_journal
 from dispatch_tools.model.decide import in_turn
 from dispatch_tools.model.messages import Adopt, DelayActivity, DelayEvent, Drop, First, Keep, Message, Now, Pass, Recall
 from dispatch_tools.model.network import Network
 from dispatch_tools.model.railway import admit, Rows, times_of
 from tests.patience import PATIENCE
 from tests.samples import CASES, network
+from tests.test_parts import WHOLE
 
 CONNECTION = network('connection')
 DAYS = os.path.join(os.path.dirname(os.path.dirname(os.path.abspath(__file__))), 'examples', 'day')
@@ -45,6 +47,7 @@ HEAD = 'dm-store 1\npenalty 10\nplans 16\nfeeds 2\n'
 
 # The plan of the connection's example, as an answer in a log.
 PLAN = '3 plan 100 -> 1 plan optimal cost 940000 bound 940000 choices 2 nodes 3\nchoice drop 5\nchoice first 5 3\ninner change 5\nbound 1075000\nbound 940000\n'
+SOLVED = WHOLE.replace('2 solve', '3 solve')
 
 
 def block(content: str) -> bytes:
@@ -114,6 +117,7 @@ class Feeds(InStore):
     def test_lines_that_may_be_told(self) -> None:
         self.assertEqual(line_of('delay event', [41, 60]), 'delay event 41 60')
         self.assertEqual(line_of('plan', [100]), 'plan 100')
+        self.assertEqual(line_of('solve', [100]), 'solve 100')
         for kind, numbers in [
             ('now', [1]), ('adopt', []), ('delay event', [41]), ('delay event', [41, -1]), ('delay event', [41, True]), ('delay event', ['41', 60]),
             ('delay event', [41, 1.5]), ('delay event', [2 ** 32, 60]), ('adopt\ndrop', []), ('keep', {'5': 1}), (None, []), (['keep'], [5]),
@@ -260,6 +264,26 @@ class Rooms(InRoom):
         self.assertTrue(self.screen()['plan']['old'])
         self.assertEqual(self.room.enter_choices(3), 4)
         self.assertEqual(sorted(text for text, _ in self.room.pending.values()), ['drop 5', 'first 5 3'])
+
+    def test_plan_by_parts(self) -> None:
+        self.feed.tell(['# the number of the plan\'s line is 3', 'delay event 1 60', 'solve 100'])
+        delayed = '2 delay event 1 60 -> 1 ok\n'
+        self.say(round_of('', delayed + SOLVED))
+        self.room.compare_plan()
+        assert self.room.effect is not None
+        effect = self.room.effect[1]
+        self.assertEqual((effect['kept'], effect['dropped'], effect['turned'], effect['mark']), (0, 1, 1, 'optimal'))
+        self.assertTrue(effect['agrees'])
+        self.assertEqual(effect['parts'], [[2, 'Train 1, Train 5', 1, 3, '15.7 passenger minutes']])
+        self.assertEqual(effect['partCount'], 1)
+        told = self.screen()['told'][0]
+        self.assertEqual(told[1:4], ['a plan by parts of at most 100 nodes', 'solve 100', 'optimal plan by parts of 2 choices, 15.7 passenger minutes'])
+        self.assertEqual(self.room.tell('solve', [50]), 4)
+        self.assertRaises(Refused, self.room.adopt, 3)
+        self.say(round_of('', delayed + SOLVED), round_of('', SOLVED.replace('3 solve 100', '4 solve 50')), round_of('', '5 adopt -> 2 ok\n'))
+        self.assertEqual(self.screen()['plan']['adopted'], 2)
+        first = self.room.undo(5).line
+        self.assertEqual([self.room.pending[first + more][0] for more in (0, 1)], ['first 3 5', 'keep 5'])
 
     def test_the_feed_of_somebody_else_is_not_told(self) -> None:
         self.feed.tell(['delay event 1 60'])

@@ -9,7 +9,7 @@ import subprocess
 import tempfile
 import unittest
 import xml.etree.ElementTree as xml
-from typing import Any, Iterable, Sequence
+from typing import Any, Iterable, Optional, Sequence
 
 from dispatch_tools.dev.hostile_names import HOSTILE
 from dispatch_tools.formats.files import BadFile
@@ -19,12 +19,13 @@ from dispatch_tools.here import words_of
 from dispatch_tools.model.messages import BoundLeaf, CycleLeaf, Inner, Message, Node, Now, OpenLeaf
 from dispatch_tools.model.network import Change, Pair
 from dispatch_tools.model.network import Activity, Event, Network
-from dispatch_tools.pictures.diagram import drawing, frame_of
+from dispatch_tools.pictures.diagram import chosen_line, drawing, frame_of, part_of
 from dispatch_tools.pictures.scene import (
     cost_parts, distances, lines_of, links_of, path_of, read_scene, Scene, trains_of, turned_pairs,
 )
 from dispatch_tools.pictures.view import Cut, page, tree_part, upper_part
 from tests.samples import lines_of_run, network, text, TOP
+from tests.test_parts import EMPTY, FIRST, HEAD, SECOND, text_of, WHOLE
 
 
 def scene(folder: str, name: str) -> Scene:
@@ -96,8 +97,8 @@ class StatesOfChanges(unittest.TestCase):
 
 
 class Drawings(unittest.TestCase):
-    def draw(self, name: str, line: Iterable[int] = (1, 2, 3), **limits: int) -> str:
-        return ''.join(drawing(scene('connection', name), list(line), **limits))
+    def draw(self, name: str, line: Iterable[int] = (1, 2, 3), begin: Optional[int] = None, end: Optional[int] = None) -> str:
+        return ''.join(drawing(scene('connection', name), list(line), begin, end))
 
     def test_marks_of_an_adopted_plan(self) -> None:
         found = classes(self.draw('plan_that_is_adopted'))
@@ -190,6 +191,59 @@ class Pages(unittest.TestCase):
         self.assertEqual(upper_part(nodes, 4), [nodes[0], Cut(Pair(3, 5), 2), OpenLeaf(2)])
         self.assertEqual(upper_part(nodes, 2), [Cut(Change(5), 4)])
         self.assertIn('branches on pair 3 5, 2 nodes below', tree_part(upper_part(nodes, 4)))
+
+    def page_of(self, plan: str, names: bytes = b'') -> str:
+        """The page of a run over the connection with a plan by parts."""
+        with tempfile.TemporaryDirectory() as folder:
+            shutil.copytree(network('connection'), f'{folder}/net')
+            for name, content in ('text', text_of(plan)), ('net/Trains.csv', b'1;"' + names + b'"\n' if names else b''):
+                if content:
+                    with open(os.path.join(folder, name), 'wb') as file:
+                        file.write(content)
+            return page(read_scene(f'{folder}/net', f'{folder}/text'))
+
+    def test_parts_of_a_plan(self) -> None:
+        found = self.page_of(WHOLE)
+        self.assertIn('1 part, each of trains that decide together', found)
+        self.assertIn('Part 1: 2 trains, 1 choice, 3 nodes; 3 arrivals and 1 change cost 15.7 passenger minutes or more', found)
+        self.assertIn('<p>Train 1, Train 5</p><ul class="tree">', found)
+        self.assertIn('<b>drop 5</b>: <span>leaf 940000</span>', found)
+        self.assertIn('<td>solve 100</td><td>1 solved optimal cost 940000 bound 940000</td>', found)
+        self.assertIn('All else costs 0.0 passenger minutes or more.', found)
+        apart = self.page_of(HEAD.format(2, 4) + FIRST + SECOND + 'rest 0\n')
+        self.assertIn('Part 1: 1 train, 0 choices, 1 node; 2 arrivals and 0 changes', apart)
+        self.assertIn('<p>Train 1</p>', apart)
+
+    def test_parts_that_are_not_as_they_should_be(self) -> None:
+        found = self.page_of(WHOLE.replace('leaf 1075000', 'inner change 99').replace('events 2 4 6', 'events 2 4 99'))
+        self.assertIn('These nodes are no whole tree.', found)
+        found = self.page_of(HEAD.format(201, 201) + 201 * EMPTY + 'rest 940000\n')
+        self.assertIn('Part 200: 0 trains', found)
+        self.assertNotIn('Part 201', found)
+        self.assertIn('1 further part is left out.', found)
+
+    def test_trains_that_decide_together(self) -> None:
+        with tempfile.NamedTemporaryFile() as file:
+            file.write(text_of(HEAD.format(2, 4) + SECOND + FIRST + 'rest 0\n'))
+            file.flush()
+            made = read_scene(network('connection'), file.name)
+        for number, trains in (1, {0, 1}), (2, {0}):
+            together = part_of(made, number)
+            self.assertEqual(together.trains, trains)
+            svg = ''.join(drawing(made, [1, 2, 3, 4], together=together))
+            self.assertIn(f'; part {number} of 2 of the plan of entry 1</text>', svg)
+            self.assertEqual(svg.count('opacity="0.2"'), 2 - len(trains))
+        self.assertNotIn('opacity=', ''.join(drawing(made, [1, 2, 3, 4])))
+        self.assertEqual(chosen_line(made, None, part_of(made, 2)), [1, 2, 3])
+        for number, other, said in (3, made, 'has 2 parts'), (1, scene('connection', 'plan_that_is_adopted'), 'no plan by parts'):
+            with self.assertRaises(BadFile) as caught:
+                part_of(other, number)
+            self.assertIn(said, str(caught.exception))
+
+    def test_names_of_trains_in_parts_are_text(self) -> None:
+        found = self.page_of(WHOLE, b'<b onclick=x>')
+        self.assertIn('<p>&lt;b onclick=x&gt;, Train 5</p>', found)
+        self.assertNotIn('<b onclick', found)
 
     def test_cost_and_replies_stand_there(self) -> None:
         found = page(scene('connection', 'plan_that_is_adopted'))

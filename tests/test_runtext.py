@@ -5,7 +5,8 @@ import unittest
 
 from dispatch_tools.formats.files import BadFile
 from dispatch_tools.formats.giv import read_network
-from dispatch_tools.formats.runtext import Bad, read_run
+from dispatch_tools.formats.lines import Bad
+from dispatch_tools.formats.runtext import read_run
 from dispatch_tools.model.messages import Adopt, BoundLeaf, DelayEvent, Drop, First, Inner
 from dispatch_tools.model.network import Change
 from dispatch_tools.pictures.scene import read_scene

@@ -7,10 +7,10 @@ A DAY is one of these:
     SHAPE:NUMBER             a network of dispatch-tools shapes with delays of dispatch-tools scenarios
 
 By default there are days of 20 to 2,000 trains with the numbers 1 to 9, windows of 10, 20 and 40 minutes on days of 2,000 trains,
-and a day of each shape. The penalty is 3600, and a plan has 16,384 nodes. CBC, GLPK and HiGHS (Debian's coinor-cbc, glpk-utils
-and python3-scipy) solve the programme of dispatch-tools to_mps. Each gets at most --limit seconds (60): CBC of processor, the
-others by the clock. GLPK uses all of its cuts, and HiGHS is called by dispatch-tools by_highs. If a solver is not installed, its
-column says so. --solvers=CBC asks only that one.
+and a day of each shape. The penalty is 3600, and a plan has 16,384 nodes. A whole day has a plan by parts of as many nodes, too.
+CBC, GLPK and HiGHS (Debian's coinor-cbc, glpk-utils and python3-scipy) solve the programme of dispatch-tools to_mps. Each gets at
+most --limit seconds (60): CBC of processor, the others by the clock. GLPK uses all of its cuts, and HiGHS is called by
+dispatch-tools by_highs. If a solver is not installed, its column says so. --solvers=CBC asks only that one, and --solvers= none.
 
 Each line of the table has the cost in millions, the bound and the gap if the cost is not proved to be the least, the seconds of
 processor, and the most memory. The seconds are those of a run with the plan less one without it, for a window those of the whole
@@ -120,17 +120,17 @@ class Server:
 
 
 def plan_of(text: str) -> tuple[str, int, int]:
-    """The mark, cost and bound of the plan in a text."""
-    found = re.search(r'plan (optimal|open) cost (\d+) bound (\d+) ', text)
+    """The mark, cost and bound of the plan of either kind in a text."""
+    found = re.search(r'(?:plan|solved) (optimal|open) cost (\d+) bound (\d+) ', text)
     if found is None:
         raise Fault('there is no plan')
     return found[1], int(found[2]), int(found[3])
 
 
-def planned(server: Server, delays: Sequence[str]) -> Found:
-    """The plan of a whole day."""
+def planned(server: Server, delays: Sequence[str], word: str) -> Found:
+    """What a word comes to that asks for a plan of a whole day."""
     without = server.run(delays, 'text')
-    done = server.run([*delays, f'plan {BUDGET}'], 'plan')
+    done = server.run([*delays, f'{word} {BUDGET}'], 'plan')
     mark, cost, bound = plan_of(done.printed)
     return Found(cost, bound, mark == 'optimal', max(0, done.seconds - without.seconds), done.megabytes)
 
@@ -246,8 +246,9 @@ def compared(program: str, day: str, limit: int, solvers: Sequence[str]) -> dict
         posed = Posed(network, rows, PENALTY, window)
         programme = programme_of(posed)
         server.written('programme.mps', mps_text(programme).splitlines())
-        ours = planned(server, delays) if window is None else windowed(server, delays, window, network, rows)
-        return {'Server': ours} | {solver: solved(server, delays, solver, limit, posed, programme) for solver in solvers}
+        ours = planned(server, delays, 'plan') if window is None else windowed(server, delays, window, network, rows)
+        by_parts = planned(server, delays, 'solve') if window is None else None
+        return {'Server': ours, 'By parts': by_parts} | {solver: solved(server, delays, solver, limit, posed, programme) for solver in solvers}
 
 
 def contradictions(found: dict[str, Optional[Found]]) -> list[str]:
@@ -273,12 +274,12 @@ def main(argv: Sequence[str] | None = None) -> int:
     words.add_argument('--solvers', default=','.join(SOLVERS), metavar='S,S', help=f'({",".join(SOLVERS)})')
     words.add_argument('--csv', metavar='FILE', help='file that also gets the numbers')
     given = words.parse_args(argv)
-    solvers = given.solvers.split(',')
+    solvers = list(filter(None, given.solvers.split(',')))
     if not set(solvers) <= set(SOLVERS):
         words.error(f'--solvers: some of {", ".join(SOLVERS)}')
     rows: list[Iterable[object]] = [('day', 'program', *Found._fields)]
     faults = 0
-    print(f'| Day | Server | {" | ".join(solvers)} |\n|---|---' + '|---' * len(solvers) + '|')
+    print(f'| {" | ".join(["Day", "Server", "By parts", *solvers])} |\n' + '|---' * (3 + len(solvers)) + '|')
     for day in given.days or USUAL:
         try:
             found = compared(os.path.abspath(given.dispatcher), day, given.limit, solvers)

@@ -7,6 +7,7 @@ memory. A ratio of times has a bound, as below. The ratio of memory has the boun
     day        delays      a full feed of delays                      0.8
                mixed       a full feed of mixed lines                 1.3
                plans       16 plans of 4,096 nodes                    1.2
+               solved      16 plans by parts of 4,096 nodes           1.2
     country    questions, delays, activity-delays, drops, keeps       1.5
                feeds       1, 4, 16 and 64 full feeds at once         1.5
 
@@ -35,7 +36,8 @@ class Row(NamedTuple):
     repeats: int
 
 
-DAY = [Row('delays', ['full'], 0.8, 3), Row('mixed', ['mixed'], 1.3, 3), Row('plans', ['plans'], 1.2, 1)]
+DAY = [Row('delays', ['full'], 0.8, 3), Row('mixed', ['mixed'], 1.3, 3), Row('plans', ['plans'], 1.2, 1),
+       Row('solved', ['solved'], 1.2, 1)]
 ONE_FEED = [Row(name, [name], 1.5, 3) for name in ('questions', 'delays', 'activity-delays', 'drops', 'keeps')]
 FEEDS = [Row(f'{many} feeds', [f'feed{feed % 16 + 1}' for feed in range(many)], 1.5, 1) for many in (1, 4, 16, 64)]
 

@@ -216,7 +216,8 @@ def plans(browser: Browser, desk: Desk) -> None:
     fill(browser, 'nodes', '300')
     press(browser, 'Ask for a plan')
     until(browser, has('#planned', 'instead of') + ' && ' + has('#planned', 'Nothing was entered since'), 'what the plan would change')
-    for words in ('Choices', 'Trains', 'no choices cost less than', 'orders turned', 'at their last stop', 'earlier'):
+    for words in ('Choices', 'Trains', 'Trains that decide together', 'no choices on the whole network cost less', 'orders turned',
+                  'at their last stop', 'earlier'):
         if not browser.value(has('#planned', words)):
             raise Wrong(f'the comparison does not say "{words}"')
     desk.tell('delay event 141 60')
@@ -243,7 +244,7 @@ def tries(browser: Browser, desk: Desk) -> None:
     fill(browser, 'begin', '6:00')
     fill(browser, 'end', '6:30')
     press(browser, 'Plan this window')
-    until(browser, has('#windowed', 'instead of'), 'the window is compared')
+    until(browser, has('#windowed', 'instead of') + ' && ' + has('#windowed', 'no choices in this window cost less'), 'the window is compared')
     press(browser, 'Compare waiting rules')
     until(browser, "!!document.querySelector('#ruled svg polyline')", 'the rules are drawn')
     if browser.value(text('#entries')) != entries:

@@ -22,7 +22,8 @@ from concurrent.futures import ThreadPoolExecutor
 from typing import Optional, Sequence
 
 from dispatch_tools.days.generated import Draws, mixed, write_day, write_feed
-from dispatch_tools.formats.runtext import Bad, read_run
+from dispatch_tools.formats.lines import Bad
+from dispatch_tools.formats.runtext import read_run
 from dispatch_tools.oracle.drawing import keeps_rounds
 from dispatch_tools.words import add_program, command_line
 

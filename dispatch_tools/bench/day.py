@@ -8,6 +8,7 @@ FOLDER gets net/Events-expanded.giv, net/Activities-expanded.giv and these feeds
     mixed      every kind of line, as many as a feed may hold: delays of events and activities up and down, changes kept and
                dropped, pairs turned, passed events and recalls, the clock, and questions
     plans      delays; after each eighth a plan, its adoption and a question, up to the 16 plans of a feed
+    solved     the same with plans by parts
     questions  times and costs alone, as many as a feed may hold
 
 The trains run alike, 30 seconds apart, over ten legs each. Every eighth train shares its tracks, so the departures of its legs

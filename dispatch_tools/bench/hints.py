@@ -232,8 +232,12 @@ FEEDS = [
           'f line 3: "delay event 1 -60": a minus sign: numbers are 0 or more',
           'f line 4: "delay event 1": the form is `delay event E D` or `delay activity A D`',
           'f line 5: "late 1 60": no line begins with this word: '
-          'delay, pass, recall, keep, drop, first, now, time, cost, read, plan, adopt'],
+          'delay, pass, recall, keep, drop, first, now, time, cost, read, plan, solve, adopt'],
          feed(b'delay\tevent 1 60\nDelay event 1 60\ndelay event 1 -60\ndelay event 1\nlate 1 60\n')),
+    Case('plan by parts of no size', RUN, 0,
+         ['feed 1, f: malformed lines: 3', *(f'f line {line}: "{said}": the form is `solve B`' for line, said in
+                                             enumerate(['solve', 'solve 1 2', 'solve x'], 1)), 'lines answered with `range`: 2'],
+         feed(b'solve\nsolve 1 2\nsolve x\nsolve 0\nsolve 16385\n')),
     Case('byte order mark', RUN, 0,
          ['feed 1, f: malformed lines: 1',
           'f line 1: "\ufeffdelay event 1 60": a byte order mark stands before it: save the feed as UTF-8 without one'],
@@ -251,7 +255,7 @@ FEEDS = [
          feed(b'cost\ncost\r')),
     Case('five of seven lines', RUN, 0,
          ['feed 1, f: malformed lines: 7', '...', 'f line 5: "costs": no line begins with this word: '
-          'delay, pass, recall, keep, drop, first, now, time, cost, read, plan, adopt'], feed(b'costs\n' * 7)),
+          'delay, pass, recall, keep, drop, first, now, time, cost, read, plan, solve, adopt'], feed(b'costs\n' * 7)),
     Case('refusals by reason', RUN, 0,
          ['lines answered with `range`: 1', 'lines answered with `unknown-event`: 2', 'lines answered with `noplan`: 1'],
          feed(b'delay event 1 1000001\ndelay event 9 60\ntime 9\nadopt\n')),

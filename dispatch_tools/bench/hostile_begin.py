@@ -75,8 +75,9 @@ def list_of_sums(day: Day) -> None:
     refused(day, b'refused store files\n')
 
 
-def plan_waits(day: Day, is_read: Callable[[], bool] = lambda: True) -> None:
-    """A server whose journal is short of room lets the second feed wait that asks for a plan, and answers what the third one says."""
+def plan_waits(day: Day, word: bytes, is_read: Callable[[], bool] = lambda: True) -> None:
+    """A server whose journal is short of room lets the second feed wait that asks for a plan, of the kind that a word asks for, and
+    answers what the third one says."""
     said = day.folder / 'said'
     with said.open('wb') as file:
         server = day.begun(file, 10 * PATIENCE)
@@ -84,7 +85,7 @@ def plan_waits(day: Day, is_read: Callable[[], bool] = lambda: True) -> None:
         day.ask(server)
         time.sleep(1)
     shown = day.reply(1)
-    day.append(1, b'plan 30\n')
+    day.append(1, word + b' 30\n')
     day.ask(server)
     time.sleep(1)
     day.ask(server)
@@ -98,11 +99,11 @@ def plan_waits(day: Day, is_read: Callable[[], bool] = lambda: True) -> None:
 
 def journal_short_of_room(day: Day) -> None:
     """From four fifths of a journal on a plan waits, also behind a restart. Here closed bytes fill it, which the start cuts away later."""
-    for _ in range(2):
+    for word in (b'solve', b'plan'):
         os.truncate(day.store / 'journal', SHORT)
-        plan_waits(day)
+        plan_waits(day, word)
     goes_on(day)
-    if day.reply(1).count(b' plan 30 -> ') != 2:
+    if any(day.reply(1).count(b' %s 30 -> ' % word) != 1 for word in (b'solve', b'plan')):
         raise Wrong('plans were not made where there is room again')
 
 
@@ -110,5 +111,5 @@ def journal_filled(day: Day) -> None:
     """The same with a journal that is filled by answers."""
     day.append(0, b'x\n' * (MUCH - 10))
     day.options = ['--batch=1000000']
-    for _ in range(2):
-        plan_waits(day, lambda: day.reply(0).endswith(b'\n%d malformed\n' % MUCH))
+    for word in (b'plan', b'solve'):
+        plan_waits(day, word, lambda: day.reply(0).endswith(b'\n%d malformed\n' % MUCH))

@@ -12,7 +12,7 @@ PATIENCE = 120
 
 # What the feeds hold: lines that are answered, and lines that are not.
 FEEDS = (
-    b'# the first feed\ndelay event 1 60\n\ncost\ntime 2\nplan 30\nadopt\nread\nno line\ndelay event 21 120\n',
+    b'# the first feed\ndelay event 1 60\n\ncost\ntime 2\nsolve 30\nadopt\nread\nno line\ndelay event 21 120\n',
     b'cost\n   \ndelay event 41 30\r\n# a word\ndelay event 41 0\npass 1 22000\n',
     b'read\n',
 )

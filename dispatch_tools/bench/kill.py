@@ -33,7 +33,7 @@ from dispatch_tools.words import add_program, command_line
 LIVES = 500
 FEEDS = 3
 PLANS = 12
-ODD = ['\n', '   \n', '# a word\n', 'delay\n', 'time  7\r\n', 'adopt\n', 'x' * 1500 + '\n', 'plan 0\n', 'delay event 1 1 1\n']
+ODD = ['\n', '   \n', '# a word\n', 'delay\n', 'time  7\r\n', 'adopt\n', 'x' * 1500 + '\n', 'plan 0\n', 'solve 0\n', 'delay event 1 1 1\n']
 
 
 class Wrong(Exception):
@@ -41,7 +41,7 @@ class Wrong(Exception):
 
 
 def lines_of(number: int, trains: int) -> Iterator[str]:
-    """The lines of a feed, without end: those of a generated day, some plans, and some that are odd."""
+    """The lines of a feed, without end: those of a generated day, some plans of both kinds, and some that are odd."""
     draws, plans = random.Random(number), 0
     for line in mixed(Draws(number), trains):
         yield line
@@ -49,7 +49,7 @@ def lines_of(number: int, trains: int) -> Iterator[str]:
             yield draws.choice(ODD)
         if plans < PLANS and draws.random() < 0.004:
             plans += 1
-            yield f'plan {draws.choice([1, 30, 300])}\n'
+            yield f'{draws.choice(["plan", "solve"])} {draws.choice([1, 30, 300])}\n'
             yield 'adopt\n'
 
 

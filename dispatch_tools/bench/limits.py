@@ -8,6 +8,7 @@ checked, and its journal followed:
     broad      100,000 events with 500,000 activities, five out of each
     feeds      64 feeds of 262,144 bytes of delays: nearly as many entries as a day may have, and a text of some 80 MB
     deep       a plan whose tree is 8,191 choices deep: each choice has one leaf below it, and beside that the next choice
+    apart      a plan by parts of 5,461 parts: so many late trains, each with one change that is to be kept or dropped
     long       no run, but the longest text that is checked, 512 MiB: that of a feed of some 28 million malformed lines
 
 A row has the seconds of processor and the most megabytes of each command at either size. A line says if a command ends otherwise
@@ -28,6 +29,7 @@ from dispatch_tools.words import add_program, command_line
 EVENTS = 100_000
 FEEDS = 64
 DEPTH = 8_191
+PARTS = 5_461
 TEXT = 536_870_912
 STACK = 8 << 20
 GROWTH = 2.3
@@ -125,6 +127,20 @@ def deep(folder: str, part: int) -> list[str]:
     return write_feeds(folder, [('f', 'delay event 1 600\nplan 16384\n')])
 
 
+def apart(folder: str, part: int) -> list[str]:
+    """Many late trains, each with a change to a train of its own: three nodes decide each, and all of them have as many as there may be."""
+    events: Events = []
+    activities: Activities = []
+    count = PARTS // part
+    for _ in range(count):
+        events += [('departure', 100, 0), ('arrival', 200, 0), ('departure', 220, 0), ('arrival', 300, 1)]
+        first = len(events) - 3
+        activities += [('drive', first, first + 1, 100, 0), ('drive', first + 2, first + 3, 80, 0), ('change', first + 1, first + 2, 20, 1)]
+    write_net(folder, events, activities)
+    delays = ''.join(f'delay event {4 * number + 1} 600\n' for number in range(count))
+    return write_feeds(folder, [('f', f'{delays}solve 16384\n')])
+
+
 def lines_within(size: int) -> int:
     """How many malformed lines, numbered from 1, a log has in so many bytes."""
     count, digits = 0, 1
@@ -150,7 +166,7 @@ def long(folder: str, part: int) -> list[str]:
     return []
 
 
-CASES = {'along': along, 'against': against, 'broad': broad, 'feeds': feeds, 'deep': deep, 'long': long}
+CASES = {'along': along, 'against': against, 'broad': broad, 'feeds': feeds, 'deep': deep, 'apart': apart, 'long': long}
 
 
 def sized(program: str, make: Making, part: int) -> tuple[dict[str, Measured], float]:

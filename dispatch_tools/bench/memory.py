@@ -5,7 +5,7 @@ dispatch-tools day if several workers search. Each time another call for memory 
 a run makes fewer calls. A run to which memory is refused has to end within a minute. It ends with status 6 and nothing written,
 or with the status and the text that it has with enough memory. A line names each other end, and the status is then 1. Each case
 has a row with the number of calls, and of ends of each kind. With several workers the order of the calls depends on their
-threads, and so does the tree of a plan. There each text will do that `check` finds good.
+threads, and so do the trees of plans. There each text will do that `check` finds good.
 
 With --calls, PROGRAM is the built program of dm_memory_cases, which makes each call again to which memory was refused. Whichever
 call is refused, it has to print the same.
@@ -58,8 +58,8 @@ NO_MEMORY = 6
 # The trains of the day.
 TRAINS = 12
 
-PLAN = b'delay event 1 60\nplan 100\nadopt\n'
-DAY_PLAN = ''.join([*islice(delays(Draws(7), TRAINS), 500), 'plan 100\n']).encode()
+PLAN = b'delay event 1 60\nplan 100\nsolve 100\nadopt\n'
+DAY_PLAN = ''.join([*islice(delays(Draws(7), TRAINS), 500), 'plan 100\n', 'solve 100\n']).encode()
 
 # The words of each case and the bytes of its feed. The text is that of the run `plan`.
 CASES = {

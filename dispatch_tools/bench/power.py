@@ -51,7 +51,7 @@ FIRST = (
     b'cost\n   \ndelay event 41 30\r\n# a word\ndelay event 41 0\npass 1 22000\ncost\n',
     b'read\ntime 3\n',
 )
-SECOND = (b'delay event 2 90\nplan 10\ncost\n', b'time 5\ndelay event 61 30\n', b'now 22001\n')
+SECOND = (b'delay event 2 90\nsolve 10\ncost\n', b'time 5\ndelay event 61 30\n', b'now 22001\n')
 
 
 # ---- what the order of the calls has to be

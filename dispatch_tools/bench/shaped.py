@@ -6,10 +6,11 @@ has a row:
 
     load      the seconds of processor of a run of an empty feed
     a delay   those of a feed full of drawn delays, less the load, for each of its lines
-    a plan    those of a plan of 16,384 nodes, less those of the run without it
+    a plan    those of a plan of 16,384 nodes, and of one by parts, less those of the run without it
 
-The plan is for a day that dispatch-tools scenarios draws from --number: mixed, with a delay for three trains of ten. The row also
-has its cost and bound in millions, and the gap. `check` judges the texts. The last line says where the gap is largest.
+The plans are for a day that dispatch-tools scenarios draws from --number: mixed, with a delay for three trains of ten. The row also
+has the cost and bound of each in millions, and its gap. `check` judges the texts. The last line says where the gap by parts is
+largest.
 """
 from __future__ import annotations
 
@@ -18,7 +19,7 @@ import tempfile
 from dataclasses import replace
 from typing import Iterator, Sequence
 
-from dispatch_tools.bench.against import Fault, planned, Server
+from dispatch_tools.bench.against import Fault, Found, planned, Server
 from dispatch_tools.days.delays import Drawing, drawn_day, Lines, size_of, told_lines
 from dispatch_tools.days.from_gtfs import texts_of
 from dispatch_tools.days.generated import Draws, FEED, write_day
@@ -55,8 +56,20 @@ def many_delays(network: Network) -> Iterator[str]:
         yield line
 
 
+def gap_of(plan: Found) -> float:
+    """The gap of a plan, in per cent of its cost."""
+    assert plan.cost is not None and plan.bound is not None
+    return 100 * (plan.cost - plan.bound) / plan.cost if plan.cost else 0.0
+
+
+def cells_of(plan: Found) -> str:
+    """The seconds, the cost, the bound and the gap of a plan."""
+    assert plan.cost is not None and plan.bound is not None
+    return f'{plan.seconds:.2f} s | {plan.cost / 1e6:.2f} | {plan.bound / 1e6:.2f} | {gap_of(plan):.2f} %'
+
+
 def line_of(program: str, shape: str, number: int) -> tuple[str, float]:
-    """The line of a shape, and its gap."""
+    """The line of a shape, and its gap by parts."""
     with tempfile.TemporaryDirectory() as folder:
         net, network = written(shape, folder)
         server = Server(program, net, folder)
@@ -64,12 +77,10 @@ def line_of(program: str, shape: str, number: int) -> tuple[str, float]:
         delays = list(many_delays(network))
         delay = (server.run(delays, 'delays').seconds - load) / len(delays)
         told = drawn_day(Lines(network), Drawing('mixed', 0.3, size_of('exponential:300')), number, 1)
-        plan = planned(server, told_lines(told))
-        assert plan.cost is not None and plan.bound is not None
-        gap = 100 * (plan.cost - plan.bound) / plan.cost if plan.cost else 0.0
+        plans = [planned(server, told_lines(told), word) for word in ('plan', 'solve')]
         sizes = f'{len(network.events)} | {len(network.activities)} | {len(free_choices(network, Rows(network)))}'
-        return (f'| {shape} | {sizes} | {load:.2f} s | {delay * 1e6:.0f} µs | {plan.seconds:.2f} s | {plan.cost / 1e6:.2f} '
-                f'| {plan.bound / 1e6:.2f} | {gap:.2f} % |'), gap
+        cells = ' | '.join(map(cells_of, plans))
+        return f'| {shape} | {sizes} | {load:.2f} s | {delay * 1e6:.0f} µs | {cells} |', gap_of(plans[-1])
 
 
 def main(argv: Sequence[str] | None = None) -> int:
@@ -78,7 +89,8 @@ def main(argv: Sequence[str] | None = None) -> int:
     words.add_argument('shapes', nargs='*', metavar='SHAPE', help='shapes, or gen (all four, and gen)')
     words.add_argument('--number', type=int, default=1, metavar='S', help='number from which the day is drawn (1)')
     given = words.parse_args(argv)
-    print('| Shape | Events | Activities | Choices | Load | A delay | A plan | Cost | Bound | Gap |\n' + '|---' * 10 + '|')
+    columns = ['Shape', 'Events', 'Activities', 'Choices', 'Load', 'A delay', 'A plan', 'Cost', 'Bound', 'Gap', 'By parts', 'Cost', 'Bound', 'Gap']
+    print(f'| {" | ".join(columns)} |\n' + '|---' * len(columns) + '|')
     gaps = {}
     for shape in given.shapes or [*USUAL, 'gen']:
         try:
@@ -87,5 +99,5 @@ def main(argv: Sequence[str] | None = None) -> int:
             print(f'{shape}: {fault}')
             return 1
         print(line, flush=True)
-    print(f'\nThe gap is worst at {max(gaps, key=lambda shape: gaps[shape])}.')
+    print(f'\nThe gap by parts is worst at {max(gaps, key=lambda shape: gaps[shape])}.')
     return 0

@@ -1,10 +1,11 @@
-"""Times plans that are searched by several workers: dispatch-tools workers DISPATCHER [TRAINS ..]
+"""Times plans that are searched by several workers: dispatch-tools workers DISPATCHER [TRAINS ..] [--solve]
 
-For each number of trains (40, 200, 500 and 2,000) it takes the day of dispatch-tools day with number 7, its 500 delays, and after
-them `plan 16384`. It runs these with 1, 2 and 4 workers, and the delays alone with one. All run in turn, nine times. The least
-time by the clock counts, less that of the delays alone. With 2,000 trains two workers may take at most 0.7 of the time of one,
-and four at most 0.5. The text of several workers has to be that of one. What takes longer or prints another text is marked, and
-the status is then 1. Run it on a machine that does nothing else and has four processors.
+For each number of trains (40, 200, 500 and 2,000) it takes the day of dispatch-tools day with number 7, its 500 delays, and
+after them `plan 16384`, or with --solve `solve 16384`. It runs these with 1, 2 and 4 workers, and the delays alone with one.
+All run in turn, nine times. The least time by the clock counts, less that of the delays alone. With 2,000 trains two workers
+may take at most 0.7 of the time of one, and four at most 0.5. The text of several workers has to be that of one. What takes
+longer or prints another text is marked, and the status is then 1. Run it on a machine that does nothing else and has four
+processors.
 """
 from __future__ import annotations
 
@@ -44,13 +45,13 @@ def timed(program: str, folder: str, feed: str, workers: int) -> tuple[str, floa
     return taken.printed, taken.wall
 
 
-def searched(program: str, trains: int) -> dict[int, Searched]:
+def searched(program: str, trains: int, word: str) -> dict[int, Searched]:
     """What each number of workers comes to on a day."""
     with tempfile.TemporaryDirectory() as folder:
         write_day(NUMBER, trains, folder)
         delays = os.path.join(folder, 'delays')
         with open(delays, encoding='ascii') as file:
-            planned = write(folder, 'planned', [*file, 'plan 16384\n'])
+            planned = write(folder, 'planned', [*file, f'{word} 16384\n'])
         alone: list[float] = []
         least: dict[int, list[float]] = {workers: [] for workers in WORKERS}
         texts: dict[int, str] = {}
@@ -75,9 +76,9 @@ def faults_of(trains: int, workers: int, plan: Searched, one: Searched) -> Itera
         yield 'another text'
 
 
-def print_day(program: str, trains: int) -> bool:
+def print_day(program: str, trains: int, word: str) -> bool:
     """Prints the lines of a day, and says whether none is over its bounds."""
-    plans = searched(program, trains)
+    plans = searched(program, trains, word)
     one, good = plans[1], True
     for workers, plan in plans.items():
         faults = list(faults_of(trains, workers, plan, one)) if workers > 1 else []
@@ -91,7 +92,8 @@ def main(argv: Sequence[str] | None = None) -> int:
     words = command_line(__doc__)
     add_program(words)
     words.add_argument('trains', metavar='TRAINS', nargs='*', type=int, default=TRAINS, help='trains of a day (40 to 2,000)')
+    words.add_argument('--solve', action='store_true', help='ask for plans by parts')
     given = words.parse_args(argv)
     print('trains workers      cost     bound      time ratio')
-    good = [print_day(given.program, trains) for trains in given.trains]
+    good = [print_day(given.program, trains, 'solve' if given.solve else 'plan') for trains in given.trains]
     return not all(good)

@@ -18,7 +18,8 @@ import sys
 from typing import Sequence
 
 from dispatch_tools.days.choices import bytes_of, choices_in, lines_of, NoPlan
-from dispatch_tools.formats.runtext import Bad, MOST_FEEDS
+from dispatch_tools.formats.lines import Bad
+from dispatch_tools.formats.runtext import MOST_FEEDS
 from dispatch_tools.words import command_line, whole_between
 
 

@@ -22,7 +22,8 @@ from dispatch_tools.days.choices import choices_of_run, NoPlan
 from dispatch_tools.desk.concerns import change_place, lines_of, met_all_the_same, of_decisions, people, picture, say
 from dispatch_tools.desk.naming import Naming
 from dispatch_tools.formats.files import BadFile, speak_utf8, write_all
-from dispatch_tools.formats.runtext import MOST_FEEDS, Text
+from dispatch_tools.formats.lines import Text
+from dispatch_tools.formats.runtext import MOST_FEEDS
 from dispatch_tools.model.messages import Drop, Keep
 from dispatch_tools.pictures.scene import read_scene
 from dispatch_tools.words import add_run, command_line, whole_between

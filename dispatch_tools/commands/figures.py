@@ -3,13 +3,13 @@
 NET is the folder of a network, and TEXT the text of a run over it. The figures are about the rows after all entries of TEXT.
 FOLDER gets three of them, each as a picture (.svg) and as a table (.csv). Costs are in thousandths of passenger seconds:
 
-    rules      the cost of each waiting rule: `never`, at most k seconds, `always`; beside them the cost and the bound of a plan
-    budgets    the cost and the bound of a plan by its budget of nodes
-    lateness   how late the arrivals of each quarter of an hour are, before and after a plan is adopted
+    rules      the cost of each waiting rule: `never`, at most k seconds, `always`; beside them that of a plan by parts, and its bound
+    budgets    the cost and the bound of a plan, and of one by parts, by the budget of nodes
+    lateness   how late the arrivals of each quarter of an hour are, before and after a plan by parts is adopted
 
-The last column of a table is the command that made the numbers of its row. The last figure comes from a run of the file `feed` in
-FOLDER. Its lines bring back the rows of TEXT, ask for a plan and adopt it. PROGRAM is the built program. The script calls its
-commands `rules` and `run` some forty times. Standard error shows how far it is.
+The last column of a table is the command that made the numbers of its row. Plans by parts come from a run of the file `feed` in
+FOLDER. Its lines bring back the rows of TEXT, ask for the plans and adopt the last one. PROGRAM is the built program. The script
+calls its commands `rules` and `run` some forty times. Standard error shows how far it is.
 
 The status is 2, and no picture is written, if a file or a text is not good, or if PROGRAM says so.
 """

@@ -14,7 +14,8 @@ import sys
 from typing import Iterator, Sequence
 
 from dispatch_tools.formats.files import BadFile, speak_utf8
-from dispatch_tools.formats.runtext import Bad, heard, Item, read_whole_item, Text
+from dispatch_tools.formats.lines import Bad, Text
+from dispatch_tools.formats.runtext import heard, Item, read_whole_item
 from dispatch_tools.live.feed_file import append, take_turn
 from dispatch_tools.words import command_line
 

@@ -7,7 +7,7 @@ its own, whatever stands in names. It shows
     a box that finds a train, a trip, an event or a stop
     the run of a train, and the board of a stop: scheduled, now, late
     the journal, with each reply
-    each plan: its choices, and its tree as a list that folds, with the bounds
+    each plan: its choices, and its tree as a list that folds, with the bounds; of a plan by parts which trains decide together
     the cost: of late arrivals, of dropped changes and of missed ones
 
 The page works by keyboard, in light and dark, and on a narrow screen. Names come from NET/Stops.csv and NET/Trains.csv, if these

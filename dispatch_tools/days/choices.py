@@ -4,10 +4,11 @@ from __future__ import annotations
 import sys
 from typing import Iterator
 
-from dispatch_tools.formats.runtext import (
-    Answer, fits, NUMBER, read_decision, read_journal, read_log, read_plan, read_plan_head, Text, VALUE,
-)
+from dispatch_tools.formats.lines import fits, NUMBER, Text, VALUE
+from dispatch_tools.formats.plan_text import read_decision
+from dispatch_tools.formats.runtext import PLANNED, read_answer, read_journal, read_log, read_planned
 from dispatch_tools.model.messages import Decision
+from dispatch_tools.model.parts import PlanByParts
 from dispatch_tools.model.railway import MOST_ENTRIES, Plan
 
 
@@ -15,12 +16,12 @@ class NoPlan(Exception):
     """The text has no plan whose choices could be said; the argument says why."""
 
 
-def plans_of_run(text: Text, feed: int | None) -> Iterator[Plan]:
-    """The plans in the logs of a run, of all feeds or of one."""
+def plans_of_run(text: Text, feed: int | None) -> Iterator[Plan | PlanByParts]:
+    """The plans of both kinds in the logs of a run, of all feeds or of one."""
     version, _, feeds, _ = read_journal(text)
     for number in range(1, feeds + 1):
         for item in read_log(text, version, number).items:
-            if item.answer is not None and item.answer.kind == 'plan' and feed in (None, number):
+            if item.answer is not None and item.answer.kind in PLANNED and feed in (None, number):
                 yield item.answer.value
 
 
@@ -69,9 +70,9 @@ def choices_of_window(text: Text) -> tuple[Decision, ...]:
     words = text.words()
     if words[0] == 'held':
         words = text.words()
-    head = read_plan_head(words, 2)
-    text.demand(head is not None, 'form')
-    choices = read_plan(text, 2, Answer('plan', entry, head)).choices
+    answer = text.sure(read_answer([str(entry), *words], 2))
+    text.demand(answer.kind in PLANNED, 'form')
+    choices = read_planned(text, 2, answer).choices
     if not text.has_more():
         return choices
     words = text.words()

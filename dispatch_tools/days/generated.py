@@ -106,12 +106,12 @@ def mixed(draws: Draws, trains: int) -> Iterator[str]:
             yield f'time {departure(train, leg) + 1}\n'
 
 
-def plans(draws: Draws, trains: int) -> Iterator[str]:
+def plans(draws: Draws, trains: int, word: str) -> Iterator[str]:
     source = delays(draws, trains)
     for number in range(1, 129):
         yield next(source)
         if number % 8 == 0:
-            yield 'plan 4096\n'
+            yield f'{word} 4096\n'
             yield 'adopt\n'
             yield 'cost\n'
 
@@ -138,5 +138,6 @@ def write_day(number: int, trains: int, folder: str) -> None:
     write_feed(folder, 'delays', delays(Draws(number), trains), 500)
     write_feed(folder, 'full', delays(Draws(number), trains))
     write_feed(folder, 'mixed', mixed(Draws(number), trains))
-    write_feed(folder, 'plans', plans(Draws(number), trains))
+    write_feed(folder, 'plans', plans(Draws(number), trains, 'plan'))
+    write_feed(folder, 'solved', plans(Draws(number), trains, 'solve'))
     write_feed(folder, 'questions', questions(Draws(number), trains))

@@ -9,7 +9,7 @@ from dispatch_tools.formats.files import BadFile, in_one_line, text_of
 from dispatch_tools.formats.giv import ACTIVITIES, activity_row, decimal, event_row, EVENTS, rows_of_file
 from dispatch_tools.formats.names import numbered
 from dispatch_tools.formats.runtext import due_items
-from dispatch_tools.model.messages import AskPlan, AskTime, DelayActivity, DelayEvent, Drop, First, Keep, Now, Pass, Recall, Said
+from dispatch_tools.model.messages import AskPlan, AskSolve, AskTime, DelayActivity, DelayEvent, Drop, First, Keep, Now, Pass, Recall, Said
 from dispatch_tools.model.network import Activity, Event, Network
 from dispatch_tools.model.railway import LARGEST_DELAY, LARGEST_PASSED
 
@@ -197,7 +197,7 @@ def range_of(said: Said) -> Optional[str]:
         return f'{said.seconds} is above {LARGEST_DELAY}'
     if isinstance(said, (Pass, Now)) and said.time > LARGEST_PASSED:
         return f'{said.time} is above {LARGEST_PASSED}'
-    if isinstance(said, AskPlan) and not 1 <= said.budget <= 16_384:
+    if isinstance(said, (AskPlan, AskSolve)) and not 1 <= said.budget <= 16_384:
         return f'a plan has 1 to 16384 nodes, not {said.budget}'
     return None
 

@@ -14,7 +14,8 @@ from typing import Callable, Optional, Sequence
 from dispatch_tools.days.choices import choices_in
 from dispatch_tools.days.delays import Told
 from dispatch_tools.formats.files import BadFile
-from dispatch_tools.formats.runtext import Bad, read_decision
+from dispatch_tools.formats.lines import Bad
+from dispatch_tools.formats.plan_text import read_decision
 from dispatch_tools.model.decide import in_turn
 from dispatch_tools.model.messages import Decision, DelayEvent, Message, Now, Pass
 from dispatch_tools.model.network import Network

@@ -18,7 +18,7 @@ from typing import Callable, Iterable, Sequence
 
 from dispatch_tools.days.playing import Played
 from dispatch_tools.formats.files import BadFile
-from dispatch_tools.formats.runtext import read_decision
+from dispatch_tools.formats.plan_text import read_decision
 from dispatch_tools.model.messages import Decision
 from dispatch_tools.model.network import Choice, Network
 from dispatch_tools.model.railway import (

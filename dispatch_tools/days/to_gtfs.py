@@ -11,7 +11,8 @@ from dispatch_tools.formats.files import BadFile
 from dispatch_tools.formats.giv import read_network
 from dispatch_tools.formats.gtfs_rows import clock, Feed
 from dispatch_tools.formats.names import EventName, named_trip, read_events, read_trains, TrainName, trip_in_feed
-from dispatch_tools.formats.runtext import Bad, read_run
+from dispatch_tools.formats.lines import Bad
+from dispatch_tools.formats.runtext import read_run
 from dispatch_tools.model.network import Event
 
 STOP_TIMES = ('trip_id', 'arrival_time', 'departure_time', 'stop_id', 'stop_sequence')

@@ -10,7 +10,9 @@ from typing import NamedTuple, Optional, Sequence
 
 from dispatch_tools.days.playing import Program
 from dispatch_tools.formats.files import BadFile
-from dispatch_tools.formats.runtext import Answer, Bad, Entry, NUMBER, read_message, read_plan, read_plan_head, read_time, Text
+from dispatch_tools.formats.lines import Bad, NUMBER, Text
+from dispatch_tools.formats.plan_text import read_plan, read_plan_head
+from dispatch_tools.formats.runtext import Entry, read_message, read_time
 from dispatch_tools.model.messages import Adopt, Decision
 from dispatch_tools.model.network import Network
 from dispatch_tools.model.railway import apply, cost_of, Plan, Rows, sound_times
@@ -77,7 +79,7 @@ class Asking:
             words = text.words()
             if words[0] == 'held':
                 words = text.words()
-            return read_plan(text, 2, Answer('plan', len(entries), text.sure(read_plan_head(words, 2))))
+            return read_plan(text, 2, len(entries), text.sure(read_plan_head(words, 2)))
         except Bad as bad:
             raise BadFile(self.program.name, None, 'it answers `window` in another form') from bad
 

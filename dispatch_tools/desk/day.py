@@ -11,9 +11,11 @@ from dispatch_tools.desk.naming import Naming
 from dispatch_tools.desk.reckoning import Reckoning
 from dispatch_tools.desk.undoing import reversal
 from dispatch_tools.formats.journal import Answered, Head
-from dispatch_tools.formats.runtext import Bad, Item, Run
+from dispatch_tools.formats.lines import Bad
+from dispatch_tools.formats.runtext import Item, PLANNED, Run
 from dispatch_tools.model.messages import AdoptLast, Message
 from dispatch_tools.model.network import Network
+from dispatch_tools.model.parts import PlanByParts
 from dispatch_tools.model.railway import is_met, Plan, refusal_at_once, Rows
 from dispatch_tools.pictures.scene import changes_of, Scene, trains_of
 
@@ -80,7 +82,7 @@ class Day:
         self.items = [0]
         self.heard = [time.monotonic()]
         self.told: deque[Told] = deque(maxlen=SHOWN)
-        self.plan: Optional[Plan] = None
+        self.plan: Optional[Plan | PlanByParts] = None
         self.plan_line = 0
         self.adopted = 0
         self.lateness = [self.lateness_of(train) for train in self.trains]
@@ -132,8 +134,8 @@ class Day:
         return touched
 
     def take_plan(self, item: Item, number: Optional[int]) -> None:
-        """The last plan of the desk's own feed, the line that asked for it, and whether it was adopted."""
-        if item.answer is not None and item.answer.kind == 'plan':
+        """The last plan of the desk's own feed, of either kind, the line that asked for it, and whether it was adopted."""
+        if item.answer is not None and item.answer.kind in PLANNED:
             self.plan, self.plan_line, self.adopted = item.answer.value, item.line, 0
         elif isinstance(item.said, AdoptLast) and number is not None:
             self.adopted = number

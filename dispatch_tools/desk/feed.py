@@ -5,12 +5,13 @@ import os
 from itertools import islice
 from typing import Optional, Sequence
 
-from dispatch_tools.formats.runtext import heard, LINES, read_form
+from dispatch_tools.formats.lines import read_form
+from dispatch_tools.formats.runtext import heard, LINES
 from dispatch_tools.live.feed_file import append
-from dispatch_tools.model.messages import AskPlan, Said
+from dispatch_tools.model.messages import AskPlan, AskSolve, Said
 
 # What may be entered or asked on the page. The clock and other questions are for other feeds, and a plan is adopted by its line.
-TOLD = ('delay event', 'delay activity', 'pass', 'recall', 'keep', 'drop', 'first', 'plan')
+TOLD = ('delay event', 'delay activity', 'pass', 'recall', 'keep', 'drop', 'first', 'plan', 'solve')
 
 
 def line_of(kind: object, numbers: object) -> Optional[str]:
@@ -49,10 +50,10 @@ class Feed:
             self.size += len(piece)
 
     def asks_for_a_plan(self, behind: int) -> bool:
-        """Whether a line behind this one asks for a plan."""
+        """Whether a line behind this one asks for a plan of either kind."""
         with open(self.path, encoding='latin-1', newline='\n') as file:
             found = (heard(line.rstrip('\n').removesuffix('\r')) for line in islice(file, behind, None))
-            return any(isinstance(said, AskPlan) for said in found)
+            return any(isinstance(said, (AskPlan, AskSolve)) for said in found)
 
     def said(self, most: int) -> list[Optional[Said]]:
         """What the first lines say."""

@@ -5,7 +5,7 @@ from typing import Any, Optional
 
 from dispatch_tools.formats.runtext import Answer
 from dispatch_tools.model.messages import (
-    Adopt, AdoptLast, AskCost, AskEntries, AskPlan, AskTime, Decision, DelayActivity, DelayEvent, First, Keep, Message, Now, Pass,
+    Adopt, AdoptLast, AskCost, AskEntries, AskPlan, AskSolve, AskTime, Decision, DelayActivity, DelayEvent, First, Keep, Message, Now, Pass,
     Recall, Refusal, Said, Statement, STATEMENTS,
 )
 from dispatch_tools.model.network import Network
@@ -81,6 +81,8 @@ class Naming:
             return f'{self.event_of(said.event)}: when?'
         if isinstance(said, AskPlan):
             return f'a plan of at most {counted(said.budget, "node", "nodes")}'
+        if isinstance(said, AskSolve):
+            return f'a plan by parts of at most {counted(said.budget, "node", "nodes")}'
         if isinstance(said, AskCost):
             return 'what does the day cost?'
         if isinstance(said, AskEntries):
@@ -144,7 +146,8 @@ class Naming:
             return f'refused: {value} is out of range'
         if answer.kind == 'refused':
             return f'refused: {self.refusal(value)}'
-        return f'{value.mark} plan of {counted(len(value.choices), "choice", "choices")}, {cost_words(value.cost)}'
+        plan = 'plan by parts' if answer.kind == 'solved' else 'plan'
+        return f'{value.mark} {plan} of {counted(len(value.choices), "choice", "choices")}, {cost_words(value.cost)}'
 
     def refusal(self, refusal: Refusal) -> str:
         kind, said = refusal.reason, refusal.numbers

@@ -20,9 +20,10 @@ from dispatch_tools.desk.screen import screen_of
 from dispatch_tools.desk.undoing import turned_back
 from dispatch_tools.formats.files import BadFile
 from dispatch_tools.formats.journal import Answered, Blocks, journal_of, read_head, Rounds
-from dispatch_tools.formats.runtext import Bad
+from dispatch_tools.formats.lines import Bad
 from dispatch_tools.model.decide import in_turn
 from dispatch_tools.model.messages import AdoptLast, Decision, DECISIONS
+from dispatch_tools.model.parts import PlanByParts
 from dispatch_tools.model.railway import decision_refusal, Plan
 from dispatch_tools.pictures.scene import lines_of
 
@@ -84,7 +85,7 @@ class Room:
         self.rounds: Optional[Rounds] = None
         self.asking: Union[Asking, SecondReading, None] = None
         self.followed: Optional[Followed] = None
-        self.effect: Optional[tuple[Plan, dict[str, Any]]] = None
+        self.effect: Optional[tuple[Plan | PlanByParts, dict[str, Any]]] = None
         self.pending: dict[int, tuple[str, float]] = {}
         self.is_other_feed = False
         self.broken = False
@@ -218,7 +219,7 @@ class Room:
             self.effect = (plan, found)
         self.show()
 
-    def effect_of(self, plan: Plan, entries: list[str]) -> dict[str, Any]:
+    def effect_of(self, plan: Plan | PlanByParts, entries: list[str]) -> dict[str, Any]:
         assert self.asking is not None
         before = self.asking.follow(entries)
         after = self.asking.follow([*entries, adoption(plan.choices, self.day.feed)]) if plan.choices else before
@@ -287,7 +288,7 @@ class Room:
         except ValueError as error:
             raise Refused('with what was entered since, they would close a cycle') from error
 
-    def looked_at(self, line: object) -> Plan:
+    def looked_at(self, line: object) -> Plan | PlanByParts:
         """The last plan of the desk's feed, which whoever names its line has looked at. Refused if another one was asked for since."""
         plan = self.day.plan
         if plan is None:

@@ -11,8 +11,10 @@ import subprocess
 from typing import BinaryIO, NamedTuple, Optional, Sequence
 
 from dispatch_tools.formats.files import BadFile
-from dispatch_tools.formats.runtext import Bad, Entry, Item, MOST_FEEDS, NUMBER, read_items, Text
+from dispatch_tools.formats.lines import Bad, NUMBER, Text
+from dispatch_tools.formats.runtext import Entry, Item, MOST_FEEDS, PLANNED, read_items
 from dispatch_tools.model.messages import Adopt, AdoptLast, STATEMENTS
+from dispatch_tools.model.parts import PlanByParts
 from dispatch_tools.model.railway import Plan
 
 # How the front of a block is spelled: an open gate, and the length of the content.
@@ -71,11 +73,11 @@ class Answered(NamedTuple):
 
 
 class Rounds:
-    """The rounds of a journal, one after the other: what `adopt` enters is the plan that its feed was answered last."""
+    """The rounds of a journal, one after the other: what `adopt` enters is the plan, of either kind, that its feed was answered last."""
 
     def __init__(self, head: Head) -> None:
         self.head = head
-        self.plans: dict[int, Plan] = {}
+        self.plans: dict[int, Plan | PlanByParts] = {}
 
     def read(self, content: bytes) -> list[Answered]:
         """The items of the next round with their entries; Bad at the first line of another form."""
@@ -90,14 +92,17 @@ class Rounds:
         """An item with its entry."""
         if item.answer is None or item.said is None:
             return Answered(feed, item, None)
-        if item.answer.kind == 'plan':
+        if item.answer.kind in PLANNED:
             self.plans[feed] = item.answer.value
         if item.answer.kind != 'ok':
             return Answered(feed, item, None)
         if isinstance(item.said, STATEMENTS):
             return Answered(feed, item, Entry(feed, item.line, item.said))
         text.demand(isinstance(item.said, AdoptLast), 'form')
-        return Answered(feed, item, Entry(feed, item.line, Adopt(text.sure(self.plans.get(feed)).choices)))
+        plan = self.plans.get(feed)
+        if plan is None:
+            text.refuse()
+        return Answered(feed, item, Entry(feed, item.line, Adopt(plan.choices)))
 
 
 def journal_of(store: str) -> str:

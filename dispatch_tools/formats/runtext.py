@@ -6,21 +6,16 @@ reads by the functions of this module.
 from __future__ import annotations
 
 import re
-from dataclasses import dataclass
-from functools import partial
-from typing import Any, Callable, Generic, Iterable, Mapping, NamedTuple, NoReturn, Optional, Sequence, TypeVar
+from typing import Any, Mapping, NamedTuple, Optional, Sequence
 
+from dispatch_tools.formats.lines import Bad, fits, Form, forms, ID, NUMBER, number_of, read_form, Text, VALUE
+from dispatch_tools.formats.plan_text import DECISIONS, read_decisions, read_plan, read_plan_head, read_solved, read_solved_head
 from dispatch_tools.model.messages import (
-    Adopt, AdoptLast, AskCost, AskEntries, AskPlan, AskTime, BoundLeaf, CycleLeaf, Decision, DelayActivity, DelayEvent, Drop, First, Inner, Keep,
-    Message, Node, Nothing, Now, OpenLeaf, Pass, Path, Recall, Refusal, Said, Statement,
+    Adopt, AdoptLast, AskCost, AskEntries, AskPlan, AskSolve, AskTime, DelayActivity, DelayEvent, Message, Nothing, Now, Pass, Recall, Refusal,
+    Said, Statement,
 )
-from dispatch_tools.model.network import Change, Pair
-from dispatch_tools.model.railway import choice_of, MOST_ENTRIES, Plan, ways_of
-
-# The largest ids (and lines and entries), values of feed lines, and other numbers in print.
-ID = 2 ** 32 - 1
-VALUE = 2 ** 64 - 1
-NUMBER = 2 ** 128 - 1
+from dispatch_tools.model.parts import PlanByParts
+from dispatch_tools.model.railway import MOST_ENTRIES, Plan
 
 LONGEST_LINE = 1024
 MOST_FEEDS = 64
@@ -28,22 +23,8 @@ MOST_BOARDS = 64
 STANDARD_PLANS = 16
 MOST_NODES = {1: 4096, 2: 16384}
 
-# A word, or the largest number that may stand in its place.
-Pattern = str | int
-
-Value = TypeVar('Value')
-Made = TypeVar('Made', covariant=True)
-
-
-class Bad(Exception):
-    """A record breaks its rule; the arguments are the line and the kind of the verdict."""
-
-
-@dataclass(frozen=True)
-class Form(Generic[Made]):
-    """The largest numbers that may stand behind the words of a kind, and what they make."""
-    largest: Sequence[int]
-    made: Callable[..., Made]
+# The answers that are plans. They have more lines than one.
+PLANNED = ('plan', 'solved')
 
 
 class Answer(NamedTuple):
@@ -61,20 +42,14 @@ def answer(kind: str, *numbers: int) -> Answer:
     return Answer(kind, None, *numbers)
 
 
-def forms(made: Callable[..., Value], largest: Mapping[str, Sequence[int]]) -> Mapping[str, Form[Value]]:
-    """The forms of kinds that all make the same of the kind and its numbers."""
-    return {kind: Form(numbers, partial(made, kind)) for kind, numbers in largest.items()}
-
-
 # What stands behind the words of each kind.
-DECISIONS: Mapping[str, Form[Decision]] = {'keep': Form([ID], Keep), 'drop': Form([ID], Drop), 'first': Form([ID, ID], First)}
 STATEMENTS: Mapping[str, Form[Statement]] = {
     'delay event': Form([ID, VALUE], DelayEvent), 'delay activity': Form([ID, VALUE], DelayActivity), 'pass': Form([ID, VALUE], Pass),
     'recall': Form([ID], Recall), 'now': Form([VALUE], Now), **DECISIONS,
 }
 LINES: Mapping[str, Form[Said]] = {
     **STATEMENTS, 'time': Form([ID], AskTime), 'cost': Form([], AskCost), 'read': Form([], AskEntries), 'plan': Form([VALUE], AskPlan),
-    'adopt': Form([], AdoptLast),
+    'solve': Form([VALUE], AskSolve), 'adopt': Form([], AdoptLast),
 }
 REASONS = forms(refusal, {
     'range': [NUMBER], 'unknown-event': [ID], 'unknown-activity': [ID], 'unknown-change': [ID], 'unknown-pair': [ID, ID],
@@ -82,9 +57,6 @@ REASONS = forms(refusal, {
 })
 ANSWERS = forms(answer, {'ok': [], 'read': [], 'old': [], 'time': [NUMBER], 'cost': [NUMBER]})
 ANSWERS_WITHOUT_ENTRY = forms(answer, {'noplan': [], 'plans': [], 'range': [NUMBER]})
-LEAVES: Mapping[str, Form[CycleLeaf | BoundLeaf | OpenLeaf]] = {
-    'cycle': Form([], CycleLeaf), 'bound': Form([NUMBER], BoundLeaf), 'open': Form([NUMBER], OpenLeaf),
-}
 
 
 class Item(NamedTuple):
@@ -94,67 +66,7 @@ class Item(NamedTuple):
     answer: Optional[Answer]
 
 
-class PlanHead(NamedTuple):
-    """What the first line of a plan says."""
-    mark: str
-    cost: int
-    bound: int
-    choices: int
-    nodes: int
-
-
 # ---- Words and lines
-
-
-def number_of(word: str, largest: int) -> Optional[int]:
-    """The number that a word spells, without zeros in front and not above the largest, or None."""
-    if not re.fullmatch('0|[1-9][0-9]{0,38}', word) or int(word) > largest:
-        return None
-    return int(word)
-
-
-def fits(words: Sequence[str], pattern: Sequence[Pattern]) -> Optional[tuple[int, ...]]:
-    """The numbers in words that fit a pattern of words and of largest numbers, or None if they do not."""
-    if len(words) != len(pattern):
-        return None
-    numbers = []
-    for word, part in zip(words, pattern):
-        if isinstance(part, int):
-            number = number_of(word, part)
-            if number is None:
-                return None
-            numbers.append(number)
-        elif word != part:
-            return None
-    return tuple(numbers)
-
-
-def read_form(forms: Mapping[str, Form[Value]], words: Sequence[str]) -> Optional[Value]:
-    """What the words make, or None if they are of none of these forms."""
-    for kind, form in forms.items():
-        numbers = fits(words, [*kind.split(), *form.largest])
-        if numbers is not None:
-            return form.made(*numbers)
-    return None
-
-
-def read_decision(words: Sequence[str]) -> Optional[Decision]:
-    """The decision that words spell, or None."""
-    return read_form(DECISIONS, words)
-
-
-def read_decisions(words: Sequence[str]) -> Optional[tuple[Decision, ...]]:
-    """The decisions that stand in words one after the other, or None."""
-    decisions = []
-    place = 0
-    while place < len(words):
-        end = place + (3 if words[place] == 'first' else 2)
-        decision = read_decision(words[place:end])
-        if decision is None:
-            return None
-        decisions.append(decision)
-        place = end
-    return tuple(decisions)
 
 
 def read_message(words: Sequence[str]) -> Optional[Message]:
@@ -173,19 +85,8 @@ def read_reason(words: Sequence[str]) -> Optional[Refusal]:
     return Refusal('cycle', ids) if ids else None
 
 
-def read_plan_head(words: Sequence[str], version: int) -> Optional[PlanHead]:
-    """What the words of a plan's first line say, or None."""
-    for mark in ('optimal', 'open'):
-        numbers = fits(words, [
-            'plan', mark, 'cost', NUMBER, 'bound', NUMBER, 'choices', NUMBER, 'leaves' if version == 1 else 'nodes', NUMBER,
-        ])
-        if numbers is not None:
-            return PlanHead(mark, *numbers)
-    return None
-
-
 def read_answer(words: Sequence[str], version: int) -> Optional[Answer]:
-    """The answer that words spell, or None; of a plan its first line alone."""
+    """The answer that words spell, or None; of a plan of either kind its first line alone."""
     found = read_form(ANSWERS_WITHOUT_ENTRY, words)
     if found is not None:
         return found
@@ -198,12 +99,15 @@ def read_answer(words: Sequence[str], version: int) -> Optional[Answer]:
     if words[1] == 'plan':
         head = read_plan_head(words[1:], version)
         return None if head is None else Answer('plan', entry, head)
+    if words[1] == 'solved' and version > 1:
+        solved = read_solved_head(words[1:])
+        return None if solved is None else Answer('solved', entry, solved)
     found = read_form(ANSWERS, words[1:])
     return None if found is None else found._replace(entry=entry)
 
 
 def read_item(words: Sequence[str], version: int) -> Optional[Item]:
-    """The log item that words spell, or None; of a plan its first line alone."""
+    """The log item that words spell, or None; of a plan of either kind its first line alone."""
     line = number_of(words[0], ID)
     if line is None:
         return None
@@ -213,7 +117,9 @@ def read_item(words: Sequence[str], version: int) -> Optional[Item]:
         return None
     arrow = words.index('->')
     said, answer = read_form(LINES, words[1:arrow]), read_answer(words[arrow + 1:], version)
-    return None if said is None or answer is None else Item(line, said, answer)
+    if said is None or answer is None or (isinstance(said, AskSolve) and version == 1):
+        return None
+    return Item(line, said, answer)
 
 
 def heard(line: str) -> Optional[Said]:
@@ -231,102 +137,6 @@ def due_items(feed: str) -> list[tuple[int, Optional[Said]]]:
     *lines, rest = feed.split('\n')
     lines = [line.removesuffix('\r') for line in lines] + ([rest] if rest else [])
     return [(number, said) for number, line in enumerate(lines, 1) if not isinstance(said := heard(line), Nothing)]
-
-
-class Text:
-    """The lines of a text, read one after the other."""
-
-    def __init__(self, text: bytes) -> None:
-        *self.lines, self.rest = text.split(b'\n')
-        self.number = 0
-
-    def words(self) -> list[str]:
-        """The words of the next line, with one space between; Bad if the line is cut or is no such words."""
-        self.number += 1
-        if self.number > len(self.lines):
-            raise Bad(self.number, 'truncated')
-        words = self.lines[self.number - 1].split(b' ')
-        self.demand(all(re.fullmatch(b'[!-~]+', word) for word in words), 'form')
-        return [word.decode() for word in words]
-
-    def read(self, *pattern: Pattern) -> tuple[int, ...]:
-        """The numbers in the next line, which has to fit the pattern."""
-        return self.sure(fits(self.words(), pattern))
-
-    def sure(self, value: Optional[Value], kind: str = 'form') -> Value:
-        """A value that has been read, or Bad of this kind where there is none."""
-        return self.refuse(kind) if value is None else value
-
-    def refuse(self, kind: str = 'form') -> NoReturn:
-        """Bad of this kind at the line read last."""
-        raise Bad(self.number, kind)
-
-    def demand(self, holds: bool, kind: str) -> None:
-        """Bad of this kind at the line read last unless this holds."""
-        if not holds:
-            self.refuse(kind)
-
-    def has_more(self) -> bool:
-        """Whether anything stands behind the line read last."""
-        return self.number < len(self.lines) or self.rest != b''
-
-
-# ---- Plans in print
-
-
-def read_node(words: Sequence[str]) -> Optional[Node]:
-    """The node of a line in version 2, or None."""
-    change = fits(words, ['inner', 'change', ID])
-    if change is not None:
-        return Inner(Change(*change))
-    pair = fits(words, ['inner', 'pair', ID, ID])
-    if pair is not None:
-        return Inner(Pair(*pair)) if pair[0] < pair[1] else None
-    return read_form(LEAVES, words)
-
-
-def read_leaf(words: Sequence[str]) -> Optional[tuple[Node, Path]]:
-    """The leaf of a line in version 1, which is a node with its path, or None."""
-    size = 2 if words[:2] == ['leaf', 'cycle'] else 3
-    node, path = read_form(LEAVES, words[1:size]), read_decisions(words[size:])
-    return None if words[0] != 'leaf' or node is None or path is None else (node, path)
-
-
-def nodes_of(leaves: Iterable[tuple[Node, Path]]) -> Optional[list[Node]]:
-    """The nodes in preorder of the least tree that has these leaves in order, or None if there is none."""
-    nodes: list[Node] = []
-    paths: list[Path] = [()]
-    for leaf, path in leaves:
-        if not paths:
-            return None
-        above = paths.pop()
-        if path[:len(above)] != above:
-            return None
-        for length in range(len(above), len(path)):
-            choice = choice_of(path[length])
-            first, second = ways_of(choice)
-            if first == second or path[length] != first:
-                return None
-            nodes.append(Inner(choice))
-            paths.append(path[:length] + (second,))
-        nodes.append(leaf)
-    return None if paths else nodes
-
-
-def read_plan(text: Text, version: int, answer: Answer) -> Plan:
-    """The plan whose first line was read last, from its other lines."""
-    head = answer.value
-    choices: list[Decision] = []
-    for _ in range(head.choices):
-        words = text.words()
-        text.demand(words[0] == 'choice', 'form')
-        choices.append(read_decision(words[1:]) or text.refuse())
-    nodes: Optional[list[Node]]
-    if version == 1:
-        nodes = nodes_of([read_leaf(text.words()) or text.refuse() for _ in range(head.nodes)])
-    else:
-        nodes = [read_node(text.words()) or text.refuse() for _ in range(head.nodes)]
-    return Plan(text.sure(answer.entry), tuple(choices), head.cost, head.bound, head.mark, nodes)
 
 
 # ---- Whole texts
@@ -395,12 +205,20 @@ def read_log(text: Text, version: int, feed: int) -> FeedLog:
     return FeedLog(items, words[0])
 
 
+def read_planned(text: Text, version: int, answer: Answer) -> Plan | PlanByParts:
+    """The plan of either kind whose first line was read last, from its other lines."""
+    entry = text.sure(answer.entry)
+    if answer.kind == 'plan':
+        return read_plan(text, version, entry, answer.value)
+    return read_solved(text, entry, answer.value)
+
+
 def read_whole_item(text: Text, version: int) -> Item:
-    """An item of a log, with the other lines of the plan if it has one."""
+    """An item of a log, with the other lines of the plan of either kind if it has one."""
     item = text.sure(read_item(text.words(), version))
-    if item.answer is None or item.answer.kind != 'plan':
+    if item.answer is None or item.answer.kind not in PLANNED:
         return item
-    return item._replace(answer=item.answer._replace(value=read_plan(text, version, item.answer)))
+    return item._replace(answer=item.answer._replace(value=read_planned(text, version, item.answer)))
 
 
 # The usual form of a time, tried before the words are taken apart: these lines are most of a text.

@@ -17,7 +17,8 @@ from dispatch_tools.formats.journal import journal_of, text_of
 from dispatch_tools.formats.names import EventName
 from dispatch_tools.formats.protobuf import encode, Message
 from dispatch_tools.formats.realtime import descriptor, Named, NO_DATA, read_named, SCHEDULED
-from dispatch_tools.formats.runtext import Bad, read_run, Run
+from dispatch_tools.formats.lines import Bad
+from dispatch_tools.formats.runtext import read_run, Run
 from dispatch_tools.live.http_server import BoundedHandler, BoundedServer
 from dispatch_tools.model.railway import decisions_of
 from dispatch_tools.model.messages import DelayActivity, DelayEvent, Drop, Keep, Message as Entered, Now, Pass, Recall

@@ -11,7 +11,8 @@ from typing import Iterator, Optional, Sequence
 from dispatch_tools.formats.files import BadFile, in_one_line
 from dispatch_tools.formats.giv import ACTIVITIES, EVENTS
 from dispatch_tools.formats.journal import Head, journal_of, read_blocks, read_head
-from dispatch_tools.formats.runtext import Bad, heard
+from dispatch_tools.formats.lines import Bad
+from dispatch_tools.formats.runtext import heard
 from dispatch_tools.model.messages import Nothing
 from dispatch_tools.model.railway import MOST_ENTRIES
 

@@ -1,4 +1,4 @@
-"""What lines of feeds say, why it is refused, and the nodes of a plan's tree, as values.
+"""What lines of feeds say, why it is refused, and the nodes of the trees of plans, as values.
 
 They name events and activities by ids. Times and delays are in seconds, costs in thousandths of passenger seconds. `str` gives the
 words of a text.
@@ -158,8 +158,16 @@ class AskPlan(Words):
 
 
 @dataclass(frozen=True, slots=True)
+class AskSolve(Words):
+    """What plan by parts is there with at most so many nodes?"""
+
+    KIND: ClassVar[str] = 'solve'
+    budget: int
+
+
+@dataclass(frozen=True, slots=True)
 class AdoptLast(Words):
-    """Adopts the last plan of the feed."""
+    """Adopts the last plan of the feed, of either kind."""
 
     KIND: ClassVar[str] = 'adopt'
 
@@ -173,7 +181,7 @@ class Nothing(Words):
 
 
 # What a line of a feed says.
-Said = Statement | AskTime | AskCost | AskEntries | AskPlan | AdoptLast | Nothing
+Said = Statement | AskTime | AskCost | AskEntries | AskPlan | AskSolve | AdoptLast | Nothing
 
 
 # ---- Refusals
@@ -226,4 +234,13 @@ class OpenLeaf(Words):
     cost: int
 
 
+@dataclass(frozen=True, slots=True)
+class PartLeaf(Words):
+    """A leaf of a part, with what the part's terms cost at least below it."""
+
+    KIND: ClassVar[str] = 'leaf'
+    cost: int
+
+
 Node = Inner | CycleLeaf | BoundLeaf | OpenLeaf
+PartNode = Inner | CycleLeaf | PartLeaf

@@ -387,19 +387,19 @@ class Problem:
         return rows.first[network.pair_at(first, network.event_place[decision.other])] != first
 
 
-def are_true_choices(problem: Problem, plan: Plan) -> bool:
-    """Whether the choices are free, stand in order, differ from the rows, have no cycle and cost what the plan says."""
+def are_true_choices(problem: Problem, choices: Sequence[Decision], cost: int) -> bool:
+    """Whether the choices are free, stand in order, differ from the rows, have no cycle and cost so much."""
     order = {choice: place for place, choice in enumerate(problem.free)}
     last = -1
-    for decision in plan.choices:
+    for decision in choices:
         place = order.get(choice_of(decision), -1)
         if place <= last or not problem.differs(decision):
             return False
         last = place
     network = problem.network
-    rows = with_decisions(network, problem.rows, plan.choices)
+    rows = with_decisions(network, problem.rows, choices)
     times = times_of(network, rows)
-    return times is not None and cost_of(network, rows, times, problem.penalty) == plan.cost
+    return times is not None and cost_of(network, rows, times, problem.penalty) == cost
 
 
 def is_true_node(problem: Problem, plan: Plan, path: Path, node: Node) -> bool:
@@ -434,7 +434,7 @@ def is_true_plan(network: Network, rows: Rows, penalty: int, budget: int, plan: 
     problem = Problem(network, rows, penalty, allowed)
     if plan.nodes is None or len(plan.nodes) > budget:
         return False
-    if not are_true_choices(problem, plan) or not is_true_tree(problem, plan):
+    if not are_true_choices(problem, plan.choices, plan.cost) or not is_true_tree(problem, plan):
         return False
     bounds = [node.cost for node in plan.nodes if isinstance(node, (BoundLeaf, OpenLeaf))]
     if not bounds or min(bounds) != plan.bound:

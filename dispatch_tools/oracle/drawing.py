@@ -9,7 +9,8 @@ from collections import Counter
 from typing import Callable, Optional, Protocol, Sequence
 
 from dispatch_tools.formats.giv import ACTIVITIES, activity_record, event_record, EVENTS
-from dispatch_tools.formats.runtext import due_items, Item, read_node
+from dispatch_tools.formats.plan_text import read_node
+from dispatch_tools.formats.runtext import due_items, Item
 from dispatch_tools.model.network import Activity, Event, Network
 from dispatch_tools.model.messages import Inner, Path
 from dispatch_tools.model.railway import Rows, times_of, ways_of
@@ -19,10 +20,12 @@ from dispatch_tools.oracle.judging import Good, Judge, verdict_on
 CHANGED = 12
 SECONDS = 100
 
+# Lines that are drawn as they stand, and those of plans by parts.
 ODD_LINES = [
     '', '   ', '# note', 'hello', 'delay event 1', 'delay  event 2   005 ', 'time 1 ', '\tread', 'read\r', 'x' * 1025, ' ' * 1025,
     'now 2000000001', 'adopt keep 1', 'plan 18446744073709551616',
 ]
+ODD_SOLVES = ['solve', 'solve x', 'solve 18446744073709551616', 'solve  007']
 ODD_NUMBERS = [0, 1, 2 ** 32, 2 ** 64, 2 ** 128 - 1, 2 ** 128, 10 ** 40]
 WORDS = [
     b'keep', b'drop', b'ok', b'refused', b'first', b'bound', b'open', b'cycle', b'noplan', b'end', b'fault', b'long', b'optimal',
@@ -35,6 +38,14 @@ ALIKE = [
     (rb'open ([0-9]+)$', rb'bound \1'), (rb'(bound|open) [0-9]+$', b'cycle'), (rb'cycle$', b'bound 0'), (rb'optimal', b'open'),
     (rb'plan open', b'plan optimal'), (rb'change', b'pair 1'), (rb'read$', b'old'), (rb'old$', b'ok'), (rb'[0-9]+ ok$', b'noplan'),
     (rb'noplan$', b'plans'), (rb'refused .*$', b'ok'), (rb'-> ([0-9]+) .*$', rb'-> \1 refused full'),
+]
+
+# The same of plans by parts: a leaf, a bound, a rest, an id, a mark, a count, or a choice of a tree.
+ALIKE_BY_PARTS = [
+    (rb'leaf [0-9]+$', b'cycle'), (rb'cycle$', b'leaf 0'), (rb'leaf ([0-9]+)$', rb'bound \1'), (rb'solved optimal', b'solved open'),
+    (rb'solved open', b'solved optimal'), (rb' solve ([0-9]+) ', rb' plan \1 '), (rb' plan ([0-9]+) ', rb' solve \1 '),
+    (rb'rest [0-9]+$', b'rest 0'), (rb'rest ([0-9]+)$', rb'leaf \1'), (rb'^(events [0-9]+) ', rb'\1 1 '), (rb'inner change', b'inner pair 1'),
+    (rb'^(part events .* nodes [0-9]+) bound .*$', rb'\1 bound 0'), (rb'^(events|changes) ([0-9]+) ([0-9]+)', rb'\1 \3 \2'),
 ]
 
 
@@ -102,10 +113,11 @@ def write_network(draws: random.Random, network: Network, folder: str) -> None:
 
 
 class Lines:
-    """Draws lines that name what a network has, and now and then what it does not have."""
+    """Draws lines that name what a network has, and now and then what it does not have; a plain feed asks for no plan by parts."""
 
-    def __init__(self, draws: random.Random, network: Network) -> None:
+    def __init__(self, draws: random.Random, network: Network, is_plain: bool) -> None:
         self.draws = draws
+        self.is_plain = is_plain
         self.events = [event.id for event in network.events] or [1]
         self.activities = [activity.id for activity in network.activities] or [1]
         self.changes = [activity.id for activity in network.activities if activity.kind == 'change'] or self.activities
@@ -139,7 +151,8 @@ class Lines:
         return f'now {self.clock}'
 
     def plan(self) -> str:
-        return f'plan {self.draws.choice([0, 1, 2, 3, 4, 5, 7, 9, 15, 50, 300, 4097, 16384, 16385])}'
+        word = 'plan' if self.is_plain or self.draws.random() < 0.4 else 'solve'
+        return f'{word} {self.draws.choice([0, 1, 2, 3, 4, 5, 7, 9, 15, 50, 300, 4097, 16384, 16385])}'
 
     def line(self) -> str:
         """One line; the numbers say how often each kind comes."""
@@ -155,16 +168,16 @@ class Lines:
             lambda: f'time {self.event()}': 5,
             lambda: 'cost': 3,
             lambda: 'read': 2,
-            self.plan: 6,
+            self.plan: 6 if self.is_plain else 10,
             lambda: 'adopt': 4,
-            lambda: self.draws.choice(ODD_LINES): 2,
+            lambda: self.draws.choice(ODD_LINES if self.is_plain else [*ODD_LINES, *ODD_SOLVES]): 2,
         }
         drawn, = self.draws.choices(list(kinds), list(kinds.values()))
         return drawn()
 
 
-def drawn_feed(draws: random.Random, network: Network) -> str:
-    lines = Lines(draws, network)
+def drawn_feed(draws: random.Random, network: Network, is_plain: bool) -> str:
+    lines = Lines(draws, network, is_plain)
     return '\n'.join(lines.line() for _ in range(draws.randint(0, 25))) + draws.choice(['', '\n'])
 
 
@@ -206,7 +219,7 @@ def fault_of_run(judge: Judge, feeds: list[str], batch: int, text: bytes) -> Opt
 
 
 def by_leaves(text: bytes) -> bytes:
-    """A text of version 2 in version 1: the leaves of its plans, each with its path, in place of the nodes."""
+    """A text of version 2 without plans by parts in version 1: the leaves of its plans, each with its path, in place of the nodes."""
     lines: list[str] = []
     paths: list[Path] = []
     for line in text.decode().replace('dm-run 2', 'dm-run 1', 1).split('\n'):
@@ -253,7 +266,7 @@ def with_word_changed(draws: random.Random, text: bytes) -> bytes:
 
 def with_another_alike(draws: random.Random, text: bytes) -> bytes:
     """With one part replaced by another of the same form, if there is such a part."""
-    pattern, other = draws.choice(ALIKE)
+    pattern, other = draws.choice(ALIKE_BY_PARTS if b' solved ' in text and draws.random() < 0.5 else ALIKE)
     found = list(re.finditer(pattern, text, flags=re.MULTILINE))
     if not found:
         return text
@@ -296,8 +309,9 @@ def changed(draws: random.Random, text: bytes) -> bytes:
 class Fuzz:
     """Runs and checks of a program in a folder, and what they came to."""
 
-    def __init__(self, program: str) -> None:
+    def __init__(self, program: str, is_plain: bool) -> None:
         self.program = program
+        self.is_plain = is_plain
         self.counts: Counter[str] = Counter()
 
     def call(self, folder: str, *words: str) -> tuple[int, bytes]:
@@ -321,7 +335,7 @@ class Fuzz:
         network = drawn_network(draws)
         write_network(draws, network, os.path.join(folder, 'net'))
         penalty, batch = draws.choice([0, 1, 10, 10, 1000, 3600]), draws.choice([1, 2, 5, 16])
-        feeds = [drawn_feed(draws, network) for _ in range(draws.choice([1, 1, 1, 2, 3]))]
+        feeds = [drawn_feed(draws, network, self.is_plain) for _ in range(draws.choice([1, 1, 1, 2, 3]))]
         names = [f'feed{place}' for place in range(len(feeds))]
         for name, feed in zip(names, feeds):
             with open(os.path.join(folder, name), 'w', newline='') as file:
@@ -333,7 +347,8 @@ class Fuzz:
         fault = fault_of_run(judge, feeds, batch, text)
         self.counts['entries'] += len(judge.history)
         self.counts['plans'] += sum(log.plans for log in judge.logs)
-        versions = [text, by_leaves(text)]
+        self.counts['plans by parts'] += text.count(b' solved ')
+        versions = [text] if b' solve ' in text else [text, by_leaves(text)]
         texts = [*versions, *(changed(draws, draws.choice(versions)) for _ in range(CHANGED))]
         faults = (self.fault_of_check(folder, network, penalty, other) for other in texts)
         return fault or next((other for other in faults if other is not None), None)

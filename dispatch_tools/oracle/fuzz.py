@@ -1,4 +1,4 @@
-"""Draws small networks and feeds by number, and compares the program with the judge: dispatch-tools fuzz DISPATCHER FROM TO
+"""Draws small networks and feeds by number, and compares the program with the judge: dispatch-tools fuzz DISPATCHER FROM TO [--plain]
 
 DISPATCHER is the built program. For each number from FROM to below TO the script draws a network of up to 16 events, a penalty, a
 batch, and one to three feeds of every kind of line, some of them refused or malformed. It runs the program. Of the text
@@ -7,9 +7,11 @@ batch, and one to three feeds of every kind of line, some of them refused or mal
     each log has the due lines of its feed, which the script reads anew, and ends with `end`
     the logs keep to rounds of the batch
 
-Then `DISPATCHER check` has to say what the judge says, of the text, of its version 1, and of twelve texts that are made from
-these two by small changes: a number, a byte or words are changed; lines are left out, moved or swapped; a text is cut off, or has
-bytes after its end.
+Then `DISPATCHER check` has to say what the judge says, of the text, of its version 1 where no line of it says `solve`, and of twelve
+texts that are made from these by small changes: a number, a byte or words are changed; lines are left out, moved or swapped; a text
+is cut off, or has bytes after its end.
+
+With --plain no line says `solve`: what is drawn then is what was drawn before that word was there.
 
 The script prints each number in which something differs, with what differs and the folder of its files. If the verdicts on a text
 differ, it is the file `text` there. The status is then 1.
@@ -31,8 +33,9 @@ def main(argv: Sequence[str] | None = None) -> int:
     add_program(words)
     words.add_argument('begin', metavar='FROM', type=int, help='first number')
     words.add_argument('end', metavar='TO', type=int, help='number before which to end')
+    words.add_argument('--plain', action='store_true', help='draw no line that asks for a plan by parts')
     given = words.parse_args(argv)
-    fuzz, differing = Fuzz(given.program), 0
+    fuzz, differing = Fuzz(given.program, given.plain), 0
     for number in range(given.begin, given.end):
         folder = tempfile.mkdtemp(prefix='fuzz-')
         fault = fuzz.fault_of(number, folder)

@@ -7,12 +7,13 @@ from dataclasses import dataclass
 from typing import NamedTuple, Optional, Union
 
 from dispatch_tools.formats.giv import read_network
+from dispatch_tools.formats.lines import Bad, fits, ID, NUMBER, Text
 from dispatch_tools.formats.runtext import (
-    Answer, Bad, fits, ID, Item, MOST_BOARDS, MOST_FEEDS, MOST_NODES, NUMBER, read_item, read_message, read_plan,
-    STANDARD_PLANS, Text,
+    Answer, Item, MOST_BOARDS, MOST_FEEDS, MOST_NODES, PLANNED, read_item, read_message, read_planned, STANDARD_PLANS,
 )
-from dispatch_tools.model.messages import Adopt, AdoptLast, AskPlan, AskTime, Message, Refusal, Said, STATEMENTS
+from dispatch_tools.model.messages import Adopt, AdoptLast, AskPlan, AskSolve, AskTime, Message, Refusal, Said, STATEMENTS
 from dispatch_tools.model.network import Network
+from dispatch_tools.model.parts import is_true_plan_by_parts, PlanByParts
 from dispatch_tools.model.railway import (
     admit, cost_of, is_cycle, is_true_plan, MOST_ENTRIES, Plan, Rows, sound_times,
 )
@@ -47,7 +48,8 @@ Verdict = Union[Good, Wrong]
 
 
 class Log:
-    """The items of a feed so far, with the last line and entry that they name, the latest plan, and how many plans there were."""
+    """The items of a feed so far, with the last line and entry that they name, and the latest plan and how many there were, of both
+    kinds."""
 
     def __init__(self, feed: int) -> None:
         self.feed = feed
@@ -55,7 +57,7 @@ class Log:
         self.stop = ''
         self.line = 0
         self.entry = 0
-        self.plan: Optional[Plan] = None
+        self.plan: Optional[Plan | PlanByParts] = None
         self.plans = 0
 
     def add(self, item: Item) -> None:
@@ -63,7 +65,7 @@ class Log:
         self.line = item.line
         if item.answer and item.answer.entry is not None:
             self.entry = item.answer.entry
-        if item.answer and item.answer.kind == 'plan':
+        if item.answer and item.answer.kind in PLANNED:
             self.plan = item.answer.value
             self.plans += 1
 
@@ -139,9 +141,9 @@ class Judge:
     def read_item(self, text: Text, log: Log) -> None:
         item = text.sure(read_item(text.words(), self.version))
         record, answer = text.number, item.answer
-        has_plan = answer is not None and answer.kind == 'plan'
+        has_plan = answer is not None and answer.kind in PLANNED
         if answer is not None and has_plan:
-            item = item._replace(answer=answer._replace(value=read_plan(text, self.version, answer)))
+            item = item._replace(answer=answer._replace(value=read_planned(text, self.version, answer)))
         if not self.is_true_item(log, item):
             raise Bad(record, 'plan' if has_plan else 'reply')
         log.add(item)
@@ -193,7 +195,7 @@ class Judge:
             return self.is_entered(log, item.line, said, entry)
         if answer.kind == 'refused':
             return self.is_refused(log, said, entry, answer.value)
-        if answer.kind == 'plan':
+        if answer.kind in PLANNED:
             return self.is_planned(log, said, entry, answer.value)
         return self.is_told(log, said, entry, answer)
 
@@ -203,7 +205,7 @@ class Judge:
     def is_true_without_entry(self, log: Log, said: Said, answer: Answer) -> bool:
         if answer.kind == 'noplan':
             return isinstance(said, AdoptLast) and log.plan is None
-        if not isinstance(said, AskPlan):
+        if not isinstance(said, (AskPlan, AskSolve)):
             return False
         if answer.kind == 'plans':
             return self.may_have(said.budget) and log.plans == self.plans
@@ -249,11 +251,14 @@ class Judge:
             return reason.reason == 'cycle' and is_cycle(self.network, after, reason.numbers)
         return reason == refusal
 
-    def is_planned(self, log: Log, said: Said, entry: int, plan: Plan) -> bool:
-        """Whether a request for a plan may have one, and is answered by one that is true."""
-        if not isinstance(said, AskPlan) or not self.may_have(said.budget) or log.plans >= self.plans:
+    def is_planned(self, log: Log, said: Said, entry: int, plan: Plan | PlanByParts) -> bool:
+        """Whether a request for a plan may have one, and is answered by one of its kind that is true."""
+        if not isinstance(said, (AskPlan, AskSolve)) or not self.may_have(said.budget) or log.plans >= self.plans:
             return False
-        return is_true_plan(self.network, self.rows[entry], self.penalty, said.budget, plan)
+        rows = self.rows[entry]
+        if isinstance(plan, PlanByParts):
+            return isinstance(said, AskSolve) and is_true_plan_by_parts(self.network, rows, self.penalty, said.budget, plan)
+        return isinstance(said, AskPlan) and is_true_plan(self.network, rows, self.penalty, said.budget, plan)
 
 
 def verdict_on(network: Network, start: Rows, penalty: int, text: bytes, plans: int = STANDARD_PLANS) -> Verdict:

@@ -1,8 +1,8 @@
 """Asks questions about the journals of drawn runs, and compares the answers with a second reading:
 
-    dispatch-tools queries DISPATCHER FROM TO
+    dispatch-tools queries DISPATCHER FROM TO [--plain]
 
-For each number from FROM to below TO it draws a network and feeds as fuzz does, and runs the program. It asks about the text,
+For each number from FROM to below TO it draws a network and feeds as fuzz does (with --plain, too), and runs the program. It asks about the text,
 a beginning of it, and texts made from it by small changes. Each command of the program's usage line is asked with drawn words:
 
     follow     answers as the second reading does, to the byte
@@ -29,7 +29,8 @@ import tempfile
 from collections import Counter
 from typing import Callable, NamedTuple, Optional, Sequence, Union
 
-from dispatch_tools.formats.runtext import Answer, Bad, read_decision, read_plan, read_plan_head, Text
+from dispatch_tools.formats.lines import Bad, Text
+from dispatch_tools.formats.plan_text import read_decision, read_plan, read_plan_head
 from dispatch_tools.model.messages import Decision
 from dispatch_tools.model.network import Change, Choice, Network
 from dispatch_tools.model.railway import (
@@ -341,7 +342,7 @@ def fault_of_window(network: Network, penalty: int, journal: Journal, window: Wi
     head = read_plan_head(lines.words(), 2)
     if head is None:
         return 'no plan'
-    plan = read_plan(lines, 2, Answer('plan', at, head))
+    plan = read_plan(lines, 2, at, head)
     allowed = [choice for choice in free_choices(network, rows) if window.holds(network, choice)]
     if not is_true_plan(network, rows, penalty, window.budget, plan, allowed):
         return 'the plan is not true'
@@ -434,22 +435,29 @@ class Asking:
         return None
 
 
-def fault_of_number(program: str, commands: Sequence[str], counts: Counter[str], number: int, folder: str) -> Optional[str]:
+class Draws(NamedTuple):
+    """What is asked of each number: a program, its commands, and whether no feed asks for a plan by parts."""
+    program: str
+    commands: list[str]
+    is_plain: bool
+
+
+def fault_of_number(asked: Draws, counts: Counter[str], number: int, folder: str) -> Optional[str]:
     """What differs in the network, the feeds and the texts of a number, or None."""
     draws = random.Random(number)
     network = drawn_network(draws)
     write_network(draws, network, os.path.join(folder, 'net'))
-    asking = Asking(program, counts, network, draws.choice([0, 1, 10, 10, 1000, 3600]), folder)
+    asking = Asking(asked.program, counts, network, draws.choice([0, 1, 10, 10, 1000, 3600]), folder)
     names = [f'feed{place}' for place in range(draws.choice([1, 1, 2]))]
     for name in names:
         with open(os.path.join(folder, name), 'w', newline='') as file:
-            file.write(drawn_feed(draws, network))
+            file.write(drawn_feed(draws, network, asked.is_plain))
     status, told = asking.call('run', 'net', *names)
     if status != 0:
         return f'the run ends with {status}'
     text = told.encode('latin-1')
     texts = [text, front(draws, text), *(changed(draws, text) for _ in range(CHANGED))]
-    faults = (asking.fault_of(draws, commands, other) for other in texts)
+    faults = (asking.fault_of(draws, asked.commands, other) for other in texts)
     return next((fault for fault in faults if fault is not None), None)
 
 
@@ -464,12 +472,13 @@ def main(argv: Sequence[str] | None = None) -> int:
     add_program(words)
     words.add_argument('begin', metavar='FROM', type=int, help='first number')
     words.add_argument('end', metavar='TO', type=int, help='number before which to end')
+    words.add_argument('--plain', action='store_true', help='draw no line that asks for a plan by parts')
     given = words.parse_args(argv)
     counts: Counter[str] = Counter()
-    differing, commands = 0, commands_of(given.program)
+    differing, asked = 0, Draws(given.program, commands_of(given.program), given.plain)
     for number in range(given.begin, given.end):
         folder = tempfile.mkdtemp(prefix='queries-')
-        fault = fault_of_number(given.program, commands, counts, number, folder)
+        fault = fault_of_number(asked, counts, number, folder)
         if fault is None:
             shutil.rmtree(folder)
         else:

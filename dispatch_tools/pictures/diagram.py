@@ -7,6 +7,7 @@ from typing import Callable, Container, Iterable, Iterator, NamedTuple, Optional
 
 from dispatch_tools.formats.files import BadFile
 from dispatch_tools.formats.markup import escaped
+from dispatch_tools.model.parts import places_of, PlanByParts
 from dispatch_tools.pictures.scene import (
     changes_of, CLASSES, clock_time, counted, distances, lateness_class, lines_of, links_of, Scene, span_of_times,
     turned_pairs,
@@ -153,8 +154,8 @@ def coloured_paths(frame: Frame, scene: Scene, stretches: Stretches) -> list[str
     return data
 
 
-def train_marks(frame: Frame, scene: Scene, trains: Trains) -> Iterator[str]:
-    """The paths of all trains, the scheduled ones below."""
+def train_marks(frame: Frame, scene: Scene, trains: Trains, together: Optional[Container[int]] = None) -> Iterator[str]:
+    """The paths of all trains, the scheduled ones below; if some decide together, the others are pale."""
     for number, stretches in trains:
         data = scheduled_path(frame, scene, stretches)
         if data:
@@ -167,7 +168,8 @@ def train_marks(frame: Frame, scene: Scene, trains: Trains) -> Iterator[str]:
             for kind, data in enumerate(coloured_paths(frame, scene, stretches)) if data
         )
         if paths:
-            yield f'<g class="train" data-t="{number}"><title>{title}</title>{paths}</g>'
+            pale = '' if together is None or number in together else ' opacity="0.2"'
+            yield f'<g class="train" data-t="{number}"{pale}><title>{title}</title>{paths}</g>'
 
 
 # About how wide a small letter is, and the longest name that is written.
@@ -328,35 +330,61 @@ def title_of(scene: Scene, line: Sequence[int]) -> str:
     return f'{ends}: times after {counted(len(scene.run.journal), "entry", "entries")}'
 
 
-def drawing(scene: Scene, line: Sequence[int], begin: Optional[int] = None, end: Optional[int] = None) -> Iterator[str]:
-    """The SVG of a line, as pieces of text."""
+class Together(NamedTuple):
+    """Trains that decide together, by number, and what of a plan they are."""
+    trains: set[int]
+    name: str
+
+
+def part_of(scene: Scene, number: int) -> Together:
+    """The trains of a part, from 1, of the plan by parts for the most entries, the last where several are for as many; BadFile if there
+    is none."""
+    plan: Optional[PlanByParts] = None
+    for item in (item for log in scene.run.logs for item in log.items):
+        if item.answer is not None and item.answer.kind == 'solved' and (plan is None or item.answer.value.entry >= plan.entry):
+            plan = item.answer.value
+    if plan is None:
+        raise BadFile('--part', None, 'the text has no plan by parts')
+    if number > len(plan.parts):
+        raise BadFile('--part', None, f'the plan of entry {plan.entry} has {counted(len(plan.parts), "part", "parts")}')
+    places = places_of(scene.network, plan.parts[number - 1])
+    trains = {train for train, events in enumerate(scene.trains) if not places.isdisjoint(events)}
+    return Together(trains, f'part {number} of {len(plan.parts)} of the plan of entry {plan.entry}')
+
+
+def drawing(scene: Scene, line: Sequence[int], begin: Optional[int] = None, end: Optional[int] = None,
+            together: Optional[Together] = None) -> Iterator[str]:
+    """The SVG of a line, as pieces of text; if trains decide together, all others are pale."""
     frame, trains = frame_of(scene, line, begin, end)
-    yield from drawn(scene, frame, trains, marked_on(frame, scene), title_of(scene, line))
+    name = title_of(scene, line) + ('' if together is None else f'; {together.name}')
+    yield from drawn(scene, frame, trains, marked_on(frame, scene), name, together)
 
 
-def drawn(scene: Scene, frame: Frame, trains: Trains, marked: Marked, name: str) -> Iterator[str]:
+def drawn(scene: Scene, frame: Frame, trains: Trains, marked: Marked, name: str, together: Optional[Together] = None) -> Iterator[str]:
     """The SVG of trains in a frame, with the marks on their line, under a title."""
+    strong = None if together is None else together.trains
     width = max(LEFT + frame.width + RIGHT, 820)
     height = TOP + frame.height + BOTTOM
     title = escaped(name)
     yield (f'<svg xmlns="http://www.w3.org/2000/svg" viewBox="0 0 {width} {height}" width="{width}" height="{height}" role="img" '
            f'aria-label="{title}"><style>{style()}</style><rect class="page" width="{width}" height="{height}"/>')
     yield f'<text class="title" x="{LEFT}" y="26">{title}</text>'
-    for part in (grid(frame, scene), train_marks(frame, scene, trains), link_marks(frame, scene, marked.changes), pair_marks(frame, scene),
+    for part in (grid(frame, scene), train_marks(frame, scene, trains, strong), link_marks(frame, scene, marked.changes), pair_marks(frame, scene),
                  passed_marks(frame, scene, marked.places), clock_mark(frame, scene), train_names(frame, scene, trains), legend(frame)):
         yield '\n'.join(part)
     yield '</svg>'
 
 
-def chosen_line(scene: Scene, line: Optional[list[int]]) -> list[int]:
-    """The line asked for, or the busiest one. Standard error names the others."""
+def chosen_line(scene: Scene, line: Optional[list[int]], together: Optional[Together] = None) -> list[int]:
+    """The line asked for, or the busiest one, or that of most of the trains that decide together. Standard error names the others."""
     known = {event.stop for event in scene.network.events}
     if line is not None:
         for stop in line:
             if stop not in known:
                 raise BadFile('--line', None, f'no event is at stop {stop}')
         return list(dict.fromkeys(line))
-    lines = lines_of(scene.network, scene.trains, MOST_LINES + 1) or [sorted(known)]
+    trains = scene.trains if together is None else [scene.trains[train] for train in sorted(together.trains)]
+    lines = lines_of(scene.network, trains, MOST_LINES + 1) or [sorted(known)]
     for other in lines[1:MOST_LINES]:
         print(f'another line: --line={",".join(map(str, other))}', file=sys.stderr)
     if len(lines) > MOST_LINES:

@@ -11,11 +11,12 @@ import sys
 import tempfile
 from collections import defaultdict
 from html import escape
-from typing import Callable, Iterable, Iterator, NamedTuple, Sequence
+from typing import Callable, Iterable, Iterator, Mapping, NamedTuple, Sequence
 
 from dispatch_tools.formats.files import BadFile, write_all
 from dispatch_tools.formats.runtext import Run
-from dispatch_tools.model.messages import Adopt
+from dispatch_tools.model.messages import Adopt, AskSolve
+from dispatch_tools.model.parts import PlanByParts
 from dispatch_tools.pictures.scene import clock_time, read_scene, read_text, rows_of, Scene
 
 WAITS = range(0, 901, 30)
@@ -23,7 +24,7 @@ BUDGETS = [64 << doubling for doubling in range(9)]
 BUDGET = 4_096
 QUARTER = 900
 
-# How many commands are called in all: for the rules, the budgets, and the plan that is adopted.
+# How many commands are called in all: for the rules, the budgets, and the plans by parts, of which the last is adopted.
 CALLS = len(WAITS) + 2 + len(BUDGETS) + 1
 
 # The most bytes of a feed.
@@ -193,33 +194,36 @@ def millions(cost: int) -> str:
 # ---- Figures
 
 
-def rules_figure(study: Study) -> Figure:
-    """The curves of fixed rules beside a plan and its bound."""
+def rules_figure(study: Study, best: PlanByParts) -> Figure:
+    """The curves of fixed rules beside a plan by parts and its bound."""
     waits = [(wait, study.ruled(wait, BUDGET)) for wait in WAITS]
     never, always = study.ruled('never', BUDGET), study.ruled('always', BUDGET)
     ends = WAITS[0], WAITS[-1]
     def level(cost: int) -> list[tuple[int, int]]: return [(end, cost) for end in ends]
     curves = [
         Curve('wait at most', [(wait, ruled.cost) for wait, ruled in waits]), Curve('never', level(never.cost), LEVEL),
-        Curve('always', level(always.cost), LEVEL), Curve('plan', level(never.plan_cost), LEVEL),
-        Curve('proved bound', level(never.bound), BOUND),
+        Curve('always', level(always.cost), LEVEL), Curve('plan by parts', level(best.cost), LEVEL),
+        Curve('proved bound', level(best.bound), BOUND),
     ]
-    rows: list[Iterable[object]] = [('rule', 'cost', 'choices', 'plan cost', 'plan bound', 'gap', 'command')]
-    rows += [(name, *ruled) for name, ruled in [('never', never), *waits, ('always', always)]]
+    rows: list[Iterable[object]] = [('rule', 'cost', 'choices', 'plan cost', 'plan bound', 'gap', 'bound by parts', 'gap by parts', 'command')]
+    rows += [(name, *ruled[:-1], best.bound, ruled.cost - best.bound, ruled.command)
+             for name, ruled in [('never', never), *waits, ('always', always)]]
     title = 'Waiting rules against a proved bound'
     return Figure(picture(title, 'seconds that a train waits at most', 'cost (millions)', curves, y_scale=Scale(millions)), rows)
 
 
-def budgets_figure(study: Study) -> Figure:
-    """The curves of cost and bound by the budget of a plan."""
+def budgets_figure(study: Study, solved: Mapping[int, PlanByParts]) -> Figure:
+    """The curves of cost and bound by the budget of a plan, and of one by parts."""
     plans = [(budget, study.ruled('never', budget)) for budget in BUDGETS]
     curves = [
         Curve('cost', [(budget, ruled.plan_cost) for budget, ruled in plans]),
         Curve('proved bound', [(budget, ruled.bound) for budget, ruled in plans], BOUND),
+        Curve('cost by parts', [(budget, plan.cost) for budget, plan in solved.items()]),
+        Curve('bound by parts', [(budget, plan.bound) for budget, plan in solved.items()], BOUND),
     ]
-    rows: list[Iterable[object]] = [('budget', 'cost', 'bound', 'command')]
-    rows += [(budget, ruled.plan_cost, ruled.bound, ruled.command) for budget, ruled in plans]
-    title = 'A plan by its budget'
+    rows: list[Iterable[object]] = [('budget', 'cost', 'bound', 'cost by parts', 'bound by parts', 'command')]
+    rows += [(budget, ruled.plan_cost, ruled.bound, solved[budget].cost, solved[budget].bound, ruled.command) for budget, ruled in plans]
+    title = 'Plans by their budget'
     return Figure(picture(title, 'budget of nodes', 'cost (millions)', curves, Scale(at=int.bit_length), Scale(millions)), rows)
 
 
@@ -252,8 +256,21 @@ def quarters(scene: Scene, times: Sequence[int]) -> list[tuple[int, int]]:
     return [(quarter, round(sum(times) / len(times))) for quarter, times in sorted(late.items())]
 
 
-def adopted(study: Study, scene: Scene, feed: str) -> tuple[Run, str]:
-    """The run of a feed that adopts a plan, and the command that made it; BadFile if the rows before are not those of the scene."""
+class Adopted(NamedTuple):
+    """A run that adopts the last of some plans by parts, these by their budgets, and the command that made it."""
+    run: Run
+    solved: dict[int, PlanByParts]
+    command: str
+
+
+def adopted(study: Study, scene: Scene, folder: str) -> Adopted:
+    """What comes of a feed, left in the folder, that brings back the rows of a scene, asks for plans by parts and adopts the last one.
+    BadFile if it does not."""
+    lines = '\n'.join([*feed_of(scene), *(f'solve {budget}' for budget in BUDGETS), 'adopt']) + '\n'
+    if len(lines) > FEED:
+        raise BadFile(study.text, None, f'its rows need {len(lines)} bytes of a feed, which holds {FEED}')
+    write_all(folder, {'feed': lines})
+    feed = os.path.join(folder, 'feed')
     command, told = study.call('run', study.net, feed)
     with tempfile.TemporaryDirectory() as folder:
         name = os.path.join(folder, 'text')
@@ -261,22 +278,22 @@ def adopted(study: Study, scene: Scene, feed: str) -> tuple[Run, str]:
             file.write(told)
         run = read_text(name, scene.network)
     before = rows_of(scene.network, scene.start, run._replace(journal=run.journal[:-1]), feed)
-    if not isinstance(run.journal[-1].message, Adopt) or vars(before) != vars(scene.rows):
+    if not run.journal or not isinstance(run.journal[-1].message, Adopt) or vars(before) != vars(scene.rows):
         raise BadFile(study.text, None, 'its rows cannot be brought back one message after the other')
-    return run, command
+    items = [item for log in run.logs for item in log.items if item.answer is not None and item.answer.kind == 'solved']
+    solved = {item.said.budget: item.answer.value for item in items if isinstance(item.said, AskSolve) and item.answer is not None}
+    if list(solved) != BUDGETS:
+        raise BadFile(command, None, 'it does not answer each `solve` with a plan by parts')
+    return Adopted(run, solved, command)
 
 
-def lateness_figure(study: Study, scene: Scene, folder: str) -> Figure:
-    """The curves of lateness before and after a plan is adopted, by a feed that is left in the folder."""
-    feed = '\n'.join([*feed_of(scene), f'plan {BUDGET}', 'adopt']) + '\n'
-    if len(feed) > FEED:
-        raise BadFile(study.text, None, f'its rows need {len(feed)} bytes of a feed, which holds {FEED}')
-    write_all(folder, {'feed': feed})
-    after, command = adopted(study, scene, os.path.join(folder, 'feed'))
-    before, planned = quarters(scene, scene.times), quarters(scene, [after.times[event.id] for event in scene.network.events])
+def lateness_figure(scene: Scene, after: Adopted) -> Figure:
+    """The curves of lateness before and after a plan by parts is adopted."""
+    times = [after.run.times[event.id] for event in scene.network.events]
+    before, planned = quarters(scene, scene.times), quarters(scene, times)
     curves = [Curve('before', before), Curve('with the plan', planned)]
     rows: list[Iterable[object]] = [('from', 'before', 'with the plan', 'command')]
-    rows += [(quarter, late, then, command) for (quarter, late), (_, then) in zip(before, planned)]
+    rows += [(quarter, late, then, after.command) for (quarter, late), (_, then) in zip(before, planned)]
     title = 'Lateness of arrivals before and after a plan is adopted'
     return Figure(picture(title, 'time of day', 'seconds late (mean)', curves, Scale(clock_time, ticks=hours)), rows)
 
@@ -296,6 +313,8 @@ def make_all(given: argparse.Namespace) -> None:
     options += [f'--{name}={value}' for name, value in
                 (('event-delays', given.event_delays), ('activity-delays', given.activity_delays)) if value]
     study = Study(given.dispatcher, given.net, given.text, options)
-    figures = {'rules': rules_figure(study), 'budgets': budgets_figure(study), 'lateness': lateness_figure(study, scene, given.folder)}
+    after = adopted(study, scene, given.folder)
+    figures = {'rules': rules_figure(study, after.solved[BUDGETS[-1]]), 'budgets': budgets_figure(study, after.solved),
+               'lateness': lateness_figure(scene, after)}
     write_all(given.folder, {f'{name}.svg': figure.svg for name, figure in figures.items()}
               | {f'{name}.csv': table(figure.rows) for name, figure in figures.items()})

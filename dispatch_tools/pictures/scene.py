@@ -11,7 +11,8 @@ from typing import Iterable, NamedTuple, Optional, Sequence
 from dispatch_tools.formats.files import BadFile, text_of
 from dispatch_tools.formats.giv import read_delays, read_network
 from dispatch_tools.formats.names import read_labels, read_stops, read_trips
-from dispatch_tools.formats.runtext import Bad, read_run, Run
+from dispatch_tools.formats.lines import Bad
+from dispatch_tools.formats.runtext import read_run, Run
 from dispatch_tools.model.network import Network
 from dispatch_tools.model.railway import apply, cost_of, is_met, refusal_at_once, Rows
 

@@ -4,12 +4,13 @@ from __future__ import annotations
 import os
 from collections import Counter
 from dataclasses import dataclass
-from typing import Any, Iterable, Optional, Sequence
+from typing import Any, Iterable, Mapping, Optional, Sequence
 
 from dispatch_tools.formats.markup import escaped, in_script, policy
-from dispatch_tools.formats.runtext import Answer, Item
-from dispatch_tools.model.messages import Inner, Node
+from dispatch_tools.formats.runtext import Answer, Item, PLANNED
+from dispatch_tools.model.messages import Inner, Node, PartNode
 from dispatch_tools.model.network import Choice
+from dispatch_tools.model.parts import branches_of, Part, places_of, PlanByParts
 from dispatch_tools.model.railway import Plan, ways_of
 from dispatch_tools.pictures.diagram import drawing, style, trains_on
 from dispatch_tools.pictures.scene import clock_time, cost_parts, counted, lateness_class, lines_of, Scene
@@ -19,6 +20,10 @@ MOST_LINES = 8
 MOST_NODES = 2_000
 MOST_ITEMS = 20_000
 MOST_ROWS = 2_000
+
+# At most so many parts of a plan are shown, and trains of a part named.
+MOST_PARTS = 200
+MOST_NAMED = 20
 
 # Browsers nest lists no deeper.
 MOST_DEPTH = 150
@@ -33,10 +38,10 @@ def cost_words(cost: int) -> str:
 
 
 def answer_words(answer: Answer) -> str:
-    """An answer as it is printed; of a plan its first line."""
-    if answer.kind == 'plan':
+    """An answer as it is printed; of a plan the beginning of its first line."""
+    if answer.kind in PLANNED:
         plan = answer.value
-        return f'{answer.entry} plan {plan.mark} cost {plan.cost} bound {plan.bound}'
+        return f'{answer.entry} {answer.kind} {plan.mark} cost {plan.cost} bound {plan.bound}'
     parts = [answer.entry, answer.kind, answer.value]
     return ' '.join(str(part) for part in parts if part is not None)
 
@@ -87,7 +92,7 @@ def journal_part(scene: Scene) -> str:
     return ''.join(tables)
 
 
-def depths_of(nodes: Sequence[Node]) -> list[int]:
+def depths_of(nodes: Sequence[Node | PartNode]) -> list[int]:
     """How many nodes lie above each node of a tree in preorder."""
     depths, waiting = [], [0]
     for node in nodes:
@@ -105,14 +110,14 @@ class Cut:
     below: int
 
 
-def upper_part(nodes: Sequence[Node], most: int) -> list[Node | Cut]:
+def upper_part(nodes: Sequence[Node | PartNode], most: int) -> list[Node | PartNode | Cut]:
     """The nodes of a tree, in preorder, down to the depth to which there are at most so many."""
     depths = depths_of(nodes)
     counts, depth, whole = Counter(depths), 0, 1
     while depth < MOST_DEPTH and depth + 1 in counts and whole + counts[depth + 1] <= most:
         depth += 1
         whole += counts[depth]
-    shown: list[Node | Cut] = []
+    shown: list[Node | PartNode | Cut] = []
     for node, at in zip(nodes, depths):
         last = shown[-1] if shown else None
         if at > depth and isinstance(last, Cut):
@@ -124,7 +129,7 @@ def upper_part(nodes: Sequence[Node], most: int) -> list[Node | Cut]:
     return shown
 
 
-def node_words(node: Node | Cut) -> str:
+def node_words(node: Node | PartNode | Cut) -> str:
     if not isinstance(node, (Inner, Cut)):
         return str(node)
     words = f'branches on {node.choice}'
@@ -137,7 +142,7 @@ def ways(choice: Choice) -> tuple[str, str]:
     return str(first), str(second)
 
 
-def tree_part(nodes: Sequence[Node | Cut]) -> str:
+def tree_part(nodes: Sequence[Node | PartNode | Cut]) -> str:
     """The tree as lists that fold, from its nodes in preorder; `waiting` has the ways to come, and None where a list ends."""
     out = ['<ul class="tree">']
     waiting: list[Optional[str]] = ['']
@@ -155,25 +160,70 @@ def tree_part(nodes: Sequence[Node | Cut]) -> str:
     return ''.join([*out, '</ul></details></li>' * len(waiting), '</ul>'])
 
 
-def plan_part(feed: int, line: int, plan: Plan, most: int) -> str:
-    """A plan with its choices and its tree, of which at most so many nodes are shown."""
-    nodes = plan.nodes or []
-    choices = ''.join(f'<li>{choice}</li>' for choice in plan.choices) or '<li>none: the rows are as good as any</li>'
-    gap = 0 if plan.cost == 0 else 100 * (plan.cost - plan.bound) / plan.cost
+def is_tree(nodes: Sequence[Node | PartNode]) -> bool:
+    """Whether nodes in preorder are one whole tree."""
+    waiting = 1
+    for node in nodes:
+        if not waiting:
+            return False
+        waiting += 1 if isinstance(node, Inner) else -1
+    return not waiting
+
+
+def whole_tree(nodes: Sequence[Node | PartNode], most: int) -> str:
+    """A tree, of which at most so many nodes are shown."""
+    if not is_tree(nodes):
+        return '<p class="note">These nodes are no whole tree.</p>'
     shown = upper_part(nodes, most)
     left = f'<p class="note">The {len(shown):,} nodes nearest to the root are shown.</p>' if len(shown) < len(nodes) else ''
+    return f'{left}{tree_part(shown)}'
+
+
+def part_of_plan(scene: Scene, train_of: Mapping[int, int], number: int, part: Part, most: int) -> str:
+    """A part of a plan: the trains that decide together, and its tree, of which at most so many nodes are shown."""
+    trains = sorted({train_of[place] for place in places_of(scene.network, part)})
+    names = ', '.join(escaped(scene.train_label(train)) for train in trains[:MOST_NAMED])
+    more = f' and {len(trains) - MOST_NAMED} more' if len(trains) > MOST_NAMED else ''
+    arrivals, changes = part.share
+    terms = f'{counted(len(arrivals), "arrival", "arrivals")} and {counted(len(changes), "change", "changes")}'
+    return (f'<details><summary>Part {number}: {counted(len(trains), "train", "trains")}, '
+            f'{counted(len(branches_of(part)), "choice", "choices")}, {counted(len(part.nodes), "node", "nodes")}; {terms} cost '
+            f'{cost_words(part.bound)} or more</summary><p>{names}{more}</p>{whole_tree(part.nodes, most)}</details>')
+
+
+def parts_of_plan(scene: Scene, plan: PlanByParts, most: int) -> str:
+    """The parts of a plan, of whose trees at most so many nodes are shown."""
+    train_of = {place: number for number, train in enumerate(scene.trains) for place in train}
+    shown = plan.parts[:MOST_PARTS]
+    each = most // max(1, len(shown))
+    parts = ''.join(part_of_plan(scene, train_of, number, part, each) for number, part in enumerate(shown, 1))
+    left = len(plan.parts) - len(shown)
+    more = f'<p class="note">{counted(left, "further part is", "further parts are")} left out.</p>' if left else ''
+    return (f'<h4>{counted(len(plan.parts), "part", "parts")}, each of trains that decide together</h4>{parts}{more}'
+            f'<p class="note">All else costs {cost_words(plan.rest)} or more.</p>')
+
+
+def plan_part(scene: Scene, feed: int, line: int, plan: Plan | PlanByParts, most: int) -> str:
+    """A plan with its choices and its tree or its parts, of which at most so many nodes are shown."""
+    choices = ''.join(f'<li>{choice}</li>' for choice in plan.choices) or '<li>none: the rows are as good as any</li>'
+    gap = 0 if plan.cost == 0 else 100 * (plan.cost - plan.bound) / plan.cost
+    if isinstance(plan, PlanByParts):
+        proof = parts_of_plan(scene, plan, most)
+    else:
+        nodes = plan.nodes or []
+        proof = f'<h4>Tree of {counted(len(nodes), "node", "nodes")}</h4>{whole_tree(nodes, most)}'
     return (f'<details><summary>Feed {feed}, line {line}, entry {plan.entry}: {plan.mark}, cost {cost_words(plan.cost)}, '
             f'proved bound {cost_words(plan.bound)} (gap {gap:.2f} %)</summary><h4>Choices</h4><ul class="choices">{choices}</ul>'
-            f'<h4>Tree of {counted(len(nodes), "node", "nodes")}</h4>{left}{tree_part(shown)}</details>')
+            f'{proof}</details>')
 
 
 def plans_part(scene: Scene) -> str:
     plans = [
         (feed, item.line, item.answer.value)
-        for feed, log in enumerate(scene.run.logs, 1) for item in log.items if item.answer is not None and item.answer.kind == 'plan'
+        for feed, log in enumerate(scene.run.logs, 1) for item in log.items if item.answer is not None and item.answer.kind in PLANNED
     ]
     most = MOST_NODES // max(1, len(plans))
-    return ''.join(plan_part(feed, line, plan, most) for feed, line, plan in plans) or '<p>No plan was asked for.</p>'
+    return ''.join(plan_part(scene, feed, line, plan, most) for feed, line, plan in plans) or '<p>No plan was asked for.</p>'
 
 
 def lines_part(scene: Scene) -> tuple[str, str, str]:

@@ -10,7 +10,7 @@ export function begin(given, screen) {
   element('tell').addEventListener('submit', tellOfTrain);
   element('ask').addEventListener('submit', event => {
     event.preventDefault();
-    tell('plan', [Number(element('nodes').value)]);
+    askForPlan();
   });
   element('window').addEventListener('submit', tryWindow);
   element('rules').addEventListener('submit', tryRules);
@@ -37,6 +37,7 @@ async function asked(does) {
 }
 
 const tell = (kind, numbers) => asked(() => post('/tell', { kind, numbers }));
+const askForPlan = () => tell('solve', [Number(element('nodes').value)]);
 
 // ---- A train
 
@@ -128,9 +129,9 @@ export function showTold(screen) {
 
 // ---- Plans
 
-function effectTables(effect) {
-  const head = made('p', `${effect.mark === 'optimal' ? 'Optimal' : 'Not proved optimal'}: ${effect.cost} instead of ${effect.now}; `
-    + `no choices cost less than ${effect.bound} (gap ${effect.gap}). Changes: ${effect.kept} kept, ${effect.dropped} dropped; `
+function effectTables(effect, where) {
+  const bound = effect.mark === 'optimal' ? `no choices ${where} cost less` : `no choices ${where} cost less than ${effect.bound} (gap ${effect.gap})`;
+  const head = made('p', `${effect.mark === 'optimal' ? 'Optimal' : 'Not proved optimal'}: ${effect.cost} instead of ${effect.now}; ${bound}. Changes: ${effect.kept} kept, ${effect.dropped} dropped; `
     + `orders turned: ${effect.turned}; trains at their last stop: ${effect.later} later, ${effect.earlier} earlier.`);
   const choices = effect.choices.map(([kind, words, line]) => [[kind, withNumber(words, line)], '']);
   const trains = effect.trains.map(([, name, at, before, after, moved]) => [[name, at, before, after, moved], '']);
@@ -140,6 +141,11 @@ function effectTables(effect) {
   if (trains.length) {
     const heads = ['Train', 'Last stop', 'Late now', 'Then', 'Difference'];
     parts.push(inScroll('Trains', table(`Trains${more(effect.later + effect.earlier, trains.length)}`, heads, trains)));
+  }
+  if (effect.parts.length) {
+    const rows = effect.parts.map(([, names, choices, nodes, bound]) => [[names, choices, nodes, bound].map(String), '']);
+    const heads = ['Trains that decide together', 'Choices', 'Nodes', 'Cost at least'];
+    parts.push(inScroll('Parts', table(`Parts${more(effect.partCount, rows.length)}`, heads, rows)));
   }
   return parts;
 }
@@ -164,9 +170,9 @@ const refreshPlan = oneAtATime(async () => {
     const adopt = keyed(button('Adopt this plan', () => asked(() => post('/adopt', { plan: plan.line }))), 'adopt');
     adopt.disabled = plan.old;
     const enter = keyed(button('Enter its choices one by one', () => asked(() => post('/enter', { plan: plan.line }))), 'enter');
-    buttons.push(adopt, ' ', ...(plan.old ? [enter, ' '] : []), keyed(button('Ask again', () => tell('plan', [Number(element('nodes').value)])), 'again'));
+    buttons.push(adopt, ' ', ...(plan.old ? [enter, ' '] : []), keyed(button('Ask again', askForPlan), 'again'));
   }
-  replace(element('planned'), state, ...buttons, ...(effect ? effectTables(effect) : [made('p', 'What it would change is being worked out.')]));
+  replace(element('planned'), state, ...buttons, ...(effect ? effectTables(effect, 'on the whole network') : [made('p', 'What it would change is being worked out.')]));
 });
 
 export function showPlan(screen) {
@@ -198,7 +204,7 @@ async function tryWindow(event) {
   if (from === null || to === null) return say('A time is written as 8:05.');
   replace(element('windowed'), made('p', 'Planning.'));
   const answer = await asked(() => post('/window', { from, to, budget: Number(element('budget').value), held: [...held.keys()] }));
-  replace(element('windowed'), ...(answer ? effectTables(await answer.json()) : []));
+  replace(element('windowed'), ...(answer ? effectTables(await answer.json(), 'in this window') : []));
 }
 
 async function tryRules(event) {
