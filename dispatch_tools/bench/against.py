@@ -274,7 +274,7 @@ def main(argv: Sequence[str] | None = None) -> int:
     words.add_argument('--solvers', default=','.join(SOLVERS), metavar='S,S', help=f'({",".join(SOLVERS)})')
     words.add_argument('--csv', metavar='FILE', help='file that also gets the numbers')
     given = words.parse_args(argv)
-    solvers = list(filter(None, given.solvers.split(',')))
+    solvers: list[str] = [solver for solver in given.solvers.split(',') if solver]
     if not set(solvers) <= set(SOLVERS):
         words.error(f'--solvers: some of {", ".join(SOLVERS)}')
     rows: list[Iterable[object]] = [('day', 'program', *Found._fields)]
