@@ -1,6 +1,6 @@
 //! Plans beside a slow reading of what a true plan is.
 //!
-//! It goes over every list of three messages where two trains meet, and over generated days of 9 to 12 trains with drawn
+//! It goes over every list of three messages where two trains meet, and over generated days of 9 to 24 trains with drawn
 //! messages. The drawn messages are events that have passed or are recalled, dropped changes, pairs that are turned, delays
 //! and a clock. For each list and each day it asks for plans of up to 64 nodes. On the days it also asks for plans of windows,
 //! and for plans that go on from parts of other plans. Each plan of the rows is made one by parts too.
@@ -10,8 +10,8 @@
 //! leaf of another are compared with what was worked out by hand. For each case it prints `NAME ok`, or what is wrong with a
 //! plan.
 //!
-//! It stands on dm_samples for networks and messages, on dm_search and dm_window for the plans, and on dm_solve for plans by parts. Its reading stands on no
-//! crate that computes times or judges plans. It promises nothing.
+//! It stands on dm_samples for networks and messages, on dm_search and dm_window for the plans, and on dm_solve for plans by
+//! parts. Its reading stands on no crate that computes times or judges plans. It promises nothing.
 #![tactic(auto)]
 
 mod changed;
@@ -41,13 +41,14 @@ use windows::judge_windows;
 use wrong::{Wrong, report};
 
 /// The name of a day, its trains, whether they turn around, before when all has passed, and the penalty.
-const DAYS: [(&str, u32, bool, u64, u64); 6] = [
+const DAYS: [(&str, u32, bool, u64, u64); 7] = [
     ("day-of-9-trains", 9, false, 23_720, 10),
     ("day-of-9-trains-at-dear-changes", 9, false, 23_660, 200),
     ("day-of-10-trains", 10, false, 0, 10),
     ("day-of-11-trains", 11, false, 23_000, 30),
     ("day-of-12-trains", 12, false, 22_400, 10),
     ("day-of-12-trains-that-turn", 12, true, 24_000, 100),
+    ("day-of-24-trains", 24, false, 22_400, 10),
 ];
 
 fn main(rt: HostRuntime) -> io::Result<()> {
