@@ -78,9 +78,9 @@ fn later_choices<'p>(
             ..
         } => Some(&plan.choices),
         LogItem::Answered {
-            reply: Reply::Solved(plan),
+            reply: Reply::Solved(solution),
             ..
-        } => Some(&plan.choices),
+        } => Some(&solution.choices),
         _ => latest,
     }
 }
