@@ -27,7 +27,8 @@ pub(crate) fn cost_within(net: &Network, evaluator: &Evaluator, penalty: u64, sh
     requires penalty { penalty ≤ PENALTY }
     requires share { IsShare net.now share.now }
     requires small { IsSmall share.now }
-    ensures cost { result ≡ relaxed_cost_of (within net.now share.now) evaluator.now.rows evaluator.now.path (times_of evaluator.now) penalty }
+    ensures cost { result ≡
+        relaxed_cost_of (within net.now share.now) evaluator.now.rows evaluator.now.path (times_of evaluator.now) penalty }
     ensures costs { RelaxedCosts (within net.now share.now) evaluator.now.rows evaluator.now.path penalty result }
     ensures limit { result < 2 ^ 100 }
 {

@@ -145,7 +145,8 @@ fn rest_of(
 fn put_together(entry: u32, chosen: Chosen, gathered: Gathered, rest: Cost) -> PlanByParts
     requires low { gathered.bound + rest < 2 ^ 128 }
     ensures parts { (task : PlanTask) → AreChosen task chosen.choices chosen.cost →
-        AreGathered task gathered.claims.arrivals.items gathered.claims.changes.items gathered.parts.items gathered.bound gathered.nodes gathered.ids →
+        AreGathered task gathered.claims.arrivals.items gathered.claims.changes.items gathered.parts.items
+        gathered.bound gathered.nodes gathered.ids →
         CostsRelaxed (task_beside task (shares_of gathered.parts.items)) [] rest → IsTruePlanByParts task result }
     ensures kept { result.parts ≡ gathered.parts.items }
     ensures entry { result.entry ≡ entry }
