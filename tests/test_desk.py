@@ -15,14 +15,16 @@ from typing import Any, Optional
 from unittest import mock
 
 from dispatch_tools.days.playing import Program
-from dispatch_tools.desk.alerts import alerts_of, Marks, MOST, Server
+from dispatch_tools.desk.alerts import alerts_of, Marks, MOST, Server, Since, Standing
 from dispatch_tools.desk.asking import adoption, Asking, journal_text, SecondReading
 from dispatch_tools.desk.day import Day, Names
 from dispatch_tools.desk.feed import Feed, line_of
+from dispatch_tools.desk.handover import handover
 from dispatch_tools.desk.locks import is_held
 from dispatch_tools.desk.reckoning import Reckoning
 from dispatch_tools.desk.rights import hosts_of, is_loopback, LONGEST_BODY, read_token, Rights
-from dispatch_tools.desk.room import Refused, Room, Settings
+from dispatch_tools.desk.notebook import Action, Notebook, Seen
+from dispatch_tools.desk.room import Doubted, Refused, Room, Settings
 from dispatch_tools.desk.screen import board_of, screen_of, server_board, train_of
 from dispatch_tools.desk.server import PageServer, POLICY
 from dispatch_tools.dev.hostile_names import HOSTILE
@@ -165,16 +167,18 @@ class Rooms(InRoom):
     def test_a_line_waits_and_then_has_its_reply(self) -> None:
         self.say()
         self.assertEqual(self.room.tell('delay event', [1, 60]), 1)
-        line, words, raw, answer, good, back = self.screen()['told'][0]
-        self.assertEqual((line, raw, answer, good, back), (1, 'delay event 1 60', '', None, False))
+        told = self.screen()['told'][0]
+        self.assertEqual((told['line'], told['raw'], told['answer'], told['good'], told['sets']), (1, 'delay event 1 60', '', None, ''))
+        self.assertIn('1 min late', told['words'])
         self.say(round_of('', '1 delay event 1 60 -> 1 ok\n'))
-        self.assertEqual(self.screen()['told'][0][3:], ['entered as 1', True, True])
+        told = self.screen()['told'][0]
+        self.assertEqual((told['answer'], told['good']), ('entered as 1', True))
+        self.assertIn('not late by itself', told['sets'])
         self.assertEqual(self.screen()['entries'], 1)
-        self.assertIn('1 min late', words)
 
     def test_lines_take_back_what_was_told(self) -> None:
         told = ['delay event 1 60', 'delay event 1 90', 'pass 1 100', 'recall 1', 'drop 5', 'first 5 3', 'keep 5', 'now 0']
-        taken = ['delay event 1 0', 'delay event 1 60', 'recall 1', 'pass 1 100', 'keep 5', 'first 3 5', 'drop 5', None]
+        taken = ['delay event 1 0', 'delay event 1 60', None, 'pass 1 100', None, 'first 3 5', 'drop 5', None]
         self.feed.tell(told)
         self.say(round_of('', ''.join(f'{number} {line} -> {number} ok\n' for number, line in enumerate(told, 1))))
         for number, line in enumerate(taken, 1):
@@ -182,11 +186,69 @@ class Rooms(InRoom):
                 with self.assertRaises(Refused):
                     self.room.undo(number)
             else:
-                at = self.room.undo(number).line
+                at = self.room.undo(number, len(told)).line
                 self.assertEqual(self.room.pending[at][0], line)
         for other in (99, '1', None):
             with self.assertRaises(Refused):
                 self.room.undo(other)
+
+    def test_an_undo_says_who_has_said_something_since_and_asks(self) -> None:
+        self.feed.tell(['delay event 1 300'])
+        own, other = round_of('', '1 delay event 1 300 -> 1 ok\n'), round_of('1 delay event 1 600 -> 2 ok\n')
+        self.say(own, other)
+        with self.assertRaises(Doubted) as caught:
+            self.room.undo(1)
+        self.assertEqual(caught.exception.words, ['It sets: Train 1 leaves Stop 1: not late by itself any more.',
+                                                  'feed 1 has said since: Train 1 leaves Stop 1: 10 min late (entry 2).'])
+        self.assertEqual(caught.exception.entries, 2)
+        self.say(own, other, round_of('2 delay event 1 660 -> 3 ok\n'))
+        for agreed in 2, '3', True, None:
+            self.assertRaises(Doubted, self.room.undo, 1, agreed)
+        self.assertEqual(self.room.pending, {})
+        self.assertEqual(self.room.undo(1, 3).sets, ['Train 1 leaves Stop 1: not late by itself any more'])
+        self.assertEqual(self.room.pending[2][0], 'delay event 1 0')
+        self.say(own, other, round_of('2 delay event 1 660 -> 3 ok\n'), round_of('', '2 delay event 1 0 -> 4 ok\n'))
+        self.assertEqual(self.screen()['told'][1]['stands'], 'taken back by line 2; now: Train 1 leaves Stop 1: not late by itself any more')
+        self.assertRaises(Refused, self.room.undo, 1, 4)
+
+    def test_choices_that_are_entered_one_by_one_are_taken_back_together(self) -> None:
+        self.feed.tell(["# the number of the plan's line is 3", 'delay event 1 60', 'plan 100'])
+        rounds = [round_of('', '2 delay event 1 60 -> 1 ok\n' + PLAN), round_of('1 delay event 3 1 -> 2 ok\n')]
+        self.say(*rounds)
+        self.assertEqual(self.room.enter_choices(3), 4)
+        told = self.screen()['told'][0]
+        self.assertEqual((told['line'], told['numbers'], told['good'], told['sets']), (4, '4–5', None, ''))
+        self.assertRaises(Refused, self.room.undo, 4)
+        lines = [self.room.pending[number][0] for number in (4, 5)]
+        rounds.append(round_of('', f'4 {lines[0]} -> 3 ok\n5 {lines[1]} -> 4 ok\n'))
+        self.say(*rounds)
+        told = self.screen()['told'][0]
+        self.assertEqual((told['answer'], told['good']), ('2 entered as 3 to 4', True))
+        self.assertEqual(self.room.undo(4).line, 6)
+        self.assertEqual(sorted(line for line, _ in self.room.pending.values()), ['first 3 5', 'keep 5'])
+        other = self.room_of(read_stops(CONNECTION))
+        while other.read_more():
+            pass
+        other.show()
+        self.assertEqual([row['numbers'] for row in json.loads(other.screen)['told']], ['4–5', '3', '2'])
+
+    def test_what_may_be_a_slip_is_asked(self) -> None:
+        self.say(round_of('1 now 36000 -> 1 ok\n2 pass 1 36100 -> 2 ok\n'))
+        for kind, numbers, word in [('delay event', [2, 3601], 'more than 1 h'), ('delay activity', [1, 7200], 'more than 1 h'),
+                                    ('pass', [2, 3600], '9 h before the clock'), ('pass', [2, 36050], 'before Train 1 left'),
+                                    ('pass', [2, 80000], 'after the clock')]:
+            with self.assertRaises(Doubted) as caught:
+                self.room.tell(kind, numbers)
+            self.assertIn(word, ' '.join(caught.exception.words))
+        self.assertEqual(self.room.pending, {})
+        self.assertEqual(self.room.tell('delay event', [2, 3600]), 1)
+        self.assertEqual(self.room.tell('delay event', [2, 3601], 2), 2)
+
+    def test_a_late_train_is_so_late_at_the_event_that_is_named(self) -> None:
+        self.say(round_of('1 delay event 1 120 -> 1 ok\n2 delay event 2 600 -> 2 ok\n'))
+        row = self.screen()['late'][0]
+        self.assertEqual((row[2], row[5], row[6]), ('leaves Stop 1', '2 min', 600))
+        self.assertIn('10 min: reaches Stop 2', row[7])
 
     def test_an_adopted_plan_is_taken_back_choice_by_choice(self) -> None:
         self.feed.tell(['# the number of the plan\'s line is 3', 'delay event 1 60', 'plan 100', 'adopt'])
@@ -277,7 +339,8 @@ class Rooms(InRoom):
         self.assertEqual(effect['parts'], [[2, 'Train 1, Train 5', 1, 3, '15.7 passenger minutes']])
         self.assertEqual(effect['partCount'], 1)
         told = self.screen()['told'][0]
-        self.assertEqual(told[1:4], ['a plan by parts of at most 100 nodes', 'solve 100', 'optimal plan by parts of 2 choices, 15.7 passenger minutes'])
+        self.assertEqual((told['words'], told['raw'], told['answer']), ('a plan by parts of at most 100 nodes', 'solve 100',
+                                                                       'optimal plan by parts of 2 choices, 15.7 passenger minutes'))
         self.assertEqual(self.room.tell('solve', [50]), 4)
         self.assertRaises(Refused, self.room.adopt, 3)
         self.say(round_of('', delayed + SOLVED), round_of('', SOLVED.replace('3 solve 100', '4 solve 50')), round_of('', '5 adopt -> 2 ok\n'))
@@ -290,7 +353,7 @@ class Rooms(InRoom):
         self.say(round_of('', '1 delay event 1 61 -> 1 ok\n'))
         with self.assertRaises(Refused):
             self.room.tell('keep', [5])
-        self.assertEqual(self.screen()['alerts'][0][0], 'fault')
+        self.assertEqual(self.screen()['alerts'][0]['kind'], 'fault')
 
     def test_a_journal_that_is_begun_anew(self) -> None:
         self.say(round_of('1 delay event 1 60 -> 1 ok\n'))
@@ -315,7 +378,7 @@ class Rooms(InRoom):
         before = self.room.day.reckoning.times[:]
         self.room.confirm()
         self.assertEqual(self.room.day.reckoning.times, [time + 1 for time in before])
-        self.assertIn('The program is right', self.screen()['alerts'][0][2])
+        self.assertIn('The program is right', self.screen()['alerts'][0]['words'])
 
     def test_the_text_for_the_program_is_a_journal(self) -> None:
         self.say(round_of('1 delay event 1 60 -> 1 ok\n', '1 drop 5 -> 2 ok\n'))
@@ -355,8 +418,38 @@ class Alerts(InRoom):
         day.begin(Head(10, 16, 2))
         told = [DelayEvent(20 * number + 1, 900) for number in range(40)]
         day.take([Answered(1, Item(number - 1, one, Answer('ok', number)), Entry(1, number - 1, one)) for number, one in enumerate(told, 1)])
-        late = [alert for alert in alerts_of(day, Marks(waits=10 ** 6), Server(True, None), []) if alert.kind == 'late']
-        self.assertEqual((len(late), late[-1].words), (MOST + 1, f'and {40 - MOST} more of this kind'))
+        standing = Standing()
+        standing.stand(alerts_of(day, Marks(waits=10 ** 6), Server(True, None), []), {}, Since('8:00', 40))
+        late = [row['words'] for row in standing.rows if row['kind'] == 'late']
+        self.assertEqual((len(late), late[-1]), (MOST + 1, f'and {40 - MOST} more of this kind'))
+
+    def test_what_was_seen_is_seen_at_all_desks_until_it_is_worse(self) -> None:
+        told = '1 delay event 1 600 -> 1 ok\n2 now 60 -> 2 ok\n'
+        self.say(round_of(told))
+        row = next(row for row in self.screen()['alerts'] if row['kind'] == 'late')
+        self.assertEqual((row['severity'], row['clock'], row['entry'], row['level']), ('warning', '0:01', 2, 600))
+        self.assertRaises(Refused, self.room.see, 'late', '99')
+        self.room.see('late', row['key'])
+        other = self.room_of({}, None)
+        other.settings.name = 'Anna'
+        while other.read_more():
+            pass
+        other.show()
+        seen = json.loads(other.screen)['seen']
+        self.assertEqual([(one['kind'], one['who']) for one in seen], [('late', 'feed 2')])
+        self.say(round_of(told), round_of('3 delay event 1 900 -> 3 ok\n'))
+        late = [row for row in self.screen()['alerts'] if row['kind'] == 'late' and row['key'] == seen[0]['key']]
+        self.assertEqual([(row['severity'], row['level']) for row in late], [('urgent', 900)])
+        self.room.see('late', seen[0]['key'])
+        self.room.is_caught_up = True
+        self.say(round_of(told), round_of('3 delay event 1 900 -> 3 ok\n'), round_of('4 delay event 1 0 -> 4 ok\n'))
+        self.screen()
+        self.assertNotIn(('late', seen[0]['key']), self.room.notebook.seen)
+
+    def test_a_colleague_adopts_a_plan(self) -> None:
+        self.say(round_of('1 delay event 1 60 -> 1 ok\n' + PLAN.replace('3 plan', '2 plan') + '3 adopt -> 2 ok\n'))
+        row = next(row for row in self.screen()['alerts'] if row['kind'] == 'adopted')
+        self.assertIn('feed 1 adopted a plan: Train 5 does not wait for Train 1', row['words'])
 
     def test_a_lock_is_looked_up_in_the_table(self) -> None:
         self.write(b'')
@@ -388,11 +481,24 @@ class Looked(InRoom):
         pairs = [pair[:2] for number in range(len(self.room.day.trains)) for pair in train_of(self.room.day, number)['pairs']]
         self.assertEqual({frozenset(pair) for pair in pairs}, {frozenset((3, 5))})
 
+    def test_the_page_for_the_next_shift(self) -> None:
+        self.room.settings.name = 'Anna <b>'
+        self.room.notebook.called(1, 'Anna <b>')
+        self.say(round_of('1 now 36000 -> 1 ok\n2 first 3 5 -> 2 ok\n'), round_of('', '1 drop 5 -> 3 ok\n2 delay event 1 600 -> 4 ok\n'))
+        self.screen()
+        page = handover(self.room)
+        for words in ('Handover by Anna &lt;b&gt;', 'Train 1 leaves Stop 1: 10 min late', 'Train 5 does not wait for Train 1', '<td>10:00</td>',
+                      '<td>Anna &lt;b&gt; (feed 2)</td>', '<td>feed 1</td>', 'Late trains'):
+            self.assertIn(words, page)
+        self.assertNotIn('<b>', page)
+        self.say(round_of('1 drop 5 -> 1 ok\n2 now 3601 -> 2 ok\n'))
+        self.assertNotIn('<td>1</td>', handover(self.room))
+
     def test_names_stay_as_they_are(self) -> None:
         for name in HOSTILE:
             self.room = self.room_of(dict.fromkeys(range(10), name), {1: name, 3: name, 5: name})
             self.say(round_of('1 delay event 1 600 -> 1 ok\n'))
-            self.assertIn(name, json.dumps(screen_of(self.room, []), ensure_ascii=False).replace('\\\\', '\\').replace('\\"', '"')
+            self.assertIn(name, json.dumps(screen_of(self.room), ensure_ascii=False).replace('\\\\', '\\').replace('\\"', '"')
                           if name.isprintable() else name)
             self.assertEqual(self.screen()['late'][0][1], name)
 
@@ -557,7 +663,47 @@ class Tokens(InStore):
                 read_token(self.path)
         with open(self.path, 'w', encoding='utf-8') as file:
             file.write('a-token-of-the-tests\n')
-        self.assertEqual(read_token(self.path), 'a-token-of-the-tests')
+        self.assertEqual(read_token(self.path), ('a-token-of-the-tests', ''))
+
+    def test_a_token_has_a_name(self) -> None:
+        for name, is_good in [('Anna Müller', True), ('x' * 41, False), ('two\nlines', False), ('a\x1b[31m', False)]:
+            with open(self.path, 'w', encoding='utf-8') as file:
+                file.write(f'a-token-of-the-tests\n{name}\n')
+            if is_good:
+                self.assertEqual(read_token(self.path), ('a-token-of-the-tests', name))
+            else:
+                self.assertRaises(BadFile, read_token, self.path)
+
+
+class Notes(InStore):
+    def test_desks_read_what_each_has_written(self) -> None:
+        one, two = Notebook(self.path, 1), Notebook(self.path, 2)
+        one.called(3, 'Anna')
+        one.called(4, 'Anna')
+        two.called(1, 'Ben')
+        one.called(9, 'Carla')
+        one.see('late', '5', Seen('Anna', '8:05', 300))
+        two.did(Action(5, 7, 'choices', 2))
+        for book in one, two:
+            book.read()
+            self.assertEqual([book.name_of(1, line) for line in (2, 3, 8, 9)], ['', 'Anna', 'Anna', 'Carla'])
+            self.assertEqual((book.name_of(2, 1), book.name_of(3, 1)), ('Ben', ''))
+            self.assertEqual(book.seen, {('late', '5'): Seen('Anna', '8:05', 300)})
+        self.assertEqual((one.actions, two.first_of, two.undone), ({}, {5: 5, 6: 5, 7: 5}, {2: 5}))
+
+    def test_what_is_no_line_says_nothing(self) -> None:
+        good = b'{"is": "seen", "kind": "late", "key": "5", "level": 0, "who": "A", "at": "8:05"}'
+        for line in (b'', b'{', b'[' * 9999, b'5', b'{"is": 5}', b'{"is": ["seen"]}', b'\xff', good.replace(b'0', b'-1'), good.replace(b'0', b'true'),
+                     good.replace(b'"A"', b'5'), good.replace(b'"A"', b'"' + b'A' * 401 + b'"'), good[:-1] + b', "more": 1}',
+                     b'{"is": "action", "feed": 1, "first": 1, "last": 99999999, "says": "", "undoes": 0}'):
+            self.write(line + b'\n' + good)
+            book = Notebook(self.path, 1)
+            book.read()
+            self.assertEqual((book.seen, book.first_of), ({}, {}), line)
+            with open(self.path, 'ab') as file:
+                file.write(b'\n')
+            book.read()
+            self.assertEqual([*book.seen], [('late', '5')])
 
     def test_which_addresses_are_this_machine(self) -> None:
         self.assertTrue(is_loopback('127.0.0.1') and is_loopback('::1') and is_loopback('localhost'))

@@ -4,8 +4,9 @@
 
 Over a generated day it starts a server (`serve`) with two feeds, and the desk. With Debian's `chromium` it does a control room's
 work. It reports a delay on the page, and sees the reply, the train and the board move. It asks for a plan, compares it, and
-adopts it, or finds it old. It takes a correction back. It tries a window and the waiting rules. It looks that names which are
-scripts do nothing. It sends what must be refused: requests from another origin, without a token, too long, or with a path
+adopts it, or finds it old. It takes a correction back, and is asked if a colleague has said something since. It is asked before a
+slip of the hand is sent. It sees alerts, hands over, and looks what stands on two sizes of screens. It tries a window and the
+waiting rules. It looks that names which are scripts do nothing. It sends what must be refused: requests from another origin, without a token, too long, or with a path
 upwards. It kills the server and starts it again while the page is open. Then it measures the first picture, an entry from the
 feed to the screen, ten pages at once, and memory.
 
@@ -14,23 +15,18 @@ It prints what differs, and the status is then 1. With --pictures it leaves pict
 from __future__ import annotations
 
 import argparse
-import http.client
 import json
 import os
-import secrets
 import shutil
-import subprocess
 import sys
 import tempfile
 import time
-from typing import Callable, Optional, Sequence
+from typing import Callable, Sequence
 
-from dispatch_tools.days.generated import write_day
+from dispatch_tools.bench.desk_page import choose, Desk, fill, has, press, text, until, visit, Wrong
+from dispatch_tools.bench.desk_steps import hands_over, looks, SIZES, sees_alerts, slips, takes_back_with_care
 from dispatch_tools.dev.browser import Browser, CHROMIUM, MISSING
 from dispatch_tools.dev.hostile_names import HOSTILE
-from dispatch_tools.formats.names import in_print
-from dispatch_tools.here import words_of
-from dispatch_tools.live.serving import Server
 from dispatch_tools.words import add_program, command_line, whole_between
 
 # What the desk promises: seconds to the first picture and from a feed to the screen, bytes of memory, and pages at once.
@@ -38,122 +34,6 @@ FIRST, SEEN, MEMORY, PAGES = 2.0, 0.2, 200 << 20, 10
 
 # The seconds within which pages that are opened at once have to stand.
 SETTLED = 4.0
-
-# The seconds after which something counts as missing.
-PATIENCE = 60.0
-
-
-class Wrong(Exception):
-    """The page does not do what it should."""
-
-
-class Desk:
-    """A day in a folder, its server and its page."""
-
-    def __init__(self, program: str, folder: str, trains: int, store: str = 'store') -> None:
-        self.program, self.folder = program, folder
-        write_day(7, trains, folder)
-        self.net = os.path.join(folder, 'net')
-        self.store = os.path.join(folder, store)
-        self.feeds = [os.path.join(folder, name) for name in ('others', 'own')]
-        self.token = secrets.token_urlsafe(16)
-        with open(os.open(os.path.join(folder, 'token'), os.O_WRONLY | os.O_CREAT, 0o600), 'w', encoding='ascii') as file:
-            file.write(self.token)
-        self.server = Server(program, self.net, self.store, self.feeds, ['--plans=100'])
-        self.page: Optional[subprocess.Popen[str]] = None
-        self.port = 0
-
-    def name(self, file: str, names: dict[int, str]) -> None:
-        """Gives the network a file of names."""
-        with open(os.path.join(self.net, file), 'w', encoding='utf-8', newline='') as into:
-            into.write(in_print(['id', 'name'], names.items()))
-
-    def open(self, *words: str) -> None:
-        command = [*words_of('desk'), self.net, self.store, self.feeds[1], '--feed=2', '--port=0',
-                   f'--program={self.program}', *words]
-        self.page = subprocess.Popen(command, stdout=subprocess.PIPE, text=True)
-        assert self.page.stdout is not None
-        self.port = int(self.page.stdout.readline().rstrip('/\n').rsplit(':', 1)[1])
-
-    @property
-    def address(self) -> str:
-        return f'http://127.0.0.1:{self.port}/'
-
-    def tell(self, *lines: str) -> None:
-        """Appends lines to the feed of another source."""
-        self.server.append(0, lines)
-
-    def close(self) -> None:
-        self.server.kill()
-        if self.page is not None:
-            self.page.terminate()
-            self.page.wait()
-
-    def ask(self, method: str, path: str, body: bytes = b'', **headers: str) -> tuple[int, str]:
-        """The status and the text of the answer to a request that no page makes."""
-        line = http.client.HTTPConnection('127.0.0.1', self.port, timeout=PATIENCE)
-        line.putrequest(method, path, skip_host='Host' in headers)
-        given = {'Content-Length': str(len(body)), 'Content-Type': 'application/json', **headers} if method == 'POST' else headers
-        for name, value in given.items():
-            line.putheader(name.replace('_', '-'), value)
-        try:
-            line.endheaders(body or None)
-        except (ConnectionError, BrokenPipeError):
-            pass
-        answer = line.getresponse()
-        words = answer.read(65_536).decode(errors='replace') if answer.getheader('Content-Type') != 'text/event-stream; charset=utf-8' else ''
-        line.close()
-        return answer.status, words
-
-
-# ---- The page
-
-
-def until(browser: Browser, expression: str, what: str) -> float:
-    """Waits until something holds on the page; the seconds that it took."""
-    began = time.monotonic()
-    while not browser.value(expression):
-        if time.monotonic() - began > PATIENCE:
-            raise Wrong(f'{what}: {expression}')
-        time.sleep(0.01)
-    return time.monotonic() - began
-
-
-def text(selector: str) -> str:
-    return f'(document.querySelector({json.dumps(selector)})?.textContent ?? "")'
-
-
-def has(selector: str, words: str) -> str:
-    return f'{text(selector)}.includes({json.dumps(words)})'
-
-
-def press(browser: Browser, label: str) -> None:
-    """Presses the button with this label, or whose name for a screen reader begins with it."""
-    browser.value(f'''[...document.querySelectorAll('button')].find(one => one.textContent === {json.dumps(label)}
-        || (one.getAttribute('aria-label') || '').startsWith({json.dumps(label)})).click()''')
-
-
-def choose(browser: Browser, name: str, value: object) -> None:
-    browser.value(f'''(one => {{ one.value = {json.dumps(value)}; one.dispatchEvent(new Event('change')); }})
-        (document.getElementById({json.dumps(name)}))''')
-
-
-def fill(browser: Browser, name: str, value: object) -> None:
-    browser.value(f'document.getElementById({json.dumps(name)}).value = {json.dumps(value)}')
-
-
-def visit(browser: Browser, desk: Desk, token: bool = True) -> float:
-    """Opens the page; the seconds until its first picture is whole."""
-    began = time.monotonic()
-    browser.visit(desk.address)
-    until(browser, "!!document.querySelector('#view svg') && !!document.querySelector('#train table')", 'the first picture')
-    took = time.monotonic() - began
-    if token:
-        fill(browser, 'token', desk.token)
-        press(browser, 'Use')
-        until(browser, "!document.getElementById('tell').hidden", 'the token is taken')
-    return took
-
 
 # ---- What a dispatcher does
 
@@ -265,8 +145,7 @@ def is_killed(browser: Browser, desk: Desk) -> None:
 
 def keys(browser: Browser, desk: Desk) -> None:
     """All is reached by keys, each control has a name, and a delay is reported without a mouse."""
-    browser.value('document.activeElement.blur(); scrollTo(0, 0)')
-    reached = []
+    reached = [browser.value("(one => (one.focus(), one.textContent))(document.querySelector('.skip'))")]
     for _ in range(12):
         browser.press('Tab')
         reached.append(browser.value("document.activeElement.id || document.activeElement.textContent"))
@@ -382,16 +261,19 @@ def measured(desk: Desk, browser: Browser, first: float) -> bool:
 
 def pictures(browser: Browser, folder: str, trains: int) -> None:
     os.makedirs(folder, exist_ok=True)
-    for scheme in ('light', 'dark'):
-        browser.look(1500, 1150, scheme)
-        browser.value('scrollTo(0, 0)')
-        browser.settled()
-        with open(os.path.join(folder, f'desk-{trains}-{"day" if scheme == "light" else "night"}.png'), 'wb') as file:
-            file.write(browser.picture())
+    for width, height in SIZES:
+        for scheme in ('light', 'dark'):
+            browser.look(width, height, scheme)
+            browser.value('scrollTo(0, 0)')
+            browser.settled()
+            name = f'desk-{trains}-{width}-{"day" if scheme == "light" else "night"}.png'
+            with open(os.path.join(folder, name), 'wb') as file:
+                file.write(browser.picture())
 
 
 WORK: list[Callable[[Browser, Desk], None]] = [
-    reports_a_delay, takes_it_back, drops_a_change, turns_a_pair, reports_what_passed, plans, tries, is_killed, keys,
+    reports_a_delay, takes_it_back, drops_a_change, turns_a_pair, reports_what_passed, slips, takes_back_with_care, sees_alerts, looks,
+    plans, hands_over, tries, is_killed, keys,
 ]
 
 
@@ -399,7 +281,7 @@ def tried(given: argparse.Namespace, folder: str) -> bool:
     browser = Browser()
     desk = Desk(given.program, os.path.join(folder, 'day'), given.trains)
     try:
-        browser.look(1500, 1150)
+        browser.look(*SIZES[0])
         desk.server.start()
         desk.open(f'--token={os.path.join(desk.folder, "token")}')
         first = visit(browser, desk)

@@ -49,7 +49,7 @@ def arguments(argv: Sequence[str] | None) -> argparse.ArgumentParser:
     words.add_argument('--feed', type=whole_between(1, 64), default=1, metavar='K', help=number)
     words.add_argument('--feeds', default='', metavar='NAME,NAME,..', help='names of the feeds of the server, for the page')
     words.add_argument('--port', type=whole_between(0, 65_535), default=8080, metavar='N', help='port, 0 for a free one (8080)')
-    words.add_argument('--token', metavar='FILE', help='file with the token; without it the page only shows')
+    words.add_argument('--token', metavar='FILE', help='file with the token, and a name in its second line; without it the page only shows')
     program = 'the built program (DISPATCHER in the environment, else where it was built)'
     words.add_argument('--program', metavar='DISPATCHER', help=program)
     words.add_argument('--listen', default='127.0.0.1', metavar='ADDRESS', help='address of the page (127.0.0.1)')
@@ -63,7 +63,7 @@ def arguments(argv: Sequence[str] | None) -> argparse.ArgumentParser:
     return words
 
 
-def room_of(given: argparse.Namespace, folder: str) -> Room:
+def room_of(given: argparse.Namespace, folder: str, name: str) -> Room:
     """The room that the words ask for; BadFile if a file is not good."""
     network = read_network(given.net)
     start = Rows(network, read_delays(given.net, given.event_delays), read_delays(given.net, given.activity_delays))
@@ -71,7 +71,7 @@ def room_of(given: argparse.Namespace, folder: str) -> Room:
     options = [f'--{name}={value}' for name, value in
                (('event-delays', given.event_delays), ('activity-delays', given.activity_delays)) if value]
     marks = Marks(60 * given.late, 60 * given.waits, 60 * given.silent)
-    settings = Settings(given.store, marks, found_program(given.program, TOP), given.net, folder, options, given.token is not None)
+    settings = Settings(given.store, marks, found_program(given.program, TOP), given.net, folder, options, given.token is not None, name)
     try:
         feed = Feed(given.own)
     except OSError as error:
@@ -96,8 +96,9 @@ def main(argv: Sequence[str] | None = None) -> int:
     signal.signal(signal.SIGTERM, lambda *_: sys.exit(0))
     with tempfile.TemporaryDirectory() as folder:
         try:
-            token = None if given.token is None else read_token(given.token)
-            room = room_of(given, folder)
+            holder = None if given.token is None else read_token(given.token)
+            token = holder.token if holder else None
+            room = room_of(given, folder, holder.name if holder else '')
             server = PageServer((given.listen, given.port), room, Rights(frozenset(), token))
         except (BadFile, OSError) as fault:
             sys.exit(f'desk: {fault}')

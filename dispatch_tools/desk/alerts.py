@@ -2,17 +2,33 @@
 from __future__ import annotations
 
 import time
-from dataclasses import dataclass
-from typing import Iterator, NamedTuple
+from collections import Counter
+from dataclasses import dataclass, field
+from typing import Any, Iterable, Iterator, NamedTuple
 
 from dispatch_tools.desk.day import Day
 from dispatch_tools.desk.naming import duration
+from dispatch_tools.desk.notebook import Seen
+from dispatch_tools.model.railway import decisions_of
 from dispatch_tools.pictures.scene import counted
 
 MISSED, WAITS, LATE = 'missed', 'waits', 'late'
 
-# At most so many alerts of a kind are shown. If there are more, a line says how many.
-MOST = 12
+# How severe the kinds are.
+URGENT, WARNING, NOTICE = 'urgent', 'warning', 'notice'
+SEVERITY = {'fault': URGENT, 'server': URGENT, MISSED: URGENT, WAITS: WARNING, LATE: WARNING, 'adopted': NOTICE, 'plan': NOTICE, 'feed': NOTICE}
+
+# At most so many alerts of a kind are shown, and so many that were seen. If there are more of a kind, a line says how many.
+MOST, MOST_SEEN = 12, 40
+
+# What was seen is shown again when it is worse by so many seconds. A train that is so many seconds late is urgent.
+WORSE, VERY_LATE = 300, 900
+
+# The key of the line that says how many more alerts of a kind there are.
+MORE = 'more'
+
+# So many choices of an adopted plan are named.
+NAMED = 3
 
 # A server that has not answered a line for so many seconds is called silent.
 PATIENCE = 3.0
@@ -27,10 +43,15 @@ class Marks:
 
 
 class Alert(NamedTuple):
-    """A kind, a key that no other alert of the kind has, and words."""
+    """A kind, a key that no other alert of the kind has, words, and how many seconds it is about."""
     kind: str
     key: str
     words: str
+    level: int = 0
+
+    @property
+    def severity(self) -> str:
+        return URGENT if self.kind == LATE and self.level >= VERY_LATE else SEVERITY[self.kind]
 
 
 class Server(NamedTuple):
@@ -44,11 +65,60 @@ def alerts_of(day: Day, marks: Marks, server: Server, faults: list[str]) -> list
     found = [Alert('fault', fault, fault) for fault in faults]
     found += of_server(server)
     found += of_plan(day)
-    for kind, keys, alert in ((MISSED, sorted(day.missed), missed), (WAITS, waited_for(day, marks), waits), (LATE, day.late_trains(marks.late), late)):
-        found += [Alert(kind, *alert(day, key)) for key in keys[:MOST]]
-        if len(keys) > MOST:
-            found.append(Alert(kind, 'more', f'and {len(keys) - MOST} more of this kind'))
-    return [*found, *of_feeds(day, marks)]
+    found += (missed(day, change) for change in sorted(day.missed))
+    found += (waits(day, change) for change in waited_for(day, marks))
+    found += (late(day, number) for number in day.late_trains(marks.late))
+    return [*found, *of_adoptions(day), *of_feeds(day, marks)]
+
+
+class Since(NamedTuple):
+    """When an alert arose: by the clock of the day, or else by that on the wall, and the number of the entry."""
+    clock: str
+    entry: int
+
+
+@dataclass
+class Standing:
+    """The alerts that stand, since when each does, and who has seen them."""
+    since: dict[tuple[str, str], Since] = field(default_factory=dict)
+    rows: list[dict[str, Any]] = field(default_factory=list)
+    seen_rows: list[dict[str, Any]] = field(default_factory=list)
+
+    def stand(self, alerts: Iterable[Alert], seen: dict[tuple[str, str], Seen], now: Since) -> None:
+        """Makes the rows anew; those of what was seen say by whom and when, too."""
+        alerts = list(alerts)
+        self.since = {alert[:2]: self.since.get(alert[:2], now) for alert in alerts}
+        self.rows, self.seen_rows = [], []
+        counts: Counter[str] = Counter()
+        for alert in alerts:
+            row = {'severity': alert.severity, **self.since[alert[:2]]._asdict(), **alert._asdict()}
+            by = seen.get(alert[:2])
+            if by is not None and alert.level < by.level + WORSE:
+                self.seen_rows.append({**row, 'who': by.who, 'at': by.at})
+                continue
+            counts[alert.kind] += 1
+            if counts[alert.kind] <= MOST:
+                self.rows.append(row)
+        self.seen_rows = self.seen_rows[:MOST_SEEN]
+        for kind, count in counts.items():
+            if count > MOST:
+                more = Alert(kind, MORE, f'and {count - MOST} more of this kind')
+                self.rows.append({'severity': SEVERITY[kind], 'clock': '', 'entry': 0, **more._asdict()})
+
+
+def forgotten(seen: dict[tuple[str, str], Seen], alerts: Iterable[Alert]) -> None:
+    """Forgets who has seen what stands no longer, so that it is shown if it comes again."""
+    stand = {alert[:2] for alert in alerts}
+    for key in [key for key in seen if key not in stand]:
+        del seen[key]
+
+
+def of_adoptions(day: Day) -> Iterator[Alert]:
+    """The plans that others have adopted."""
+    for entry, feed, _, message, _ in day.adoptions:
+        decisions = [day.naming.decision(decision) for decision in decisions_of(message)]
+        more = f'; and {len(decisions) - NAMED} more' if len(decisions) > NAMED else ''
+        yield Alert('adopted', str(entry), f'{day.names.feed(feed)} adopted a plan: {"; ".join(decisions[:NAMED])}{more}.')
 
 
 def of_server(server: Server) -> Iterator[Alert]:
@@ -64,11 +134,11 @@ def of_plan(day: Day) -> Iterator[Alert]:
         yield Alert('plan', str(day.plan.entry), f'The plan of entry {day.plan.entry} is old: {since} come since.')
 
 
-def missed(day: Day, change: int) -> tuple[str, str]:
+def missed(day: Day, change: int) -> Alert:
     network, naming = day.network, day.naming
     tail, head = network.tails[change], network.heads[change]
-    return (str(network.activities[change].id),
-            f'{naming.train(head)} left {naming.at(head)} before the passengers of {naming.train(tail)} were there.')
+    return Alert(MISSED, str(network.activities[change].id),
+                 f'{naming.train(head)} left {naming.at(head)} before the passengers of {naming.train(tail)} were there.')
 
 
 def waited_for(day: Day, marks: Marks) -> list[int]:
@@ -77,20 +147,21 @@ def waited_for(day: Day, marks: Marks) -> list[int]:
     return sorted(changes, key=lambda change: (-day.waits[change], change))
 
 
-def waits(day: Day, change: int) -> tuple[str, str]:
+def waits(day: Day, change: int) -> Alert:
     network, naming = day.network, day.naming
     tail, head = network.tails[change], network.heads[change]
-    return (str(network.activities[change].id),
-            f'{naming.train(head)} waits {duration(day.waits[change])} for {naming.train(tail)} in {naming.at(head)}; if not, the change is missed.')
+    wait = day.waits[change]
+    return Alert(WAITS, str(network.activities[change].id),
+                 f'{naming.train(head)} waits {duration(wait)} for {naming.train(tail)} in {naming.at(head)}; if not, the change is missed.', wait)
 
 
-def late(day: Day, number: int) -> tuple[str, str]:
+def late(day: Day, number: int) -> Alert:
     worst, at, _ = day.lateness[number]
-    return str(number), f'{day.naming.event(at)} {duration(worst)} late.'
+    return Alert(LATE, str(number), f'{day.naming.event(at)} {duration(worst)} late.', worst)
 
 
 def of_feeds(day: Day, marks: Marks) -> Iterator[Alert]:
     for feed, heard in enumerate(day.heard):
         silent = int(time.monotonic() - heard)
         if feed > 0 and feed != day.feed and silent >= marks.silent:
-            yield Alert('feed', str(feed), f'{day.names.feed(feed)} has said nothing for {duration(silent // 60 * 60)}.')
+            yield Alert('feed', str(feed), f'{day.names.feed(feed)} has said nothing for {duration(silent // 60 * 60)}.', silent // 60 * 60)

@@ -9,21 +9,24 @@ from typing import Iterable, NamedTuple, Optional, Sequence
 from dispatch_tools.desk.asking import message_line
 from dispatch_tools.desk.naming import Naming
 from dispatch_tools.desk.reckoning import Reckoning
-from dispatch_tools.desk.undoing import reversal
+from dispatch_tools.desk.undoing import reversal, Subject, subjects_of
 from dispatch_tools.formats.journal import Answered, Head
 from dispatch_tools.formats.lines import Bad
 from dispatch_tools.formats.runtext import Item, PLANNED, Run
-from dispatch_tools.model.messages import AdoptLast, Message
+from dispatch_tools.model.messages import Adopt, AdoptLast, Message
 from dispatch_tools.model.network import Network
 from dispatch_tools.model.parts import PlanByParts
-from dispatch_tools.model.railway import is_met, Plan, refusal_at_once, Rows
+from dispatch_tools.model.railway import decisions_of, is_met, Plan, refusal_at_once, Rows
 from dispatch_tools.pictures.scene import changes_of, Scene, trains_of
 
 # If more entries come at once, all times are worked out anew, and not entry by entry.
 MANY = 200
 
-# At most so many entries, own lines and late trains are shown.
-SHOWN = 40
+# At most so many entries, own lines and late trains are shown, and so many own lines can be taken back.
+SHOWN, KEPT = 40, 4_096
+
+# At most so many adoptions of others are alerts, and so many decisions are known for the next shift.
+ADOPTIONS, DECIDED = 12, 1_000
 
 
 class Names(NamedTuple):
@@ -52,6 +55,15 @@ class Told(NamedTuple):
     back: Optional[list[Message]]
 
 
+class Reported(NamedTuple):
+    """An entry: its number, the number of its feed, that of its line, what it says, and the clock behind it."""
+    entry: int
+    feed: int
+    line: int
+    message: Message
+    clock: int
+
+
 @dataclass
 class Day:
     """A network, and what the journal says of its day so far."""
@@ -78,10 +90,13 @@ class Day:
         self.head: Optional[Head] = None
         self.reckoning = self.first.begun(self.start.copy())
         self.entries: list[str] = []
-        self.last: deque[tuple[int, int, Message]] = deque(maxlen=SHOWN)
+        self.last: deque[Reported] = deque(maxlen=SHOWN)
+        self.latest: dict[Subject, Reported] = {}
+        self.adoptions: deque[Reported] = deque(maxlen=ADOPTIONS)
+        self.decided: deque[Reported] = deque(maxlen=DECIDED)
         self.items = [0]
         self.heard = [time.monotonic()]
-        self.told: deque[Told] = deque(maxlen=SHOWN)
+        self.told: deque[Told] = deque(maxlen=KEPT)
         self.plan: Optional[Plan | PlanByParts] = None
         self.plan_line = 0
         self.adopted = 0
@@ -127,11 +142,20 @@ class Day:
                 touched = self.reckoning.enter(entry.message)
             self.entries.append(message_line(entry))
             number = len(self.entries)
-            self.last.append((number, feed, entry.message))
+            self.report(Reported(number, feed, entry.line, entry.message, self.clock))
         if feed == self.feed:
             self.told.append(Told(item, number, back))
             self.take_plan(item, number)
         return touched
+
+    def report(self, reported: Reported) -> None:
+        """Takes up who has said something last, and of what."""
+        self.last.append(reported)
+        self.latest.update(dict.fromkeys(subjects_of(reported.message), reported))
+        if decisions_of(reported.message):
+            self.decided.append(reported)
+        if isinstance(reported.message, Adopt) and reported.feed != self.feed:
+            self.adoptions.append(reported)
 
     def take_plan(self, item: Item, number: Optional[int]) -> None:
         """The last plan of the desk's own feed, of either kind, the line that asked for it, and whether it was adopted."""

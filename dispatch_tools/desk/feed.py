@@ -49,6 +49,12 @@ class Feed:
             self.lines += piece.count(b'\n')
             self.size += len(piece)
 
+    def next_line(self) -> int:
+        """The number that the next line will have."""
+        with open(self.path, 'rb') as file:
+            self.count(file.fileno(), os.fstat(file.fileno()).st_size)
+        return self.lines + 1
+
     def asks_for_a_plan(self, behind: int) -> bool:
         """Whether a line behind this one asks for a plan of either kind."""
         with open(self.path, encoding='latin-1', newline='\n') as file:

@@ -13,6 +13,15 @@ from dispatch_tools.pictures.scene import clock_time, counted
 from dispatch_tools.pictures.view import cost_words
 
 
+# At most so many things are named of one kind.
+MOST_SAID = 8
+
+
+def few(words: list[str]) -> list[str]:
+    """The first of some words, and how many more there are."""
+    return words if len(words) <= MOST_SAID else [*words[:MOST_SAID], f'and {len(words) - MOST_SAID} more']
+
+
 def duration(seconds: int) -> str:
     """A length of time, as `5 min` or `1 h 5 min 30 s`."""
     hours, minutes, rest = seconds // 3600, seconds // 60 % 60, seconds % 60

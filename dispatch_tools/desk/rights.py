@@ -5,29 +5,39 @@ import hmac
 import os
 import re
 from dataclasses import dataclass
-from typing import Mapping, Optional
+from typing import Mapping, NamedTuple, Optional
 
 from dispatch_tools.formats.files import BadFile
 
-# A token has so many characters at least, and a body so many bytes at most.
+# A token has so many characters at least, a body so many bytes at most, and a name so many characters at most.
 SHORTEST_TOKEN = 16
 LONGEST_BODY = 4_096
+LONGEST_NAME = 40
 
 LOOPBACK = ('127.0.0.1', 'localhost', '[::1]')
 
 
-def read_token(path: str) -> str:
-    """The token in a file; BadFile if it is too short or the file cannot be read."""
+class Holder(NamedTuple):
+    """A token, and the name of who has it, which may be empty."""
+    token: str
+    name: str
+
+
+def read_token(path: str) -> Holder:
+    """The token in the first line of a file, and the name in the second; BadFile if they are not good or the file cannot be read."""
     try:
-        with open(path, encoding='ascii') as file:
-            token = file.read(4096).strip()
+        with open(path, encoding='utf-8') as file:
+            first, _, rest = file.read(4096).strip().partition('\n')
     except UnicodeDecodeError as error:
-        raise BadFile(path, None, 'a token is in ASCII') from error
+        raise BadFile(path, None, 'a token is in ASCII, and a name in UTF-8') from error
     except OSError as error:
         raise BadFile(path, None, error.strerror or 'cannot be read') from error
-    if len(token) < SHORTEST_TOKEN or not token.isprintable() or ' ' in token:
-        raise BadFile(path, None, f'a token has {SHORTEST_TOKEN} printable characters at least, and no spaces')
-    return token
+    token, name = first.strip(), rest.strip()
+    if len(token) < SHORTEST_TOKEN or not token.isascii() or not token.isprintable() or ' ' in token:
+        raise BadFile(path, None, f'a token has {SHORTEST_TOKEN} printable characters of ASCII at least, and no spaces')
+    if len(name) > LONGEST_NAME or not name.isprintable():
+        raise BadFile(path, None, f'a name is one line of {LONGEST_NAME} printable characters at most')
+    return Holder(token, name)
 
 
 def others_read(path: str) -> bool:

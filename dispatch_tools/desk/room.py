@@ -8,24 +8,28 @@ from dataclasses import dataclass, field
 from typing import Any, NamedTuple, Optional, Sequence, Union
 
 from dispatch_tools.days.playing import Program
-from dispatch_tools.desk.alerts import alerts_of, Marks, Server
+from dispatch_tools.desk.alerts import Alert, alerts_of, forgotten, Marks, MORE, Server, Since, Standing
 from dispatch_tools.desk.asking import adoption, Asking, Followed, SecondReading
-from dispatch_tools.desk.day import Day
+from dispatch_tools.desk.day import Day, Reported, Told
+from dispatch_tools.desk.doubts import doubts_of
 from dispatch_tools.desk.effects import effect
 from dispatch_tools.desk.feed import Feed, line_of
 from dispatch_tools.desk.locks import is_held
+from dispatch_tools.desk.naming import few
+from dispatch_tools.desk.notebook import Action, Notebook, Seen, wall_time
 from dispatch_tools.desk.pictures import Asked, Picture, Pictures
 from dispatch_tools.desk.reckoning import Cycle
 from dispatch_tools.desk.screen import screen_of
-from dispatch_tools.desk.undoing import turned_back
+from dispatch_tools.desk.undoing import standing, Subject, subjects_of, turned_back
 from dispatch_tools.formats.files import BadFile
 from dispatch_tools.formats.journal import Answered, Blocks, journal_of, read_head, Rounds
 from dispatch_tools.formats.lines import Bad
 from dispatch_tools.model.decide import in_turn
-from dispatch_tools.model.messages import AdoptLast, Decision, DECISIONS
+from dispatch_tools.formats.runtext import heard
+from dispatch_tools.model.messages import Decision, DECISIONS, Message
 from dispatch_tools.model.parts import PlanByParts
-from dispatch_tools.model.railway import decision_refusal, Plan
-from dispatch_tools.pictures.scene import lines_of
+from dispatch_tools.model.railway import decision_refusal, Plan, refusal_at_once
+from dispatch_tools.pictures.scene import clock_time, counted, lines_of
 
 # The seconds between two looks at the journal, between two looks at who is silent, and from one answer of the program to the next question.
 LOOK, TICK, PAUSE = 0.01, 1.0, 0.3
@@ -37,19 +41,22 @@ MOST_LINES = 40
 COMPARED = 20_000
 
 
-# At most so many decisions are named that could not be taken back.
-MOST_SAID = 8
-
-# The kinds of lines that decide.
-
-
 class Refused(Exception):
     """What the page asks is refused, for a reason."""
 
 
+class Doubted(Exception):
+    """What the page asks is done if somebody says so again who has read some words, which hold up to an entry."""
+
+    def __init__(self, words: list[str], entries: int) -> None:
+        super().__init__(words, entries)
+        self.words, self.entries = words, entries
+
+
 class Undone(NamedTuple):
-    """The number of the first line that takes something back, and in words what could not be taken back."""
+    """The number of the first line that takes something back, and in words what that sets and what could not be taken back."""
     line: int
+    sets: list[str]
     left: list[str]
 
 
@@ -63,6 +70,7 @@ class Settings:
     folder: str
     options: list[str]
     tells: bool
+    name: str = ''
 
 
 @dataclass
@@ -78,20 +86,25 @@ class Room:
         self.pictures = Pictures(lines_of(self.day.network, self.day.trains, MOST_LINES))
         self.screen, self.number = b'{}', 0
         self.faults: list[str] = []
+        self.standing = Standing()
         self.begin_anew()
 
     def begin_anew(self) -> None:
         self.journal = Blocks(journal_of(self.settings.store))
+        self.notebook = Notebook(f'{self.settings.store}/desks', self.day.feed)
         self.rounds: Optional[Rounds] = None
         self.asking: Union[Asking, SecondReading, None] = None
         self.followed: Optional[Followed] = None
         self.effect: Optional[tuple[Plan | PlanByParts, dict[str, Any]]] = None
         self.pending: dict[int, tuple[str, float]] = {}
         self.is_other_feed = False
-        self.broken = False
+        self.broken = self.is_caught_up = False
 
     def start(self) -> None:
         """Starts to read the journal and to ask the program."""
+        if self.settings.tells and self.settings.name:
+            self.notebook.read()
+            self.notebook.called(self.feed.next_line(), self.settings.name)
         for work in (self.read_on, self.ask_on):
             threading.Thread(target=work, daemon=True).start()
 
@@ -109,6 +122,7 @@ class Room:
                 self.fail(f'The journal of the store is none of this network: {what}. Nothing behind it is shown.')
             except OSError as fault:
                 self.fail(f'The journal of the store cannot be read: {fault.strerror}')
+            self.is_caught_up = self.rounds is not None and not has_more
             if has_more or time.monotonic() - ticked >= TICK:
                 ticked = time.monotonic()
                 self.show()
@@ -232,12 +246,38 @@ class Room:
         with self.changed:
             waits_since = min((since for _, since in self.pending.values()), default=None)
             server = Server(is_held(f'{self.settings.store}/lock'), waits_since)
-            alerts = alerts_of(self.day, self.settings.marks, server, self.faults)
-            screen = json.dumps(screen_of(self, alerts), separators=(',', ':'), ensure_ascii=True).encode()
+            self.stand(alerts_of(self.day, self.settings.marks, server, self.faults))
+            screen = json.dumps(screen_of(self), separators=(',', ':'), ensure_ascii=True).encode()
             if screen != self.screen:
                 self.screen = screen
                 self.number += 1
                 self.changed.notify_all()
+
+    def stand(self, alerts: list[Alert]) -> None:
+        """Takes up which alerts stand, and who has seen them."""
+        self.notebook.read()
+        if self.is_caught_up:
+            forgotten(self.notebook.seen, alerts)
+        clock = clock_time(self.day.clock, True) if self.day.clock else wall_time()
+        self.standing.stand(alerts, self.notebook.seen, Since(clock, len(self.day.entries)))
+
+    def see(self, kind: object, key: object) -> None:
+        """Says to all desks that somebody has seen an alert. Refused if there is none of this kind and key."""
+        with self.changed:
+            row = next((row for row in self.standing.rows if (row['kind'], row['key']) == (kind, key)), None)
+            if row is None or key == MORE:
+                raise Refused('there is no such alert')
+            self.notebook.see(row['kind'], row['key'], Seen(self.who(), wall_time(), row['level']))
+        self.show()
+
+    def who(self) -> str:
+        """The name of whoever works at this desk."""
+        return self.settings.name or self.day.names.feed(self.day.feed)
+
+    def reporter(self, feed: int, line: int) -> str:
+        """Who wrote a line of a feed."""
+        name, called = self.notebook.name_of(feed, line), self.day.names.feed(feed)
+        return f'{name} ({called})' if name else called
 
     def draw(self, asked: Asked) -> Picture:
         return self.pictures.draw(asked, self.day.version, self.scene)
@@ -246,28 +286,70 @@ class Room:
         with self.changed:
             return self.day.scene()
 
-    def tell(self, kind: object, numbers: object) -> int:
-        """Appends a line to the feed, and gives its number. Refused if the page may not write it."""
+    def tell(self, kind: object, numbers: object, agreed: object = None) -> int:
+        """Appends a line to the feed, and gives its number. Refused if the page may not write it, and doubted if it may be a slip."""
         line = line_of(kind, numbers)
         if line is None:
             raise Refused('the page may not write this line')
-        return self.put([line])
-
-    def undo(self, number: object) -> Undone:
-        """Appends the lines that take a line back. Of an adopted plan that is what can still be taken back."""
         with self.changed:
-            told = next((told for told in self.day.told if told.item.line == number), None)
-            if told is None or told.entry is None or told.back is None:
-                raise Refused('this line cannot be taken back')
-            if not told.back:
-                raise Refused('this line changed nothing')
-            free, left = self.still_free([one for one in told.back if isinstance(one, DECISIONS)])
-            if isinstance(told.item.said, AdoptLast):
-                free = self.turned(free)
-            back = [*(one for one in told.back if not isinstance(one, DECISIONS)), *free]
+            doubts = doubts_of(self.day, heard(line))
+            if doubts and type(agreed) is not int:
+                raise Doubted(doubts, len(self.day.entries))
+            return self.put([line])
+
+    def undo(self, number: object, agreed: object = None) -> Undone:
+        """Appends the lines that take a line back, or all lines of the action that it begins. Doubted if somebody has said something
+        of the same since, and `agreed` is not the number of an entry that has come later."""
+        with self.changed:
+            group = self.told_by(number)
+            back, left = self.back_of(group)
             if not back:
                 raise Refused(f'nothing of it can be taken back: {"; ".join(left)}' if left else 'nothing of it is left to take back')
-            return Undone(self.put([*map(str, back)]), left)
+            sets = few([self.day.naming.said(one) for one in back])
+            since = self.said_since(max(told.entry or 0 for told in group), back)
+            if since and not (type(agreed) is int and agreed >= max(one.entry for one in since)):
+                raise Doubted([*(f'It sets: {words}.' for words in sets), *few([self.since_words(one) for one in since])], len(self.day.entries))
+            line = self.put([*map(str, back)], f'taken back: line {group[0].item.line}', group[0].item.line)
+            return Undone(line, sets, left)
+
+    def told_by(self, number: object) -> list[Told]:
+        """The lines of the action that begins with a line, or the line alone, with their answers."""
+        action = self.notebook.actions.get(number) if type(number) is int else None
+        last = action.last if action else number
+        if type(number) is not int or type(last) is not int or any(number <= line <= last for line in self.pending):
+            raise Refused('this line cannot be taken back')
+        group = [told for told in self.day.told if number <= told.item.line <= last and told.entry is not None and told.back is not None]
+        if not group:
+            raise Refused('this line cannot be taken back')
+        if not any(told.back for told in group):
+            raise Refused('this line changed nothing')
+        return group
+
+    def back_of(self, group: list[Told]) -> tuple[list[Message], list[str]]:
+        """What takes lines back, so far as it can still be said and does not stand anyway; and in words what cannot be."""
+        network, rows = self.day.network, self.day.reckoning.rows
+        back: dict[Subject, Message] = {}
+        for told in reversed(group):
+            for one in told.back or []:
+                for subject in subjects_of(one):
+                    back.pop(subject, None)
+                    back[subject] = one
+        moved = [one for subject, one in back.items() if standing(subject, rows, network) != one]
+        free, left = self.still_free([one for one in moved if isinstance(one, DECISIONS)])
+        reports = [one for one in moved if not isinstance(one, DECISIONS)]
+        for one in reports:
+            refusal = refusal_at_once(network, rows, one)
+            if refusal is not None:
+                raise Refused(f'it cannot be taken back: {self.day.naming.refusal(refusal)}')
+        return [*reports, *(self.turned(free) if len(free) > 1 else free)], left
+
+    def said_since(self, entry: int, back: list[Message]) -> list[Reported]:
+        """What was said later than an entry of what some lines are about, the last of each."""
+        latest = [self.day.latest[subject] for one in back for subject in subjects_of(one) if subject in self.day.latest]
+        return sorted({one.entry: one for one in latest if one.entry > entry}.values())
+
+    def since_words(self, one: Reported) -> str:
+        return f'{self.reporter(one.feed, one.line)} has said since: {self.day.naming.said(one.message)} (entry {one.entry}).'
 
     def still_free(self, decisions: Sequence[Decision]) -> tuple[list[Decision], list[str]]:
         """The decisions that can still be made, and in words each other one that differs from the rows, with what refuses it."""
@@ -279,7 +361,7 @@ class Room:
                 free.append(decision)
             elif turned_back(decision, rows, network) is not None:
                 others.append(f'{naming.decision(decision)} ({naming.refusal(refusal)})')
-        return free, others if len(others) <= MOST_SAID else [*others[:MOST_SAID], f'and {len(others) - MOST_SAID} more']
+        return free, few(others)
 
     def turned(self, decisions: Sequence[Decision]) -> list[Decision]:
         """The decisions that differ from the rows, in an order in which none closes a cycle."""
@@ -310,15 +392,18 @@ class Room:
             lines = [*map(str, self.turned(self.still_free(self.looked_at(line).choices)[0]))]
             if not lines:
                 raise Refused('nothing of this plan is left to enter')
-            return self.put(lines)
+            return self.put(lines, f'{counted(len(lines), "choice", "choices")} of the plan of line {line}')
 
-    def put(self, lines: list[str]) -> int:
+    def put(self, lines: list[str], says: str = '', undoes: int = 0) -> int:
+        """Appends lines to the feed, as one action if they are called so, and gives the number of the first."""
         with self.changed:
             if self.is_other_feed:
                 raise Refused(self.faults[-1])
             first = self.feed.tell(lines)
             for number, line in enumerate(lines, first):
                 self.pending[number] = (line, time.monotonic())
+            if says:
+                self.notebook.did(Action(first, first + len(lines) - 1, says, undoes))
         self.show()
         return first
 

@@ -3,12 +3,13 @@ from __future__ import annotations
 
 import os
 import re
+from itertools import chain, groupby, islice
 from typing import TYPE_CHECKING, Any, Optional
 
-from dispatch_tools.desk.alerts import Alert
 from dispatch_tools.desk.day import Day, SHOWN, Told
-from dispatch_tools.desk.naming import duration, raw
-from dispatch_tools.formats.runtext import heard
+from dispatch_tools.desk.naming import duration, few, Naming, raw
+from dispatch_tools.desk.undoing import standing, subjects_of
+from dispatch_tools.formats.runtext import heard, Item
 from dispatch_tools.model.messages import First
 from dispatch_tools.pictures.scene import clock_time
 from dispatch_tools.pictures.view import cost_words
@@ -22,49 +23,87 @@ BOARD_TAIL = 1 << 20
 TIME = re.compile(rb'^([0-9]{1,10}); ([0-9]{1,39})\n', re.MULTILINE)
 
 
-def screen_of(room: Room, alerts: list[Alert]) -> dict[str, Any]:
+def screen_of(room: Room) -> dict[str, Any]:
     """The picture of the screen."""
     day, followed = room.day, room.followed
     late = day.late_trains(60)
     return {
         'entries': len(day.entries), 'clock': clock_time(day.clock, True) if day.clock else '', 'seconds': day.clock, 'version': day.version,
         'confirmed': followed.entries if followed else None, 'second': room.settings.program is None,
-        'cost': cost_words(followed.cost) if followed else '',
+        'cost': cost_words(followed.cost) if followed else '', 'who': room.who(),
         'late': [late_row(day, number) for number in late[:SHOWN]], 'lateCount': len(late), 'trains': len(day.trains),
-        'alerts': [list(alert) for alert in alerts],
-        'journal': [[number, day.names.feed(feed), day.naming.said(message), raw(message)] for number, feed, message in reversed(day.last)],
+        'alerts': room.standing.rows, 'seen': room.standing.seen_rows,
+        'journal': [[entry, room.reporter(feed, line), day.naming.said(message), raw(message)]
+                    for entry, feed, line, message, _ in reversed(day.last)],
         'told': told_rows(room), 'plan': plan_row(room),
         'began': room.rounds is not None,
     }
 
 
 def late_row(day: Day, number: int) -> list[Any]:
-    """A train that is late: its number and name, how late at the worst and where, and its next event with its times."""
+    """A train that is late: its number and name, its next event with its times and its lateness, and where it will be latest, and how."""
     worst, at, ahead = day.lateness[number]
     naming, times = day.naming, day.reckoning.times
-    row = [number, naming.labels[number], worst, duration(worst), naming.at(at)]
-    if ahead is None:
-        return [*row, '', '', '', 0]
-    event = day.network.events[ahead]
-    late = max(0, times[ahead] - event.time)
+    row = [number, naming.labels[number], *(at_stop(day, ahead) if ahead is not None else ['', '', '', ''])]
+    if ahead is not None and at != ahead:
+        return [*row, worst, f'{duration(worst)}: {at_stop(day, at)[0]} {clock_time(times[at], True)}']
+    return [*row, worst, '']
+
+
+def at_stop(day: Day, place: int) -> list[str]:
+    """An event without its train: what it is, as scheduled, now, and how late that is."""
+    event, time = day.network.events[place], day.reckoning.times[place]
     verb = 'leaves' if event.kind == 'departure' else 'reaches'
-    return [*row, f'{verb} {naming.at(ahead)}', clock_time(event.time, True), clock_time(times[ahead], True), late]
+    late = max(0, time - event.time)
+    return [f'{verb} {day.naming.at(place)}', clock_time(event.time, True), clock_time(time, True), duration(late) if late else 'on time']
 
 
-def told_rows(room: Room) -> list[list[Any]]:
-    """The lines of the desk's feed, the newest first: number, words, line, answer or nothing, whether it is good, whether it can be taken
-    back."""
-    day, naming = room.day, room.day.naming
-    rows = [[line, naming.said(heard(text)), text, '', None, False] for line, (text, _) in sorted(room.pending.items(), reverse=True)]
-    for told in reversed(day.told):
-        item = told.item
-        good = item.answer is not None and item.answer.kind not in ('refused', 'range', 'plans', 'noplan', 'old')
-        rows.append([item.line, naming.said(item.said), raw(item.said), naming.answer(item.answer), good, can_go_back(told)])
-    return rows[:SHOWN]
+def told_rows(room: Room) -> list[dict[str, Any]]:
+    """The lines of the desk's feed, the newest first, those of one action together."""
+    day, book = room.day, room.notebook
+    waiting = [Told(Item(line, heard(text), None), None, None) for line, (text, _) in sorted(room.pending.items(), reverse=True)]
+    groups = groupby(chain(waiting, reversed(day.told)), lambda told: book.first_of.get(told.item.line, told.item.line))
+    return [told_row(room, [*group][::-1]) for _, group in islice(groups, SHOWN)]
 
 
-def can_go_back(told: Told) -> bool:
-    return bool(told.entry is not None and told.back)
+def told_row(room: Room, group: list[Told]) -> dict[str, Any]:
+    """The row of the lines of one action: what they say, the answer or nothing, whether it is good, what an undo would set, who wrote them,
+    and what stands now if they were taken back."""
+    day, naming, first = room.day, room.day.naming, group[0].item.line
+    action = room.notebook.actions.get(first)
+    says = naming.said(group[0].item.said) if len(group) == 1 else '; '.join(few([naming.said(told.item.said) for told in group]))
+    waits = any(told.item.line in room.pending for told in group)
+    refused = [told for told in group if not waits and not is_good(told)]
+    answer = '' if waits else answer_words(naming, group, refused)
+    back = [one for told in group for one in told.back or []] if not waits else []
+    sets = '; '.join(few([naming.said(one) for one in back]))
+    by = room.notebook.undone.get(first)
+    stands = '' if by is None else f'taken back by line {by}; now: {"; ".join(few(stands_now(day, group)))}'
+    numbers = str(first) if len(group) == 1 else f'{first}–{group[-1].item.line}'
+    return {
+        'line': first, 'numbers': numbers, 'words': f'{action.says}: {says}' if action else says,
+        'raw': '; '.join(raw(told.item.said) for told in group[:SHOWN]), 'answer': answer, 'good': None if waits else not refused,
+        'sets': sets, 'who': room.notebook.name_of(day.feed, first), 'stands': stands,
+    }
+
+
+def is_good(told: Told) -> bool:
+    return told.item.answer is not None and told.item.answer.kind not in ('refused', 'range', 'plans', 'noplan', 'old')
+
+
+def answer_words(naming: Naming, group: list[Told], refused: list[Told]) -> str:
+    """The answers to the lines of one action."""
+    if len(group) == 1:
+        return naming.answer(group[0].item.answer)
+    entries = [told.entry for told in group if told.entry is not None]
+    words = [f'{len(entries)} entered as {entries[0]} to {entries[-1]}'] if entries else []
+    return '; '.join([*words, *few([f'{naming.said(told.item.said)}: {naming.answer(told.item.answer)}' for told in refused])])
+
+
+def stands_now(day: Day, group: list[Told]) -> list[str]:
+    """What stands now of what lines are about."""
+    subjects = dict.fromkeys(subject for told in group for one in told.back or [] for subject in subjects_of(one))
+    return [day.naming.said(standing(subject, day.reckoning.rows, day.network)) for subject in subjects]
 
 
 def plan_row(room: Room) -> Optional[dict[str, Any]]:
@@ -88,12 +127,19 @@ def description(room: Room) -> dict[str, Any]:
     events = day.network.events
     return {
         'trains': [[naming.labels[number], day.names.trips.get(events[train[0]].id, ''), naming.at(train[0]), naming.at(train[-1]),
-                    clock_time(events[train[0]].time)] for number, train in enumerate(day.trains)],
+                    clock_time(events[train[0]].time), line_of(room, train)] for number, train in enumerate(day.trains)],
         'stops': [[stop, naming.stop(stop)] for stop in sorted(day.at_stop)],
         'lines': [f'{naming.stop(line[0])} – {naming.stop(line[-1])}' for line in room.pictures.lines],
         'span': [min((event.time for event in events), default=0), max((event.time for event in events), default=0)],
         'tells': room.settings.tells, 'program': room.settings.program is not None, 'late': room.settings.marks.late,
     }
+
+
+def line_of(room: Room, train: list[int]) -> int:
+    """The line that has most stops of a train; -1 if none has any."""
+    stops = {room.day.network.events[place].stop for place in train}
+    shared = [len(stops.intersection(line)) for line in room.pictures.lines]
+    return max(range(len(shared)), key=shared.__getitem__) if any(shared) else -1
 
 
 # ---- What is looked up
@@ -112,7 +158,8 @@ def train_of(day: Day, number: int) -> dict[str, Any]:
     return {
         'number': number, 'name': naming.labels[number], 'trip': day.names.trips.get(network.events[train[0]].id, ''),
         'events': [event_row(day, place, naming.at(place)) for place in train],
-        'legs': [[network.activities[leg].id, naming.activity(network.activities[leg].id), rows.activity_delays[leg]] for leg in legs],
+        'legs': [[network.activities[leg].id, naming.activity(network.activities[leg].id),
+                  duration(rows.activity_delays[leg]) if rows.activity_delays[leg] else ''] for leg in legs],
         'changes': [[network.activities[change].id, naming.activity(network.activities[change].id), rows.kept[change],
                      rows.passed[network.heads[change]] is not None, duration(day.waits[change]) if change in day.waits else ''] for change in changes],
         'pairs': [pair_row(day, pair) for pair in pairs if all(rows.passed[place] is None for place in network.pairs[pair])],

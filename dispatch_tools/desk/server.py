@@ -15,9 +15,10 @@ from contextlib import ExitStack
 from typing import Any, Callable, Optional
 from urllib.parse import parse_qs, urlsplit
 
+from dispatch_tools.desk.handover import handover
 from dispatch_tools.desk.pictures import Asked
 from dispatch_tools.desk.rights import LONGEST_BODY, Rights
-from dispatch_tools.desk.room import Refused, Room
+from dispatch_tools.desk.room import Doubted, Refused, Room
 from dispatch_tools.desk.screen import board_of, description, train_of
 from dispatch_tools.formats.files import BadFile
 from dispatch_tools.formats.markup import policy
@@ -52,6 +53,7 @@ class PageServer(BoundedServer):
         self.streams = threading.BoundedSemaphore(MOST_STREAMS)
         self.unknown_streams = threading.BoundedSemaphore(MOST_STREAMS - KEPT_STREAMS)
         self.works = threading.Lock()
+        self.was_typed = threading.Event()
         self.files = {path: (read_web(name), kind) for path, (name, kind) in FILES.items()}
         self.described = json.dumps(description(room), separators=(',', ':')).encode()
         super().__init__(address, Handler)
@@ -84,6 +86,8 @@ class Handler(BoundedHandler):
     def answer(self, answer: Callable[[], None]) -> None:
         try:
             super().answer(answer)
+        except Doubted as doubted:
+            self.send_json({'asks': doubted.words, 'agreed': doubted.entries})
         except Refused as refused:
             self.send_json({'error': str(refused)}, 409)
         except BadFile as fault:
@@ -118,7 +122,7 @@ class Handler(BoundedHandler):
             self.send(data, f'{kind}; charset=utf-8')
             return
         answer = {'/day': self.get_day, '/events': self.get_events, '/line': self.get_line, '/board': self.get_board,
-                  '/train': self.get_train, '/plan': self.get_plan}.get(parts.path)
+                  '/train': self.get_train, '/plan': self.get_plan, '/handover': self.get_handover}.get(parts.path)
         if answer is None:
             raise Asks(404, 'there is nothing under this address')
         answer(words)
@@ -167,6 +171,11 @@ class Handler(BoundedHandler):
             found = self.server.room.effect
         self.send_json(found[1] if found else None)
 
+    def get_handover(self, words: dict[str, list[str]]) -> None:
+        with self.server.room.changed:
+            page = handover(self.server.room)
+        self.send(page.encode(), 'text/html; charset=utf-8')
+
     def get_events(self, words: dict[str, list[str]]) -> None:
         """The picture of the screen, at once and whenever it changes."""
         with ExitStack() as places:
@@ -195,7 +204,7 @@ class Handler(BoundedHandler):
         refusal = self.server.rights.refusal_to_tell(self.headers)  # type: ignore[arg-type]
         if refusal is not None:
             raise Asks(403, refusal)
-        take = {'/tell': self.post_tell, '/undo': self.post_undo, '/enter': self.post_enter, '/adopt': self.post_adopt,
+        take = {'/tell': self.post_tell, '/undo': self.post_undo, '/see': self.post_see, '/enter': self.post_enter, '/adopt': self.post_adopt,
                 '/window': self.post_window, '/rules': self.post_rules, '/token': self.post_token}.get(self.path)
         if take is None:
             raise Asks(404, 'nothing is taken at this address')
@@ -214,14 +223,21 @@ class Handler(BoundedHandler):
         return value
 
     def post_token(self, asked: dict[str, Any]) -> None:
+        if not self.server.was_typed.is_set():
+            self.server.was_typed.set()
+            print('the token was typed', flush=True)
         self.send_json({})
 
     def post_tell(self, asked: dict[str, Any]) -> None:
-        self.send_json({'line': self.server.room.tell(asked.get('kind'), asked.get('numbers'))})
+        self.send_json({'line': self.server.room.tell(asked.get('kind'), asked.get('numbers'), asked.get('agreed'))})
 
     def post_undo(self, asked: dict[str, Any]) -> None:
-        undone = self.server.room.undo(asked.get('line'))
-        self.send_json({'line': undone.line, 'left': undone.left})
+        undone = self.server.room.undo(asked.get('line'), asked.get('agreed'))
+        self.send_json(undone._asdict())
+
+    def post_see(self, asked: dict[str, Any]) -> None:
+        self.server.room.see(asked.get('kind'), asked.get('key'))
+        self.send_json({})
 
     def post_enter(self, asked: dict[str, Any]) -> None:
         self.send_json({'line': self.server.room.enter_choices(asked.get('plan'))})

@@ -1,11 +1,51 @@
 """The lines that take a line back."""
 from __future__ import annotations
 
-from typing import Optional
+from typing import NamedTuple, Optional
 
 from dispatch_tools.model.messages import Decision, DelayActivity, DelayEvent, Drop, First, Keep, Message, Now, Pass, Recall
 from dispatch_tools.model.network import Network
 from dispatch_tools.model.railway import decisions_of, Rows
+
+
+class Subject(NamedTuple):
+    """What messages are about: of two about the same, the later one holds. A pair has two events, the smaller first."""
+    kind: str
+    number: int
+    other: int = 0
+
+
+def subjects_of(message: Message) -> list[Subject]:
+    """What a message is about."""
+    if isinstance(message, DelayEvent):
+        return [Subject('delay event', message.event)]
+    if isinstance(message, DelayActivity):
+        return [Subject('delay activity', message.activity)]
+    if isinstance(message, (Pass, Recall)):
+        return [Subject('pass', message.event)]
+    return [subject_of(decision) for decision in decisions_of(message)]
+
+
+def subject_of(decision: Decision) -> Subject:
+    if isinstance(decision, First):
+        return Subject('first', *sorted((decision.event, decision.other)))
+    return Subject('keep', decision.activity)
+
+
+def standing(subject: Subject, rows: Rows, network: Network) -> Message:
+    """The message that would set what the rows have anyway."""
+    kind, number, other = subject
+    if kind == 'delay event':
+        return DelayEvent(number, rows.event_delays[network.event_place[number]])
+    if kind == 'delay activity':
+        return DelayActivity(number, rows.activity_delays[network.activity_place[number]])
+    if kind == 'pass':
+        time = rows.passed[network.event_place[number]]
+        return Recall(number) if time is None else Pass(number, time)
+    if kind == 'keep':
+        return Keep(number) if rows.kept[network.activity_place[number]] else Drop(number)
+    one, two = network.event_place[number], network.event_place[other]
+    return First(number, other) if rows.first[network.pair_at(one, two)] == one else First(other, number)
 
 
 def reversal(said: Message, before: Rows, network: Network) -> Optional[list[Message]]:

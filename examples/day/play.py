@@ -6,15 +6,16 @@ fills two feeds minute by minute. The control room north reports the clock, what
 room south reports delays and decisions. The desk has the third feed. Trains run as the journal says, so what is decided on the
 page counts.
 
-Open the address that is printed, type the token that is printed too, and report delays, plan and adopt. With --pace=60 a minute
-of the day takes a second. Ctrl-C ends the server. With a FOLDER, which must be new or empty, the store, the feeds and the text of
-the run stay there.
+Open the address that is printed, and type the token that is printed too: then the day begins. Report delays, plan and adopt. With
+--pace=60 a minute of the day takes a second. Ctrl-C ends the server, and so does the end of this script. If the port is taken, the
+desk has another one. With a FOLDER, which must be new or empty, the store, the feeds and the text of the run stay there.
 """
 from __future__ import annotations
 
 import os
 import secrets
 import signal
+import socket
 import subprocess
 import sys
 import tempfile
@@ -38,6 +39,9 @@ from dispatch_tools.words import add_program, command_line, whole_between  # noq
 
 # The day begins at 6:00. A room reports at most one thing in APART seconds, and a delay is known AHEAD seconds before the train leaves.
 BEGIN, APART, AHEAD = 21_600, 120, 60
+
+# What ends this script, and with it the server.
+ENDS = (signal.SIGINT, signal.SIGTERM, signal.SIGHUP)
 
 # What the rooms report beside trains that leave and arrive.
 Told = DelayEvent | DelayActivity | Decision
@@ -93,32 +97,64 @@ def fill(network: Network, server: Server, pace: int) -> None:
         now += 60
 
 
+def free_port(port: int) -> int:
+    """This port of this computer, or 0, for any that is free, if it is taken."""
+    with socket.socket() as line:
+        line.setsockopt(socket.SOL_SOCKET, socket.SO_REUSEADDR, 1)
+        try:
+            line.bind(('127.0.0.1', port))
+        except OSError:
+            print(f'port {port} is taken: the desk has another one', flush=True)
+            return 0
+    return port
+
+
+def end(*_: object) -> None:
+    raise KeyboardInterrupt
+
+
+def page_of(server: Server, token: str, port: int) -> subprocess.Popen[str]:
+    """The desk's page."""
+    words = [*words_of('desk'), server.net, server.store, server.feeds[2], '--feed=3', '--feeds=north,south,desk']
+    return subprocess.Popen([*words, f'--port={free_port(port)}', f'--token={token}', f'--program={server.program}'], stdout=subprocess.PIPE, text=True)
+
+
+def wait_for_token(page: subprocess.Popen[str], token: str) -> None:
+    """Prints the address and the token, and waits until somebody has typed it; BadFile if the desk ends before."""
+    assert page.stdout is not None
+    for place in range(2):
+        said = page.stdout.readline()
+        if not said:
+            raise BadFile('desk', None, 'the desk has ended')
+        if place == 0:
+            print(f'{said.strip()}\ntoken {token}\nthe day begins when the token is typed', flush=True)
+
+
 def play(program: str, folder: str, pace: int, port: int) -> None:
     """Plays the day in a folder; BadFile if the server ends with an unexpected status."""
-    net = os.path.join(HERE, 'net')
-    token = os.path.join(folder, 'token')
-    with open(os.open(token, os.O_WRONLY | os.O_CREAT | os.O_TRUNC, 0o600), 'w', encoding='ascii') as file:
-        file.write(secrets.token_urlsafe(16))
+    net, token, name = os.path.join(HERE, 'net'), secrets.token_urlsafe(16), os.path.join(folder, 'token')
+    with open(os.open(name, os.O_WRONLY | os.O_CREAT | os.O_TRUNC, 0o600), 'w', encoding='ascii') as file:
+        file.write(token)
     feeds = [os.path.join(folder, name) for name in ('north', 'south', 'desk')]
     server = Server(program, net, os.path.join(folder, 'store'), feeds)
     # Ctrl-C is for this script, which ends what it starts.
     before = signal.signal(signal.SIGINT, signal.SIG_IGN)
-    server.start()
-    page = subprocess.Popen([
-        *words_of('desk'), net, server.store, feeds[2], '--feed=3', '--feeds=north,south,desk',
-        f'--port={port}', f'--token={token}', f'--program={program}',
-    ])
-    signal.signal(signal.SIGINT, before)
-    with open(token, encoding='ascii') as file:
-        print(f'token {file.read()}', flush=True)
+    page = None
     try:
+        server.start()
+        page = page_of(server, name, port)
+        signal.signal(signal.SIGINT, before)
+        wait_for_token(page, token)
         fill(read_network(net), server, pace)
         print('the day is over; Ctrl-C ends the server', flush=True)
         page.wait()
     except KeyboardInterrupt:
         pass
     finally:
-        page.terminate()
+        for signalled in ENDS:
+            signal.signal(signalled, signal.SIG_IGN)
+        if page is not None:
+            page.terminate()
         server.stop()
 
 
@@ -127,8 +163,10 @@ def main() -> int:
     add_program(words)
     words.add_argument('folder', nargs='?', metavar='FOLDER', help='where the store, the feeds and the text stay; new or empty')
     words.add_argument('--pace', type=whole_between(1, 3_600), default=60, metavar='N', help='how many seconds of the day go by in one (60)')
-    words.add_argument('--port', type=whole_between(0, 65_535), default=8080, metavar='N', help='the port of the desk (8080)')
+    words.add_argument('--port', type=whole_between(0, 65_535), default=8080, metavar='N', help='the port of the desk, or another if it is taken (8080)')
     given = words.parse_args()
+    for signalled in ENDS[1:]:
+        signal.signal(signalled, end)
     with tempfile.TemporaryDirectory() as other:
         folder = given.folder or other
         os.makedirs(folder, exist_ok=True)

@@ -1,5 +1,5 @@
 // The desk: a stream of pictures of the screen, and what is looked up when one has changed.
-import { element, get, post, rights, say } from './parts.js';
+import { beside, element, get, post, rights, say } from './parts.js';
 import * as seen from './seen.js';
 import * as done from './done.js';
 
@@ -23,10 +23,20 @@ function show(text) {
 
 // New alerts are read aloud, but not those that stood there when the page was opened.
 function announce(before) {
-  const now = new Set(screen.alerts.map(([kind, key]) => `${kind} ${key}`));
-  const fresh = screen.alerts.filter(([kind, key]) => !announced.has(`${kind} ${key}`) && key !== 'more');
-  if (before && fresh.length) say(fresh.length > 1 ? `${fresh.length} new alerts. ${fresh[0][2]}` : fresh[0][2]);
+  const now = new Set(screen.alerts.map(({ kind, key }) => `${kind} ${key}`));
+  const fresh = screen.alerts.filter(({ kind, key }) => !announced.has(`${kind} ${key}`) && key !== 'more');
+  if (before && fresh.length) say(fresh.length > 1 ? `${fresh.length} new alerts. ${fresh[0].words}` : fresh[0].words);
+  if (before && fresh.length && element('sound').checked) sound();
   announced = now;
+}
+
+// A short tone.
+function sound() {
+  const audio = new AudioContext(), tone = audio.createOscillator();
+  tone.connect(audio.destination);
+  tone.onended = () => audio.close();
+  tone.start();
+  tone.stop(audio.currentTime + 0.2);
 }
 
 // Takes each picture of a stream, until the stream ends.
@@ -67,6 +77,7 @@ async function useToken(token) {
     rights.mayTell = false;
     rights.token = '';
     sessionStorage.removeItem('token');
+    beside('rights', `The token is not taken: ${refused.message}.`);
     say(`The token is not taken: ${refused.message}.`);
   }
   element('rights').hidden = rights.mayTell;

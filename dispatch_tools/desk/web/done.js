@@ -1,8 +1,8 @@
 // What is done: lines that are written, a plan that is compared and adopted, and what is only tried.
-import { button, element, get, made, oneAtATime, post, replace, rights, say, secondsOf, table, timeOf, withNumber } from './parts.js';
+import { beside, button, element, get, made, oneAtATime, placeBeside, post, postAsking, replace, rights, say, secondsOf, table, timeOf, withNumber } from './parts.js';
 
 let day = null, screenNow = null, train = null, plannedOf = null;
-const answered = new Map(), held = new Map();
+const answered = new Map(), held = new Map(), awaited = new Map();
 
 export function begin(given, screen) {
   day = given;
@@ -27,17 +27,38 @@ export function showRights() {
   if (screenNow()) showPlan(screenNow());
 }
 
-async function asked(does) {
+// Does what a button asks for, and says beside it why it is not done.
+async function asked(key, does) {
   try {
     return await does();
   } catch (refused) {
+    beside(key, `Not taken: ${refused.message}.`);
     say(`Not taken: ${refused.message}.`);
     return null;
   }
 }
 
-const tell = (kind, numbers) => asked(() => post('/tell', { kind, numbers }));
-const askForPlan = () => tell('solve', [Number(element('nodes').value)]);
+// Writes lines, and says beside the button what they are answered.
+async function write(key, path, words) {
+  beside(key, 'Sent.');
+  const answer = await asked(key, async () => await postAsking(path, words) || beside(key, 'Not sent.'));
+  if (!answer) return null;
+  awaited.set(answer.line, key);
+  beside(key, `Line ${answer.line} waits for the server.`);
+  showAwaited();
+  return answer;
+}
+
+function showAwaited() {
+  for (const { line, words, answer } of screenNow().told) {
+    if (!answer || !awaited.has(line)) continue;
+    beside(awaited.get(line), `${words}: ${answer}`);
+    awaited.delete(line);
+  }
+}
+
+const tell = (key, kind, numbers) => write(key, '/tell', { kind, numbers });
+const askForPlan = () => tell('plan', 'solve', [Number(element('nodes').value)]);
 
 // ---- A train
 
@@ -50,7 +71,7 @@ export function trainShown(shown, mayTell) {
   const ahead = train.events.find(row => !row[6]) || train.events[0];
   element('event').value = isSame && event ? event : ahead[0];
   const leg = element('leg').value;
-  element('leg').replaceChildren(...train.legs.map(([id, words, longer]) => new Option(longer ? `${words} (${longer} s longer)` : words, id)));
+  element('leg').replaceChildren(...train.legs.map(([id, words, longer]) => new Option(longer ? `${words} (${longer} longer)` : words, id)));
   if (isSame && leg) element('leg').value = leg;
   if (!isSame) showEvent();
   showChoices(mayTell);
@@ -65,11 +86,11 @@ function tellOfTrain(event) {
   event.preventDefault();
   const at = Number(element('event').value), seconds = id => Math.round(Number(element(id).value) * 60);
   const does = {
-    delay: () => tell('delay event', [at, seconds('minutes')]), ontime: () => tell('delay event', [at, 0]), recall: () => tell('recall', [at]),
-    slow: () => tell('delay activity', [Number(element('leg').value), seconds('longer')]),
+    delay: () => tell('tell', 'delay event', [at, seconds('minutes')]), ontime: () => tell('tell', 'delay event', [at, 0]),
+    recall: () => tell('tell', 'recall', [at]), slow: () => tell('tell', 'delay activity', [Number(element('leg').value), seconds('longer')]),
     pass: () => {
       const time = secondsOf(element('at').value);
-      return time === null ? say('A time is written as 8:05 or 8:05:30.') : tell('pass', [at, time]);
+      return time === null ? beside('tell', 'A time is written as 8:05 or 8:05:30.') : tell('tell', 'pass', [at, time]);
     },
   };
   does[event.submitter?.name || 'delay']();
@@ -93,13 +114,14 @@ function showChoices(mayTell) {
   if (train.changes.length) rows.push(made('h3', 'Changes'));
   for (const [id, words, kept, over, wait] of train.changes) {
     const state = over ? (kept ? 'over' : 'over, was dropped') : kept ? (wait ? `kept, waits ${wait}` : 'kept') : 'dropped';
-    const turn = button(kept ? 'Drop' : 'Keep', () => tell(kept ? 'drop' : 'keep', [id]), `${kept ? 'Drop' : 'Keep'} the change ${words}`);
-    rows.push(choice(`${words}: ${state}`, `change ${id}`, over ? [] : may(keyed(turn, `change ${id}`), ...hold(id, words))));
+    const key = `change ${id}`, turn = button(kept ? 'Drop' : 'Keep', () => tell(key, kept ? 'drop' : 'keep', [id]), `${kept ? 'Drop' : 'Keep'} the change ${words}`);
+    rows.push(choice(`${words}: ${state}`, key, over ? [] : may(keyed(turn, key), ...hold(id, words), placeBeside(key))));
   }
   if (train.pairs.length) rows.push(made('h3', 'Who goes first'));
   for (const [first, other, words, turned, headway] of train.pairs) {
-    const turn = keyed(button('Turn', () => tell('first', [other, first]), `Turn: ${turned}`), `pair ${Math.min(first, other)} ${Math.max(first, other)}`);
-    rows.push(choice(words, `${first} ${other}`, may(turn, ...hold(headway, words))));
+    const key = `pair ${Math.min(first, other)} ${Math.max(first, other)}`;
+    const turn = keyed(button('Turn', () => tell(key, 'first', [other, first]), `Turn: ${turned}`), key);
+    rows.push(choice(words, `${first} ${other}`, may(turn, ...hold(headway, words), placeBeside(key))));
   }
   replace(element('choices'), ...rows);
 }
@@ -107,24 +129,33 @@ function showChoices(mayTell) {
 // ---- Lines that were written here
 
 async function undo(line) {
-  const answer = await asked(() => post('/undo', { line }));
-  const { left } = answer ? await answer.json() : { left: [] };
-  if (left.length) say(`Taken back, but not this, which stays as it is: ${left.join('; ')}.`);
+  const key = `undo ${line}`, answer = await write(key, '/undo', { line });
+  if (answer && answer.left.length) say(`Taken back, but not this, which stays as it is: ${answer.left.join('; ')}.`);
+  if (answer) beside(key, [`It sets: ${answer.sets.join('; ')}.`, ...(answer.left.length ? [`This stays as it is: ${answer.left.join('; ')}.`] : [])].join(' '));
+}
+
+function undoButton({ line, words, sets }) {
+  const one = keyed(button('Undo', () => undo(line), `Undo: ${words}`), `undo ${line}`);
+  one.title = `It sets: ${sets}`;
+  return one;
 }
 
 export function showTold(screen) {
-  const rows = screen.told.map(([line, words, raw, answer, good, back]) => {
-    const cells = [String(line), withNumber(words, raw), answer || 'waits for the server'];
-    if (rights.mayTell) cells.push(back ? keyed(button('Undo', () => undo(line), `Undo: ${words}`), `undo ${line}`) : '');
+  const rows = screen.told.map(told => {
+    const { line, numbers, words, raw, answer, good, sets, who, stands } = told, result = made('span', answer || 'waits for the server');
+    result.append(...[stands, who && `by ${who}`].filter(Boolean).map(text => made('span', text, 'note line')), placeBeside(`undo ${line}`));
+    const cells = [numbers, withNumber(words, raw), result];
+    if (rights.mayTell) cells.push(sets && !stands ? undoButton(told) : '');
     return [cells, good === null ? 'waits' : good ? 'good' : 'no'];
   });
   const heads = ['Line', 'Says', 'Answered', ...(rights.mayTell ? [''] : [])];
   const none = day.tells ? 'Nothing was reported here yet.' : 'This desk only shows: it was started without a token.';
   replace(element('told').querySelector('.scroll'), rows.length ? table('', heads, rows) : made('p', none));
-  for (const [line, words, , answer] of screen.told) {
+  for (const { line, words, answer } of screen.told) {
     if (answered.get(line) === '' && answer) say(`${words}: ${answer}`);
     answered.set(line, answer);
   }
+  showAwaited();
 }
 
 // ---- Plans
@@ -167,9 +198,9 @@ const refreshPlan = oneAtATime(async () => {
     ? `The plan of entry ${plan.entry} is old: something was entered since. Ask again.` : `Plan of entry ${plan.entry}. Nothing was entered since.`);
   const buttons = [];
   if (rights.mayTell && !plan.adopted) {
-    const adopt = keyed(button('Adopt this plan', () => asked(() => post('/adopt', { plan: plan.line }))), 'adopt');
+    const adopt = keyed(button('Adopt this plan', () => write('plan', '/adopt', { plan: plan.line })), 'adopt');
     adopt.disabled = plan.old;
-    const enter = keyed(button('Enter its choices one by one', () => asked(() => post('/enter', { plan: plan.line }))), 'enter');
+    const enter = keyed(button('Enter its choices one by one', () => write('plan', '/enter', { plan: plan.line })), 'enter');
     buttons.push(adopt, ' ', ...(plan.old ? [enter, ' '] : []), keyed(button('Ask again', askForPlan), 'again'));
   }
   replace(element('planned'), state, ...buttons, ...(effect ? effectTables(effect, 'on the whole network') : [made('p', 'What it would change is being worked out.')]));
@@ -201,16 +232,17 @@ function showHeld() {
 async function tryWindow(event) {
   event.preventDefault();
   const from = secondsOf(element('begin').value), to = secondsOf(element('end').value);
-  if (from === null || to === null) return say('A time is written as 8:05.');
+  if (from === null || to === null) return beside('window', 'A time is written as 8:05.');
+  beside('window', '');
   replace(element('windowed'), made('p', 'Planning.'));
-  const answer = await asked(() => post('/window', { from, to, budget: Number(element('budget').value), held: [...held.keys()] }));
+  const answer = await asked('window', () => post('/window', { from, to, budget: Number(element('budget').value), held: [...held.keys()] }));
   replace(element('windowed'), ...(answer ? effectTables(await answer.json(), 'in this window') : []));
 }
 
 async function tryRules(event) {
   event.preventDefault();
   replace(element('ruled'), made('p', 'Comparing.'));
-  const answer = await asked(() => post('/rules', {}));
+  const answer = await asked('rules', () => post('/rules', {}));
   if (!answer) return replace(element('ruled'));
   const drawn = new DOMParser().parseFromString(await answer.text(), 'image/svg+xml').documentElement;
   replace(element('ruled'), document.importNode(drawn, true));

@@ -59,10 +59,10 @@ export function secondsOf(text) {
   return found && found[2] < 60 && (found[3] || 0) < 60 ? found[1] * 3600 + found[2] * 60 + Number(found[3] || 0) : null;
 }
 
-export function timeOf(seconds) {
+export function timeOf(seconds, always = false) {
   const two = number => String(number).padStart(2, '0');
   const rest = seconds % 60;
-  return `${Math.floor(seconds / 3600)}:${two(Math.floor(seconds / 60) % 60)}${rest ? `:${two(rest)}` : ''}`;
+  return `${Math.floor(seconds / 3600)}:${two(Math.floor(seconds / 60) % 60)}${rest || always ? `:${two(rest)}` : ''}`;
 }
 
 export const rights = { token: '', mayTell: false };
@@ -80,6 +80,39 @@ export const get = (path, signal = null) => answered(path, { cache: 'no-store', 
 
 export const post = (path, asked) =>
   answered(path, { method: 'POST', headers: { 'Content-Type': 'application/json', ...authorized() }, body: JSON.stringify(asked) });
+
+// Asks whoever works here; whether it shall be done all the same.
+function agrees(words) {
+  const question = element('question');
+  question.querySelector('ul').replaceChildren(...words.map(text => made('li', text)));
+  question.showModal();
+  return new Promise(answer => {
+    element('yes').onclick = () => { question.close(); answer(true); };
+    element('no').onclick = () => question.close();
+    question.onclose = () => answer(false);
+  });
+}
+
+// The answer to what is posted. If the desk doubts it, somebody is asked, and it is posted again, or null is given.
+export async function postAsking(path, asked) {
+  const answer = await (await post(path, asked)).json();
+  if (!answer.asks) return answer;
+  return await agrees(answer.asks) ? postAsking(path, { ...asked, agreed: answer.agreed }) : null;
+}
+
+// What was answered, by the button that asked, and the places beside these buttons.
+const besides = new Map();
+
+export function beside(key, text) {
+  besides.set(key, text);
+  for (const one of document.querySelectorAll('[data-beside]')) if (one.dataset.beside === key) one.textContent = text;
+}
+
+export function placeBeside(key) {
+  const one = made('span', besides.get(key) || '', 'beside');
+  one.dataset.beside = key;
+  return one;
+}
 
 // Does a thing whenever it is asked for, one at a time. If it is asked for meanwhile, it is done once more at the end.
 export function oneAtATime(does) {

@@ -1,9 +1,12 @@
 // What is seen: late trains, alerts, the diagram of a line, a train, a board, the last entries.
-import { button, element, get, made, oneAtATime, replace, rights, say, secondsOf, table, withNumber } from './parts.js';
+import { beside, button, element, get, made, oneAtATime, placeBeside, post, replace, rights, say, secondsOf, table, timeOf, withNumber } from './parts.js';
 import { trainShown } from './done.js';
 
-let day = null, clock = 0, lastEntries = 0, wide = 1;
-const seenAlerts = new Set();
+let day = null, clock = 0, lastEntries = 0, wide = 1, shown = null;
+
+// So many hits are listed.
+const HITS = 12;
+const SEVERITIES = ['urgent', 'warning', 'notice'];
 const body = id => element(id).querySelector('.scroll');
 const option = (text, value) => new Option(text, value);
 
@@ -12,37 +15,70 @@ export function begin(given) {
   element('lines').append(...day.lines.map(option));
   element('trains').append(...day.trains.map(([name], number) => option(name, number)));
   element('stops').append(...day.stops.map(([stop, name]) => option(name, stop)));
-  const names = [...day.trains.map(([name]) => name), ...day.trains.map(([, trip]) => trip).filter(Boolean), ...day.stops.map(([, name]) => name)];
-  element('names').append(...[...new Set(names)].map(name => option(name, name)));
-  for (const [id, does] of [['lines', refreshLine], ['trains', refreshTrain], ['stops', refreshBoard]]) element(id).addEventListener('change', does);
+  for (const [id, does] of [['lines', refreshLine], ['trains', () => chooseTrain(Number(element('trains').value))], ['stops', refreshBoard]]) element(id).addEventListener('change', does);
   for (const id of ['from', 'to', 'follows']) element(id).addEventListener('change', refreshLine);
   element('from').addEventListener('input', () => { element('follows').checked = false; });
   element('to').addEventListener('input', () => { element('follows').checked = false; });
   element('wider').addEventListener('click', () => widen(1.4));
   element('narrower').addEventListener('click', () => widen(1 / 1.4));
   element('find').addEventListener('submit', find);
+  element('wanted').addEventListener('input', showHits);
+  element('order').addEventListener('change', () => shown && showAlerts(shown));
+  element('wall').textContent = timeOf(wallClock(), true);
+  setInterval(() => { element('wall').textContent = timeOf(wallClock(), true); }, 1000);
   element('view').addEventListener('click', event => {
     const train = event.target.closest('.train');
     if (train) showTrain(Number(train.dataset.t));
   });
 }
 
+// The trains and stops of which a name has what is wanted, those that are called so first, each as its words and what shows it.
+function hits() {
+  const wanted = element('wanted').value.trim().toLowerCase();
+  if (!wanted) return [];
+  const rank = names => names.some(name => name.toLowerCase() === wanted) ? 0 : names.some(name => name.toLowerCase().includes(wanted)) ? 1 : 2;
+  const all = [
+    ...day.trains.map(([name, trip, from, to, at], number) => [rank([name, trip]), `${name}, ${from} – ${to}, ${at}`, () => showTrain(number)]),
+    ...day.stops.map(([stop, name]) => [rank([name]), name, () => showStop(stop)]),
+  ];
+  return [0, 1].flatMap(level => all.filter(([is]) => is === level));
+}
+
+function showHits() {
+  const found = hits();
+  beside('find', element('wanted').value.trim() && !found.length ? 'No train and no stop is called so.' : '');
+  element('hits').replaceChildren(...found.slice(0, HITS).map(([, words, does]) => {
+    const row = made('li');
+    row.append(button(words, () => { hideHits(); does(); }, '', 'link'));
+    return row;
+  }), ...(found.length > HITS ? [made('li', `and ${found.length - HITS} more`)] : []));
+}
+
+function hideHits() {
+  element('hits').replaceChildren();
+}
+
 function find(event) {
   event.preventDefault();
-  const wanted = element('wanted').value.trim().toLowerCase();
-  const is = name => name.toLowerCase() === wanted, has = name => wanted && name.toLowerCase().includes(wanted);
-  for (const fits of [is, has]) {
-    const train = day.trains.findIndex(([name, trip]) => fits(name) || fits(trip));
-    if (train >= 0) return showTrain(train);
-    const stop = day.stops.find(([, name]) => fits(name));
-    if (stop) return showStop(stop[0]);
+  const [first] = hits();
+  if (!first) return showHits();
+  hideHits();
+  first[2]();
+}
+
+// Chooses a train, and shows its line in the diagram.
+function chooseTrain(number) {
+  const line = day.trains[number]?.[5] ?? -1;
+  if (line >= 0 && Number(element('lines').value) !== line) {
+    element('lines').value = line;
+    refreshLine();
   }
-  say('No train and no stop is called so.');
+  refreshTrain();
 }
 
 export function showTrain(number) {
   element('trains').value = number;
-  refreshTrain();
+  chooseTrain(number);
   element('train').scrollIntoView({ block: 'nearest' });
   say(`Train: ${day.trains[number][0]}`);
 }
@@ -62,7 +98,10 @@ export function showScreen(screen) {
   element('entries').textContent = screen.began ? screen.entries : 'no server yet';
   element('confirmed').textContent = confirmed(screen);
   element('cost').textContent = screen.cost || '–';
-  showAlerts(screen.alerts);
+  element('cost-at').textContent = screen.cost ? `Cost at entry ${screen.confirmed}` : 'Cost';
+  element('who').textContent = screen.who;
+  shown = screen;
+  showAlerts(screen);
   showLate(screen);
   showJournal(screen);
 }
@@ -73,17 +112,24 @@ function confirmed(screen) {
   return screen.confirmed === screen.entries ? 'confirmed by the program' : `confirmed up to entry ${screen.confirmed}`;
 }
 
-function showAlerts(alerts) {
-  const names = new Set(alerts.map(([kind, key]) => `${kind} ${key}`));
-  for (const name of seenAlerts) if (!names.has(name)) seenAlerts.delete(name);
-  const rows = alerts.filter(([kind, key]) => !seenAlerts.has(`${kind} ${key}`)).map(([kind, key, words]) => {
-    const row = made('li', '', kind), does = button('Seen', () => { seenAlerts.add(`${kind} ${key}`); row.remove(); }, `Seen: ${words}`);
-    does.dataset.key = `${kind} ${key}`;
-    row.append(made('span', words), does);
-    return row;
-  });
+function alertRow({ severity, clock, kind, key, words, who, at }) {
+  const row = made('li', '', severity);
+  row.append(made('b', severity), made('span', clock, 'time'), made('span', who ? `${words} Seen by ${who} at ${at}.` : words, 'words'));
+  if (who || !rights.mayTell || key === 'more') return row;
+  const place = `see ${kind} ${key}`, does = button('Seen', () => post('/see', { kind, key }).catch(refused => beside(place, refused.message)), `Seen: ${words}`);
+  does.dataset.key = place;
+  row.append(does, placeBeside(place));
+  return row;
+}
+
+function showAlerts({ alerts, seen }) {
+  const rank = ({ severity }) => SEVERITIES.indexOf(severity);
+  const byTime = element('order').value === 'time';
+  const rows = [...alerts].sort((one, other) => byTime ? other.entry - one.entry || rank(one) - rank(other) : rank(one) - rank(other)).map(alertRow);
   element('h-alerts').textContent = `Alerts (${rows.length})`;
   replace(element('alerts').querySelector('ul'), ...(rows.length ? rows : [made('li', 'None.', 'none')]));
+  element('seen').querySelector('summary').textContent = `Seen (${seen.length})`;
+  element('seen').querySelector('ul').replaceChildren(...seen.map(alertRow));
 }
 
 function trainButton(number, name) {
@@ -93,11 +139,11 @@ function trainButton(number, name) {
 }
 
 function showLate(screen) {
-  const rows = screen.late.map(([number, name, worst, late, at, next, scheduled, now]) => [
-    [trainButton(number, name), withBold('', late, ` at ${at}`), next, withBold(now === scheduled ? '' : `${scheduled} `, now, '', 'time')],
+  const rows = screen.late.map(([number, name, next, scheduled, now, late, worst, later]) => [
+    [trainButton(number, name), next, withBold(now === scheduled ? '' : `${scheduled} `, now, '', 'time'), withBold('', late, ''), later],
     worst >= day.late ? 'bad' : '']);
   element('h-late').textContent = `Late trains (${screen.lateCount} of ${screen.trains})`;
-  const heads = ['Train', 'Late', 'Next', 'Scheduled, now'];
+  const heads = ['Train', 'Next', 'Scheduled, now', 'Late there', 'At the worst'];
   replace(body('late'), rows.length ? table('', heads, rows) : made('p', 'No train is a minute late.'));
 }
 
