@@ -17,12 +17,15 @@ from unittest import mock
 from dispatch_tools.days.playing import Program
 from dispatch_tools.desk.alerts import alerts_of, Marks, MOST, Server, Since, Standing
 from dispatch_tools.desk.asking import adoption, Asking, journal_text, SecondReading
+from dispatch_tools.desk.concerns import state_of
 from dispatch_tools.desk.day import Day, Names
+from dispatch_tools.desk.effects import Alone, decisions_together, together_words
 from dispatch_tools.desk.feed import Feed, line_of
 from dispatch_tools.desk.handover import handover
 from dispatch_tools.desk.locks import is_held
 from dispatch_tools.desk.reckoning import Reckoning
 from dispatch_tools.desk.rights import hosts_of, is_loopback, LONGEST_BODY, read_token, Rights
+from dispatch_tools.desk.naming import Naming
 from dispatch_tools.desk.notebook import Action, Notebook, Seen
 from dispatch_tools.desk.room import Doubted, Refused, Room, Settings
 from dispatch_tools.desk.screen import board_of, screen_of, server_board, train_of
@@ -38,6 +41,7 @@ from dispatch_tools.model.decide import in_turn
 from dispatch_tools.model.messages import Adopt, DelayActivity, DelayEvent, Drop, First, Keep, Message, Now, Pass, Recall
 from dispatch_tools.model.network import Network
 from dispatch_tools.model.railway import admit, Rows, times_of
+from dispatch_tools.pictures.scene import trains_of
 from tests.patience import PATIENCE
 from tests.samples import CASES, network
 from tests.test_parts import WHOLE
@@ -326,6 +330,20 @@ class Rooms(InRoom):
         self.assertTrue(self.screen()['plan']['old'])
         self.assertEqual(self.room.enter_choices(3), 4)
         self.assertEqual(sorted(text for text, _ in self.room.pending.values()), ['drop 5', 'first 5 3'])
+
+    def test_why_and_one_line_for_one_decision_at_several_stops(self) -> None:
+        net = read_network(FORTY)
+        naming, trains, rows = Naming(net, trains_of(net), {}, {}), trains_of(net), Rows(net)
+        pairs = [(net.events[one].id, net.events[other].id) for one, other in net.pairs]
+        turned = [First(other, one) if rows.first[place] == net.event_place[one] else First(one, other) for place, (one, other) in enumerate(pairs)]
+        of_two = next(group for group in decisions_together(naming, turned) if len(group) > 2)
+        self.assertEqual(len({naming.train_of[net.event_place[one.event]] for one in of_two if isinstance(one, First)}), 1)
+        self.assertRegex(together_words(naming, of_two), rf'^Train \d+ goes before Train \d+, Stop \d+ to Stop \d+ \({len(of_two)} stops\)$')
+        state = state_of(net, rows, 10)
+        assert state is not None
+        why = Alone(naming, trains, state, 10).why(of_two)
+        self.assertRegex(why, r'^(saves|costs) [0-9,.]+ passenger minutes; Train \d+ (loses|gains) [0-9,.]+')
+        self.assertEqual(Alone(naming, trains, state, 10).why([]), 'costs as much')
 
     def test_plan_by_parts(self) -> None:
         self.feed.tell(['# the number of the plan\'s line is 3', 'delay event 1 60', 'solve 100'])

@@ -96,7 +96,7 @@ def plans(browser: Browser, desk: Desk) -> None:
     fill(browser, 'nodes', '300')
     press(browser, 'Ask for a plan')
     until(browser, has('#planned', 'instead of') + ' && ' + has('#planned', 'Nothing was entered since'), 'what the plan would change')
-    for words in ('Choices', 'Trains', 'Trains that decide together', 'no choices on the whole network cost less', 'orders turned',
+    for words in ('Choices', 'Alone, in passenger minutes', 'saves', 'Trains', 'Trains that decide together', 'no choices on the whole network cost less', 'orders turned',
                   'at their last stop', 'earlier'):
         if not browser.value(has('#planned', words)):
             raise Wrong(f'the comparison does not say "{words}"')

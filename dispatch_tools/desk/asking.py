@@ -115,12 +115,17 @@ class SecondReading:
     def __init__(self, network: Network, start: Rows, penalty: int) -> None:
         self.network, self.start, self.penalty = network, start, penalty
 
-    def follow(self, entries: Sequence[str]) -> Followed:
+    def rows_after(self, entries: Sequence[str]) -> Rows:
+        """The rows after entries."""
         rows = self.start.copy()
         for entry in entries:
             message = read_message(entry.split()[4:])
             assert message is not None, 'an entry has the form of one'
             apply(self.network, rows, message)
+        return rows
+
+    def follow(self, entries: Sequence[str]) -> Followed:
+        rows = self.rows_after(entries)
         times = sound_times(self.network, rows)
         return Followed(len(entries), times, cost_of(self.network, rows, times, self.penalty))
 

@@ -1,23 +1,77 @@
 """What a plan would change: changes kept and dropped, orders turned, trains later and earlier than without it; and its parts."""
 from __future__ import annotations
 
-from typing import Any, Sequence
+from dataclasses import dataclass
+from typing import Any, Callable, Sequence
 
 from dispatch_tools.desk.asking import Followed
+from dispatch_tools.desk.concerns import arrivals_moved, comes_to, minutes, State, state_of
 from dispatch_tools.desk.naming import duration, Naming
 from dispatch_tools.model.messages import Decision, Drop, First, Keep
 from dispatch_tools.model.parts import branches_of, Part, places_of, PlanByParts
-from dispatch_tools.model.railway import Plan
+from dispatch_tools.model.railway import Plan, with_decisions
 from dispatch_tools.pictures.view import cost_words
 
-# So many trains, choices and parts are listed, and so many trains of a part are named.
-MOST, NAMED = 60, 8
+# So many trains, choices and parts are listed, so many trains of a part are named, and so many trains that a choice concerns.
+MOST, NAMED, CONCERNED = 60, 8, 3
+
+# What choices do alone is worked out for so many at most, times the events of the network.
+MOST_WORK = 200_000
 
 
-def choice_rows(naming: Naming, choices: Sequence[Decision]) -> list[list[str]]:
-    """A row for each choice: its kind, the choice in names, and the line that makes it."""
+def decisions_together(naming: Naming, choices: Sequence[Decision]) -> list[list[Decision]]:
+    """Choices, those that let one train go before another at several stops together, by their times."""
+    found: dict[object, list[Decision]] = {}
+    for choice in choices:
+        events = naming.network.event_place
+        trains = [naming.train_of[events[event]] for event in (choice.event, choice.other)] if isinstance(choice, First) else []
+        found.setdefault(tuple(trains) or choice, []).append(choice)
+    return [sorted(group, key=lambda choice: time_of(naming, choice)) for group in found.values()]
+
+
+def time_of(naming: Naming, choice: Decision) -> int:
+    network = naming.network
+    return network.events[network.event_place[choice.event]].time if isinstance(choice, First) else 0
+
+
+def together_words(naming: Naming, group: Sequence[Decision]) -> str:
+    """Choices that are together, in names."""
+    first, last = group[0], group[-1]
+    if len(group) == 1 or not isinstance(first, First) or not isinstance(last, First):
+        return naming.decision(first)
+    places = [naming.network.event_place[event] for event in (first.event, first.other, last.event)]
+    return (f'{naming.train(places[0])} goes before {naming.train(places[1])}, {naming.at(places[0])} to {naming.at(places[2])} '
+            f'({len(group)} stops)')
+
+
+def choice_rows(naming: Naming, groups: Sequence[Sequence[Decision]], why: Callable[[Sequence[Decision]], str]) -> list[list[str]]:
+    """A row for choices that are together: their kind, what they are in names, the lines that make them, and what they do alone."""
     kinds = {Keep: 'change kept', Drop: 'change dropped', First: 'order turned'}
-    return [[kinds[type(choice)], naming.decision(choice), str(choice)] for choice in choices]
+    most = MOST_WORK // max(1, len(naming.network.events))
+    return [[kinds[type(group[0])], together_words(naming, group), '; '.join(map(str, group)), why(group) if number < most else '']
+            for number, group in enumerate(groups)]
+
+
+@dataclass(frozen=True)
+class Alone:
+    """What choices do alone, without the others of a plan, beside rows as they are. It is worked out by the desk's own reading of the
+    rules."""
+    naming: Naming
+    trains: Sequence[list[int]]
+    before: State
+    penalty: int
+
+    def why(self, group: Sequence[Decision]) -> str:
+        """What they save or cost, and whom they concern most."""
+        network = self.naming.network
+        after = state_of(network, with_decisions(network, self.before.rows, group), self.penalty)
+        if after is None:
+            return 'only with others'
+        saved = self.before.cost - after.cost
+        words = f'{"saves" if saved > 0 else "costs"} {minutes(saved)}' if saved else 'costs as much'
+        sums = [(comes_to(arrivals_moved(network, train, self.before, after)), number) for number, train in enumerate(self.trains)]
+        moved = sorted((one for one in sums if one[0]), key=lambda one: (-abs(one[0]), one[1]))[:CONCERNED]
+        return '; '.join([words, *(f'{self.naming.labels[number]} {"loses" if lost > 0 else "gains"} {abs(lost) / 60_000:,.1f}' for lost, number in moved)])
 
 
 def train_rows(naming: Naming, trains: Sequence[list[int]], before: Sequence[int], after: Sequence[int]) -> list[list[Any]]:
@@ -48,8 +102,10 @@ def signed(seconds: int) -> str:
     return f'{duration(abs(seconds))} {"later" if seconds > 0 else "earlier"}'
 
 
-def effect(naming: Naming, trains: Sequence[list[int]], plan: Plan | PlanByParts, before: Followed, after: Followed) -> dict[str, Any]:
+def effect(alone: Alone, plan: Plan | PlanByParts, before: Followed, after: Followed) -> dict[str, Any]:
     """What a plan would change, as the page's table has it."""
+    naming, trains = alone.naming, alone.trains
+    groups = decisions_together(naming, plan.choices)
     moved = train_rows(naming, trains, before.times, after.times)
     gap = 0 if plan.cost == 0 else 100 * (plan.cost - plan.bound) / plan.cost
     kinds = [type(choice) for choice in plan.choices]
@@ -57,7 +113,7 @@ def effect(naming: Naming, trains: Sequence[list[int]], plan: Plan | PlanByParts
     return {
         'entry': plan.entry, 'mark': plan.mark, 'now': cost_words(before.cost), 'cost': cost_words(plan.cost),
         'bound': cost_words(plan.bound), 'gap': f'{gap:.1f} %', 'kept': kinds.count(Keep), 'dropped': kinds.count(Drop),
-        'turned': kinds.count(First), 'choices': choice_rows(naming, plan.choices[:MOST]), 'count': len(plan.choices),
+        'turned': kinds.count(First), 'choices': choice_rows(naming, groups[:MOST], alone.why), 'count': len(groups),
         'later': sum(row[5] > 0 for row in moved), 'earlier': sum(row[5] < 0 for row in moved),
         'trains': [[*row[:3], duration(row[3]), duration(row[4]), signed(row[5])] for row in moved[:MOST]],
         'parts': part_rows(naming, parts)[:MOST], 'partCount': len(parts), 'agrees': after.cost == plan.cost,

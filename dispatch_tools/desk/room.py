@@ -10,9 +10,10 @@ from typing import Any, NamedTuple, Optional, Sequence, Union
 from dispatch_tools.days.playing import Program
 from dispatch_tools.desk.alerts import Alert, alerts_of, forgotten, Marks, MORE, Server, Since, Standing
 from dispatch_tools.desk.asking import adoption, Asking, Followed, SecondReading
+from dispatch_tools.desk.concerns import State
 from dispatch_tools.desk.day import Day, Reported, Told
 from dispatch_tools.desk.doubts import doubts_of
-from dispatch_tools.desk.effects import effect
+from dispatch_tools.desk.effects import Alone, effect
 from dispatch_tools.desk.feed import Feed, line_of
 from dispatch_tools.desk.locks import is_held
 from dispatch_tools.desk.naming import few
@@ -237,7 +238,9 @@ class Room:
         assert self.asking is not None
         before = self.asking.follow(entries)
         after = self.asking.follow([*entries, adoption(plan.choices, self.day.feed)]) if plan.choices else before
-        return effect(self.day.naming, self.day.trains, plan, before, after)
+        day, penalty = self.day, self.day.head.penalty if self.day.head else 0
+        rows = SecondReading(day.network, day.start, penalty).rows_after(entries)
+        return effect(Alone(day.naming, day.trains, State(rows, before.times, before.cost), penalty), plan, before, after)
 
     # ---- What the page asks
 

@@ -164,11 +164,11 @@ function effectTables(effect, where) {
   const bound = effect.mark === 'optimal' ? `no choices ${where} cost less` : `no choices ${where} cost less than ${effect.bound} (gap ${effect.gap})`;
   const head = made('p', `${effect.mark === 'optimal' ? 'Optimal' : 'Not proved optimal'}: ${effect.cost} instead of ${effect.now}; ${bound}. Changes: ${effect.kept} kept, ${effect.dropped} dropped; `
     + `orders turned: ${effect.turned}; trains at their last stop: ${effect.later} later, ${effect.earlier} earlier.`);
-  const choices = effect.choices.map(([kind, words, line]) => [[kind, withNumber(words, line)], '']);
+  const choices = effect.choices.map(([kind, words, line, why]) => [[kind, withNumber(words, line), why], '']);
   const trains = effect.trains.map(([, name, at, before, after, moved]) => [[name, at, before, after, moved], '']);
   const more = (all, shown) => all > shown ? ` (the first ${shown} of ${all})` : '';
   const parts = [head];
-  if (choices.length) parts.push(inScroll('Choices', table(`Choices${more(effect.count, choices.length)}`, ['What', 'Which'], choices)));
+  if (choices.length) parts.push(inScroll('Choices', table(`Choices${more(effect.count, choices.length)}`, ['What', 'Which', 'Alone, in passenger minutes'], choices)));
   if (trains.length) {
     const heads = ['Train', 'Last stop', 'Late now', 'Then', 'Difference'];
     parts.push(inScroll('Trains', table(`Trains${more(effect.later + effect.earlier, trains.length)}`, heads, trains)));
