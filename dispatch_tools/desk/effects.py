@@ -5,7 +5,7 @@ from dataclasses import dataclass
 from typing import Any, Callable, Sequence
 
 from dispatch_tools.desk.asking import Followed
-from dispatch_tools.desk.concerns import arrivals_moved, comes_to, minutes, State, state_of
+from dispatch_tools.desk.concerns import arrivals_moved, comes_to, minutes, people, State, state_of
 from dispatch_tools.desk.naming import duration, Naming
 from dispatch_tools.model.messages import Decision, Drop, First, Keep
 from dispatch_tools.model.parts import branches_of, Part, places_of, PlanByParts
@@ -71,7 +71,13 @@ class Alone:
         words = f'{"saves" if saved > 0 else "costs"} {minutes(saved)}' if saved else 'costs as much'
         sums = [(comes_to(arrivals_moved(network, train, self.before, after)), number) for number, train in enumerate(self.trains)]
         moved = sorted((one for one in sums if one[0]), key=lambda one: (-abs(one[0]), one[1]))[:CONCERNED]
-        return '; '.join([words, *(f'{self.naming.labels[number]} {"loses" if lost > 0 else "gains"} {abs(lost) / 60_000:,.1f}' for lost, number in moved)])
+        return '; '.join([words, *self.passengers(group), *(f'{self.naming.labels[number]} {"loses" if lost > 0 else "gains"} {abs(lost) / 60_000:,.1f}' for lost, number in moved)])
+
+    def passengers(self, group: Sequence[Decision]) -> list[str]:
+        """Whose change it is that is dropped or kept."""
+        network = self.naming.network
+        return [f'{people(network.activities[network.activity_place[choice.activity]].weight)} {"miss" if isinstance(choice, Drop) else "make"} it'
+                for choice in group if isinstance(choice, (Drop, Keep))]
 
 
 def train_rows(naming: Naming, trains: Sequence[list[int]], before: Sequence[int], after: Sequence[int]) -> list[list[Any]]:

@@ -140,11 +140,18 @@ function trainButton(number, name) {
 
 function showLate(screen) {
   const rows = screen.late.map(([number, name, next, scheduled, now, late, worst, later]) => [
-    [trainButton(number, name), next, withBold(now === scheduled ? '' : `${scheduled} `, now, '', 'time'), withBold('', late, ''), later],
+    [trainButton(number, name), next, withBold(now === scheduled ? '' : `${scheduled} `, now, '', 'time'), lateWords(late, later)],
     worst >= day.late ? 'bad' : '']);
   element('h-late').textContent = `Late trains (${screen.lateCount} of ${screen.trains})`;
-  const heads = ['Train', 'Next', 'Scheduled, now', 'Late there', 'At the worst'];
+  const heads = ['Train', 'Next', 'Scheduled, now', 'Late there; at the worst'];
   replace(body('late'), rows.length ? table('', heads, rows) : made('p', 'No train is a minute late.'));
+}
+
+// How late a train is at its next event, and where it will be latest.
+function lateWords(late, worst) {
+  const whole = withBold('', late, '');
+  if (worst) whole.append(made('span', worst, 'note line'));
+  return whole;
 }
 
 function withBold(before, bold, behind, classes = '') {
