@@ -8,8 +8,10 @@ import json
 import os
 import random
 import socket
+import sys
 import tempfile
 import threading
+import time
 import unittest
 from typing import Any, Optional
 from unittest import mock
@@ -18,6 +20,7 @@ from dispatch_tools.days.playing import Program
 from dispatch_tools.desk.alerts import alerts_of, Marks, MOST, Server, Since, Standing
 from dispatch_tools.desk.asking import adoption, Asking, journal_text, SecondReading
 from dispatch_tools.desk.concerns import state_of
+from dispatch_tools.desk.control import Control
 from dispatch_tools.desk.day import Day, Names
 from dispatch_tools.desk.effects import Alone, decisions_together, together_words
 from dispatch_tools.desk.feed import Feed, line_of
@@ -26,7 +29,9 @@ from dispatch_tools.desk.locks import is_held
 from dispatch_tools.desk.reckoning import Reckoning
 from dispatch_tools.desk.rights import hosts_of, is_loopback, LONGEST_BODY, read_token, Rights
 from dispatch_tools.desk.naming import Naming
-from dispatch_tools.desk.notebook import Action, Notebook, Seen
+from dispatch_tools.desk.notebook import Action, Closed, Notebook, Seen
+from dispatch_tools.desk.only import Only, screen_only, trains_of as trains_only
+from dispatch_tools.desk.pictures import Asked
 from dispatch_tools.desk.room import Doubted, Refused, Room, Settings
 from dispatch_tools.desk.screen import board_of, screen_of, server_board, train_of
 from dispatch_tools.desk.server import PageServer, POLICY
@@ -380,6 +385,45 @@ class Rooms(InRoom):
         self.say()
         self.assertEqual((self.screen()['entries'], self.screen()['lateCount']), (0, 0))
 
+    def test_the_trains_of_a_line_or_a_stop_alone(self) -> None:
+        self.say(round_of('1 delay event 1 600 -> 1 ok\n2 delay event 5 900 -> 2 ok\n3 drop 5 -> 3 ok\n4 now 0 -> 4 ok\n'))
+        self.room.show()
+        whole = self.screen()
+        self.assertEqual(([row[0] for row in whole['late']], whole['lateCount'], whole['trains']), ([1, 0], 2, 2))
+        for only, trains, entries in [(Only(None, 1), {0}, [3, 1]), (Only(None, 4), {1}, [3, 2]), (Only(None, 2), {0, 1}, [3, 2, 1]), (Only(None, 99), set(), [])]:
+            self.assertEqual(trains_only(self.room, only), trains)
+            shown = screen_only(self.room, only)
+            self.assertEqual({row[0] for row in shown['late']}, trains)
+            self.assertEqual((shown['lateCount'], shown['trains']), (len(trains), len(trains)))
+            self.assertEqual([row[0] for row in shown['journal']], entries)
+            self.assertEqual({row['key'] for row in shown['alerts'] if row['kind'] == 'late'}, {str(number) for number in trains})
+            self.assertEqual([row for row in shown['alerts'] if row['kind'] == 'server'], [row for row in whole['alerts'] if row['kind'] == 'server'])
+        line = next(number for number, stops in enumerate(self.room.pictures.lines) if {1, 2} <= set(stops))
+        self.assertIn(0, trains_only(self.room, Only(line, None)))
+        self.assertEqual(trains_only(self.room, Only(line, 1)), {0})
+
+    def test_what_a_plan_would_move_is_drawn_while_it_can_be_adopted(self) -> None:
+        self.feed.tell(['# the number of the plan\'s line is 3', 'delay event 1 60', 'plan 100'])
+        self.say(round_of('', '2 delay event 1 60 -> 1 ok\n' + PLAN))
+        asked = Asked(0, None, None, True)
+        self.assertNotIn('by the plan</title>', self.room.draw(asked).svg)
+        self.room.compare_plan()
+        self.assertTrue(self.screen()['plan']['previewed'])
+        self.assertIn('by the plan</title>', self.room.draw(asked).svg)
+        self.assertIn('<title>the plan: Train 5 does not wait for Train 1 in ', self.room.draw(asked).svg)
+        self.assertNotIn('by the plan</title>', self.room.draw(Asked(0, None, None)).svg)
+        self.say(round_of('', '2 delay event 1 60 -> 1 ok\n' + PLAN), round_of('1 delay event 3 1 -> 2 ok\n'))
+        self.assertFalse(self.screen()['plan']['previewed'])
+        self.assertNotIn('by the plan</title>', self.room.draw(asked).svg)
+
+    def test_clocks_have_their_seconds_and_a_train_says_how_long_it_waits(self) -> None:
+        self.say(round_of('1 now 60 -> 1 ok\n'))
+        self.assertEqual(self.screen()['clock'], '0:01:00')
+        self.assertTrue(all(pair[5] == '' for pair in train_of(self.room.day, 0)['pairs']))
+        self.say(round_of('1 now 60 -> 1 ok\n'), round_of('2 delay event 3 3000 -> 2 ok\n3 first 3 5 -> 3 ok\n'))
+        waits = {pair[5] for number in (0, 1) for pair in train_of(self.room.day, number)['pairs']} - {''}
+        self.assertTrue(all(words.endswith(('min', 's')) for words in waits) and waits, waits)
+
     def test_an_entry_that_the_network_refuses(self) -> None:
         with self.assertRaises(Bad):
             self.say(round_of('1 delay event 999 60 -> 1 ok\n'))
@@ -445,7 +489,7 @@ class Alerts(InRoom):
         told = '1 delay event 1 600 -> 1 ok\n2 now 60 -> 2 ok\n'
         self.say(round_of(told))
         row = next(row for row in self.screen()['alerts'] if row['kind'] == 'late')
-        self.assertEqual((row['severity'], row['clock'], row['entry'], row['level']), ('warning', '0:01', 2, 600))
+        self.assertEqual((row['severity'], row['clock'], row['entry'], row['level']), ('warning', '0:01:00', 2, 600))
         self.assertRaises(Refused, self.room.see, 'late', '99')
         self.room.see('late', row['key'])
         other = self.room_of({}, None)
@@ -468,6 +512,10 @@ class Alerts(InRoom):
         self.say(round_of('1 delay event 1 60 -> 1 ok\n' + PLAN.replace('3 plan', '2 plan') + '3 adopt -> 2 ok\n'))
         row = next(row for row in self.screen()['alerts'] if row['kind'] == 'adopted')
         self.assertIn('feed 1 adopted a plan: Train 5 does not wait for Train 1', row['words'])
+
+    def test_a_day_that_was_closed_is_no_fault(self) -> None:
+        closed = alerts_of(self.room.day, Marks(), Server(False, None, Closed('Anna', '22:10:05')), [])
+        self.assertEqual([(alert.kind, alert.severity, alert.words) for alert in closed], [('closed', 'notice', 'Anna has closed the day at 22:10:05.')])
 
     def test_a_lock_is_looked_up_in_the_table(self) -> None:
         self.write(b'')
@@ -670,6 +718,60 @@ class Requests(InRoom):
         answer.readline()
         self.assertEqual(json.loads(answer.readline().removeprefix(b'data: '))['entries'], 2)
         line.close()
+
+
+# A stand-in for the command that starts a server: it takes the lock of a store, and ends when it is told to.
+HOLDER = """import fcntl, os, sys, time
+lock = open(os.path.join(sys.argv[1], 'lock'), 'ab')
+fcntl.flock(lock, fcntl.LOCK_EX)
+while not os.path.exists(os.path.join(sys.argv[1], 'stop')):
+    time.sleep(0.01)
+"""
+
+
+class Controls(InRoom):
+    def setUp(self) -> None:
+        super().setUp()
+        self.room.settings.start = [sys.executable, '-c', HOLDER, self.folder]
+        self.room.control = Control(self.folder, self.room.settings.start)
+
+    def wait_for_end(self) -> None:
+        ends = time.monotonic() + PATIENCE
+        while self.room.control.runs() is not False and time.monotonic() < ends:
+            time.sleep(0.01)
+        assert self.room.control.started is not None
+        self.room.control.started.wait(PATIENCE)
+
+    def test_a_server_is_started_and_the_day_is_closed_after_a_question(self) -> None:
+        self.say()
+        with self.assertRaisesRegex(Refused, 'no server runs'):
+            self.room.close(1)
+        self.room.start_server()
+        self.assertTrue(self.screen()['runs'])
+        with self.assertRaisesRegex(Refused, 'a server runs'):
+            self.room.start_server()
+        with self.assertRaises(Doubted) as doubted:
+            self.room.close()
+        self.assertIn('2 trains have not arrived yet.', doubted.exception.words)
+        self.assertFalse(self.room.control.is_ending())
+        self.room.close(0)
+        self.wait_for_end()
+        self.assertEqual([alert['kind'] for alert in self.screen()['alerts']], ['closed'])
+        self.assertFalse(self.room.control.is_ending())
+        self.room.start_server()
+        self.assertEqual(self.screen()['alerts'], [])
+        self.assertIsNone(self.room.notebook.closed)
+        self.room.close(0)
+        self.wait_for_end()
+
+    def test_a_command_that_starts_no_server(self) -> None:
+        for command, why in [(['false'], 'status 1'), ([os.path.join(self.folder, 'nothing')], 'No such file')]:
+            self.room.control = Control(self.folder, command)
+            with self.assertRaisesRegex(BadFile, why):
+                self.room.start_server()
+        self.room.control = Control(self.folder, [])
+        with self.assertRaisesRegex(Refused, 'without --start'):
+            self.room.start_server()
 
 
 class Tokens(InStore):

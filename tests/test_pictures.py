@@ -16,12 +16,14 @@ from dispatch_tools.formats.files import BadFile
 from dispatch_tools.formats.giv import read_network
 from dispatch_tools.formats.markup import in_script
 from dispatch_tools.here import words_of
-from dispatch_tools.model.messages import BoundLeaf, CycleLeaf, Inner, Message, Node, Now, OpenLeaf
+from dispatch_tools.model.messages import BoundLeaf, CycleLeaf, DelayEvent, First, Inner, Message, Node, Now, OpenLeaf, Pass
 from dispatch_tools.model.network import Change, Pair
 from dispatch_tools.model.network import Activity, Event, Network
-from dispatch_tools.pictures.diagram import chosen_line, drawing, frame_of, part_of
+from dispatch_tools.model.railway import rows_after, Rows, sound_times
+from dispatch_tools.pictures.diagram import chosen_line, drawing, drawn, frame_of, marked_on, part_of, Preview
+from dispatch_tools.pictures.labels import Box, Labels, LONGEST
 from dispatch_tools.pictures.scene import (
-    cost_parts, distances, lines_of, links_of, path_of, read_scene, Scene, trains_of, turned_pairs,
+    Conflict, conflicts_of, cost_parts, distances, duration, lines_of, links_of, path_of, read_scene, Scene, trains_of, turned_pairs, whole_time,
 )
 from dispatch_tools.pictures.view import Cut, page, tree_part, upper_part
 from tests.samples import lines_of_run, network, text, TOP
@@ -96,6 +98,64 @@ class StatesOfChanges(unittest.TestCase):
             self.assertEqual(sum(cost_parts(found)), found.run.cost)
 
 
+def two_on_a_track() -> Network:
+    """Two trains from stop 1 to stop 2, of which the second leaves a minute after the first, and not sooner."""
+    events = [Event(1, 'departure', 0, 0, 1), Event(2, 'arrival', 300, 0, 2), Event(3, 'departure', 60, 0, 1), Event(4, 'arrival', 500, 0, 2)]
+    return Network(events, [Activity(1, 'drive', 1, 2, 300, 0), Activity(2, 'drive', 3, 4, 300, 0), Activity(3, 'headway', 1, 3, 60, 0),
+                            Activity(4, 'headway', 3, 1, 60, 0)])
+
+
+class Conflicts(unittest.TestCase):
+    def found(self, *messages: Message) -> list[Conflict]:
+        net = two_on_a_track()
+        rows = Rows(net)
+        for message in messages:
+            rows = rows_after(net, rows, message)
+        return conflicts_of(net, rows, sound_times(net, rows), [0], {0: [3], 2: [2]})
+
+    def test_a_train_that_waits_for_another(self) -> None:
+        self.assertEqual(self.found(DelayEvent(1, 300)), [Conflict(0, 2, 300)])
+
+    def test_none_on_time_or_for_less_than_a_minute(self) -> None:
+        self.assertEqual(self.found(), [])
+        self.assertEqual(self.found(DelayEvent(1, 59)), [])
+        self.assertEqual(self.found(DelayEvent(1, 60)), [Conflict(0, 2, 60)])
+
+    def test_only_what_the_other_one_adds(self) -> None:
+        self.assertEqual(self.found(DelayEvent(1, 300), DelayEvent(3, 200)), [Conflict(0, 2, 100)])
+        self.assertEqual(self.found(DelayEvent(1, 300), Now(330)), [Conflict(0, 2, 60)])
+
+    def test_none_where_it_has_left_or_goes_first(self) -> None:
+        self.assertEqual(self.found(DelayEvent(1, 300), Pass(3, 70)), [])
+        self.assertEqual(self.found(DelayEvent(1, 300), First(3, 1)), [])
+        self.assertEqual(self.found(First(3, 1)), [Conflict(2, 0, 120)])
+
+    def test_marked_in_a_drawing(self) -> None:
+        net = two_on_a_track()
+        rows = rows_after(net, Rows(net), DelayEvent(1, 300))
+        whole = scene('connection', 'empty_feed')._replace(network=net, start=Rows(net), rows=rows, times=sound_times(net, rows), trains=trains_of(net),
+                                                            names={1: 'Au'}, labels={1: 'RE 1', 3: 'RB 2'}, trips={})
+        svg = ''.join(drawing(whole, [1, 2]))
+        self.assertIn('<title>conflict: RB 2 waits 5 min for RE 1 at Au</title>', svg)
+        self.assertEqual(classes(svg).count('conflict'), 2)
+
+
+class Previews(unittest.TestCase):
+    def test_trains_that_a_plan_moves_and_where_it_decides(self) -> None:
+        net = two_on_a_track()
+        before, after = Rows(net), rows_after(net, Rows(net), First(3, 1))
+        whole = scene('connection', 'empty_feed')._replace(network=net, start=before, rows=before, times=sound_times(net, before), trains=trains_of(net),
+                                                            names={}, labels={1: 'RE 1', 3: 'RB 2'}, trips={})
+        frame, trains = frame_of(whole, [1, 2], None, None)
+        preview = Preview(sound_times(net, after), [(First(3, 1), 'RB 2 goes before RE 1')])
+        svg = ''.join(drawn(whole, frame, trains, marked_on(frame, whole), 'both', preview=preview))
+        self.assertIn('<title>RE 1 by the plan</title>', svg)
+        self.assertNotIn('RB 2 by the plan', svg)
+        self.assertIn('<title>the plan: RB 2 goes before RE 1</title>', svg)
+        without = ''.join(drawn(whole, frame, trains, marked_on(frame, whole), 'both'))
+        self.assertEqual([classes(one).count('then') for one in (svg, without)], [2, 1])
+
+
 class Drawings(unittest.TestCase):
     def draw(self, name: str, line: Iterable[int] = (1, 2, 3), begin: Optional[int] = None, end: Optional[int] = None) -> str:
         return ''.join(drawing(scene('connection', name), list(line), begin, end))
@@ -131,7 +191,7 @@ class Names(unittest.TestCase):
     """Names of trains lie neither over the names of stops nor beyond the edge of the picture."""
 
     def extents(self, begin: int, end: int, *names: str) -> list[tuple[str, float, float]]:
-        """The names in a diagram of the connection between two times, and where they begin and end, at six units a letter."""
+        """The names in a diagram of the connection between two times, and where they begin and end, at seven units a letter."""
         with tempfile.TemporaryDirectory() as net:
             for name in os.listdir(network('connection')):
                 shutil.copy(os.path.join(network('connection'), name), net)
@@ -142,7 +202,7 @@ class Names(unittest.TestCase):
         said = []
         for one in root.iter():
             if one.get('class') == 'small' and one.text is not None:
-                length = 6 * len(one.text)
+                length = 7 * len(one.text)
                 begins = float(one.get('x', '')) - (length if one.get('text-anchor') == 'end' else 0)
                 said.append((one.text, begins, begins + length))
         width = float(root.get('width', ''))
@@ -159,8 +219,44 @@ class Names(unittest.TestCase):
         self.assertEqual([name for name, _, _ in self.extents(0, 120, 'Train that begins when the picture ends', 'x')],
                          ['Train that begins when the picture ends'])
 
+    def test_every_train_has_its_name_and_none_lies_over_another(self) -> None:
+        labels = Labels(Box(130, 50, 900, 300))
+        put = [labels.put(f'Train {number}', [(200 + 3 * (number % 7), 100), (400 + 30 * number, 200), (860, 240)]) for number in range(14)]
+        self.assertEqual(len({label.text for label in put}), 14)
+        boxes = [label.box for label in put]
+        self.assertEqual([one for place, one in enumerate(boxes) for other in boxes[:place] if one.over(other)], [])
+        self.assertTrue(all(box.left >= 130 and box.right <= 900 and box.top >= 50 and box.bottom <= 300 for box in boxes))
+
+    def test_names_that_find_no_room_are_written_all_the_same(self) -> None:
+        labels = Labels(Box(130, 50, 220, 80))
+        put = [labels.put('x' * 12, [(215, 70)]) for _ in range(9)]
+        self.assertTrue(all(130 <= label.box.left and label.box.right <= 220 for label in put))
+
+    def test_every_train_of_a_day_has_its_name(self) -> None:
+        found = read_scene(os.path.join(TOP, 'examples', 'day', 'net'), os.path.join(TOP, 'examples', 'day', 'text'))
+        for line in lines_of(found.network, found.trains, 4):
+            frame, trains = frame_of(found, line, None, None)
+            svg = xml.fromstring('\n'.join(drawing(found, line)))
+            said = [one.text for one in svg.iter() if one.get('class') == 'small']
+            self.assertEqual(sorted(said), sorted(found.train_label(number) for number, _ in trains))
+
+    def test_names_of_stops_are_whole(self) -> None:
+        name = 'Name of a stop with 34 characters.'
+        found = scene('connection', 'empty_feed')._replace(names={1: name, 2: 'x' * 90})
+        frame, _ = frame_of(found, [1, 2, 3], None, None)
+        self.assertGreaterEqual(frame.left, 7 * LONGEST)
+        svg = '\n'.join(drawing(found, [1, 2, 3]))
+        self.assertIn(f'>{name}<', svg)
+        self.assertIn(f'>{"x" * (LONGEST - 1)}…<', svg)
+
     def test_longer_than_any_room_is_cut(self) -> None:
         self.assertEqual([len(name) for name, _, _ in self.extents(60, 400, 'x' * 100, 'y')], [40, 1])
+
+
+class Words(unittest.TestCase):
+    def test_lengths_of_time_and_clocks(self) -> None:
+        self.assertEqual([duration(seconds) for seconds in (0, 59, 300, 3930)], ['0 min', '59 s', '5 min', '1 h 5 min 30 s'])
+        self.assertEqual([whole_time(seconds) for seconds in (21600, 90061)], ['6:00:00', '25:01:01'])
 
 
 class Pages(unittest.TestCase):

@@ -24,13 +24,16 @@ import time
 from typing import Callable, Sequence
 
 from dispatch_tools.bench.desk_page import choose, Desk, fill, has, press, text, until, visit, Wrong
-from dispatch_tools.bench.desk_steps import hands_over, looks, SIZES, sees_alerts, slips, takes_back_with_care
+from dispatch_tools.bench.desk_steps import (
+    closes_the_day, hands_over, looks, names_trains, one_unit, previews, restarts, SCHEMES, sees_alerts, shows_clocks, shows_conflicts, shows_some_alone,
+    SIZES, slips, takes_back_with_care,
+)
 from dispatch_tools.dev.browser import Browser, CHROMIUM, MISSING
 from dispatch_tools.dev.hostile_names import HOSTILE
 from dispatch_tools.words import add_program, command_line, whole_between
 
 # What the desk promises: seconds to the first picture and from a feed to the screen, bytes of memory, and pages at once.
-FIRST, SEEN, MEMORY, PAGES = 2.0, 0.2, 200 << 20, 10
+FIRST, SEEN, MEMORY, PAGES = 1.0, 0.2, 200 << 20, 10
 
 # The seconds within which pages that are opened at once have to stand.
 SETTLED = 4.0
@@ -111,6 +114,7 @@ def plans(browser: Browser, desk: Desk) -> None:
     until(browser, has('#planned', 'Nothing was entered since') + ' && ' + has('#planned', 'instead of'), 'a new plan')
     if desk.ask('POST', '/adopt', json.dumps({'plan': int(line)}).encode(), **adopt)[0] != 409:
         raise Wrong('a plan is adopted that was asked for before the last one')
+    previews(browser, desk)
     cost = str(browser.value(text('#planned'))).split('optimal: ')[-1].split('Optimal: ')[-1].split(' instead of')[0]
     press(browser, 'Adopt this plan')
     until(browser, has('#planned', 'Adopted as entry'), 'the plan is adopted')
@@ -139,8 +143,8 @@ def is_killed(browser: Browser, desk: Desk) -> None:
     until(browser, has('#train caption', 'Train 81'), 'the page goes on')
     press(browser, 'Not late by itself')
     until(browser, has('#told', 'waits for the server'), 'a line waits')
-    desk.server.start()
-    until(browser, f'!{has("#told", "waits for the server")} && !{has("#alerts", "No server runs")}', 'it is answered by the next server')
+    restarts(browser, desk)
+    until(browser, f'!{has("#told", "waits for the server")}', 'it is answered by the next server')
 
 
 def keys(browser: Browser, desk: Desk) -> None:
@@ -262,7 +266,7 @@ def measured(desk: Desk, browser: Browser, first: float) -> bool:
 def pictures(browser: Browser, folder: str, trains: int) -> None:
     os.makedirs(folder, exist_ok=True)
     for width, height in SIZES:
-        for scheme in ('light', 'dark'):
+        for scheme in SCHEMES:
             browser.look(width, height, scheme)
             browser.value('scrollTo(0, 0)')
             browser.settled()
@@ -272,14 +276,14 @@ def pictures(browser: Browser, folder: str, trains: int) -> None:
 
 
 WORK: list[Callable[[Browser, Desk], None]] = [
-    reports_a_delay, takes_it_back, drops_a_change, turns_a_pair, reports_what_passed, slips, takes_back_with_care, sees_alerts, looks,
-    plans, hands_over, tries, is_killed, keys,
+    reports_a_delay, takes_it_back, shows_conflicts, names_trains, shows_some_alone, shows_clocks, drops_a_change, turns_a_pair, reports_what_passed,
+    slips, takes_back_with_care, sees_alerts, looks, plans, hands_over, tries, one_unit, is_killed, closes_the_day, keys,
 ]
 
 
 def tried(given: argparse.Namespace, folder: str) -> bool:
     browser = Browser()
-    desk = Desk(given.program, os.path.join(folder, 'day'), given.trains)
+    desk = Desk(given.program, os.path.join(folder, 'day'), given.trains, given.pictures)
     try:
         browser.look(*SIZES[0])
         desk.server.start()

@@ -5,11 +5,13 @@ import http.client
 import json
 import os
 import secrets
+import shlex
 import subprocess
 import time
-from typing import Optional
+from typing import Callable, Optional
 
 from dispatch_tools.days.generated import write_day
+from dispatch_tools.desk.control import Control
 from dispatch_tools.dev.browser import Browser
 from dispatch_tools.formats.names import in_print
 from dispatch_tools.here import words_of
@@ -29,11 +31,11 @@ class Wrong(Exception):
 class Desk:
     """A day in a folder, its server and its page."""
 
-    def __init__(self, program: str, folder: str, trains: int, store: str = 'store') -> None:
-        self.program, self.folder = program, folder
+    def __init__(self, program: str, folder: str, trains: int, pictures: Optional[str] = None) -> None:
+        self.program, self.folder, self.pictures = program, folder, pictures
         write_day(7, trains, folder)
         self.net = os.path.join(folder, 'net')
-        self.store = os.path.join(folder, store)
+        self.store = os.path.join(folder, 'store')
         self.feeds = [os.path.join(folder, name) for name in ('others', 'own')]
         self.token = secrets.token_urlsafe(16)
         with open(os.open(os.path.join(folder, 'token'), os.O_WRONLY | os.O_CREAT, 0o600), 'w', encoding='ascii') as file:
@@ -41,6 +43,10 @@ class Desk:
         self.server = Server(program, self.net, self.store, self.feeds, ['--plans=100'])
         self.page: Optional[subprocess.Popen[str]] = None
         self.port = 0
+        self.start = os.path.join(folder, 'start')
+        with open(self.start, 'w', encoding='utf-8') as file:
+            text, said = map(shlex.quote, (self.server.text, self.server.said))
+            file.write(f'exec {shlex.join(self.server.words("serve"))} > {text} 2> {said}\n')
 
     def name(self, file: str, names: dict[int, str]) -> None:
         """Gives the network a file of names."""
@@ -49,7 +55,7 @@ class Desk:
 
     def open(self, *words: str) -> None:
         command = [*words_of('desk'), self.net, self.store, self.feeds[1], '--feed=2', '--port=0',
-                   f'--program={self.program}', *words]
+                   f'--program={self.program}', f'--start={shlex.join(["sh", self.start])}', *words]
         self.page = subprocess.Popen(command, stdout=subprocess.PIPE, text=True)
         assert self.page.stdout is not None
         self.port = int(self.page.stdout.readline().rstrip('/\n').rsplit(':', 1)[1])
@@ -64,9 +70,25 @@ class Desk:
 
     def close(self) -> None:
         self.server.kill()
+        self.end_server()
         if self.page is not None:
             self.page.terminate()
             self.page.wait()
+
+    def end_server(self) -> None:
+        """Ends the server that the page has started, if one runs."""
+        control = Control(self.store, [])
+        if control.runs():
+            control.close()
+            until_so(lambda: not control.runs(), 'the server that the page has started does not end')
+            control.look()
+
+    def keep_picture(self, browser: Browser, name: str) -> None:
+        """Keeps a picture of the page, if somebody wants pictures."""
+        if self.pictures is not None:
+            os.makedirs(self.pictures, exist_ok=True)
+            with open(os.path.join(self.pictures, f'{name}.png'), 'wb') as file:
+                file.write(browser.picture())
 
     def ask(self, method: str, path: str, body: bytes = b'', **headers: str) -> tuple[int, str]:
         """The status and the text of the answer to a request that no page makes."""
@@ -83,6 +105,15 @@ class Desk:
         words = answer.read(65_536).decode(errors='replace') if answer.getheader('Content-Type') != 'text/event-stream; charset=utf-8' else ''
         line.close()
         return answer.status, words
+
+
+def until_so(is_so: Callable[[], object], what: str) -> None:
+    """Waits until something is so beside the page."""
+    ends = time.monotonic() + PATIENCE
+    while not is_so():
+        if time.monotonic() > ends:
+            raise Wrong(what)
+        time.sleep(0.05)
 
 
 def until(browser: Browser, expression: str, what: str) -> float:

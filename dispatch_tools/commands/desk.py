@@ -19,6 +19,7 @@ from __future__ import annotations
 
 import argparse
 import os
+import shlex
 import signal
 import sys
 import tempfile
@@ -53,6 +54,8 @@ def arguments(argv: Sequence[str] | None) -> argparse.ArgumentParser:
     program = 'the built program (DISPATCHER in the environment, else where it was built)'
     words.add_argument('--program', metavar='DISPATCHER', help=program)
     words.add_argument('--listen', default='127.0.0.1', metavar='ADDRESS', help='address of the page (127.0.0.1)')
+    starts = 'the command that starts the server; with it the page has a button for it'
+    words.add_argument('--start', default='', metavar='COMMAND', help=starts)
     called = 'a name by which the page is called, such as that of a proxy with TLS; may be given several times'
     words.add_argument('--host', action='append', default=[], metavar='NAME', help=called)
     alerts = ('late', 5, 'a train is late by'), ('waits', 3, 'a train waits for another'), ('silent', 5, 'a feed says nothing for')
@@ -71,7 +74,8 @@ def room_of(given: argparse.Namespace, folder: str, name: str) -> Room:
     options = [f'--{name}={value}' for name, value in
                (('event-delays', given.event_delays), ('activity-delays', given.activity_delays)) if value]
     marks = Marks(60 * given.late, 60 * given.waits, 60 * given.silent)
-    settings = Settings(given.store, marks, found_program(given.program, TOP), given.net, folder, options, given.token is not None, name)
+    settings = Settings(given.store, marks, found_program(given.program, TOP), given.net, folder, options, given.token is not None, name,
+                        shlex.split(given.start))
     try:
         feed = Feed(given.own)
     except OSError as error:

@@ -4,19 +4,19 @@ from __future__ import annotations
 import time
 from collections import Counter
 from dataclasses import dataclass, field
-from typing import Any, Iterable, Iterator, NamedTuple
+from typing import Any, Iterable, Iterator, NamedTuple, Optional
 
 from dispatch_tools.desk.day import Day
-from dispatch_tools.desk.naming import duration
-from dispatch_tools.desk.notebook import Seen
+from dispatch_tools.desk.notebook import Closed, Seen
 from dispatch_tools.model.railway import decisions_of
-from dispatch_tools.pictures.scene import counted
+from dispatch_tools.pictures.scene import counted, duration
 
 MISSED, WAITS, LATE = 'missed', 'waits', 'late'
 
 # How severe the kinds are.
 URGENT, WARNING, NOTICE = 'urgent', 'warning', 'notice'
-SEVERITY = {'fault': URGENT, 'server': URGENT, MISSED: URGENT, WAITS: WARNING, LATE: WARNING, 'adopted': NOTICE, 'plan': NOTICE, 'feed': NOTICE}
+SEVERITY = {'fault': URGENT, 'server': URGENT, MISSED: URGENT, WAITS: WARNING, LATE: WARNING, 'adopted': NOTICE, 'plan': NOTICE, 'feed': NOTICE,
+            'closed': NOTICE}
 
 # At most so many alerts of a kind are shown, and so many that were seen. If there are more of a kind, a line says how many.
 MOST, MOST_SEEN = 12, 40
@@ -55,9 +55,11 @@ class Alert(NamedTuple):
 
 
 class Server(NamedTuple):
-    """Whether a server runs over the store (None: that cannot be known), and since when, by time.monotonic, a line waits for its answer."""
+    """Whether a server runs over the store (None: that cannot be known), since when, by time.monotonic, a line waits for its answer, and who
+    has closed the day."""
     runs: bool | None
     waits_since: float | None
+    closed: Optional[Closed] = None
 
 
 def alerts_of(day: Day, marks: Marks, server: Server, faults: list[str]) -> list[Alert]:
@@ -81,6 +83,7 @@ class Since(NamedTuple):
 class Standing:
     """The alerts that stand, since when each does, and who has seen them."""
     since: dict[tuple[str, str], Since] = field(default_factory=dict)
+    open_rows: list[dict[str, Any]] = field(default_factory=list)
     rows: list[dict[str, Any]] = field(default_factory=list)
     seen_rows: list[dict[str, Any]] = field(default_factory=list)
 
@@ -88,22 +91,28 @@ class Standing:
         """Makes the rows anew; those of what was seen say by whom and when, too."""
         alerts = list(alerts)
         self.since = {alert[:2]: self.since.get(alert[:2], now) for alert in alerts}
-        self.rows, self.seen_rows = [], []
-        counts: Counter[str] = Counter()
+        self.open_rows, self.seen_rows = [], []
         for alert in alerts:
             row = {'severity': alert.severity, **self.since[alert[:2]]._asdict(), **alert._asdict()}
             by = seen.get(alert[:2])
             if by is not None and alert.level < by.level + WORSE:
                 self.seen_rows.append({**row, 'who': by.who, 'at': by.at})
-                continue
-            counts[alert.kind] += 1
-            if counts[alert.kind] <= MOST:
-                self.rows.append(row)
+            else:
+                self.open_rows.append(row)
         self.seen_rows = self.seen_rows[:MOST_SEEN]
-        for kind, count in counts.items():
-            if count > MOST:
-                more = Alert(kind, MORE, f'and {count - MOST} more of this kind')
-                self.rows.append({'severity': SEVERITY[kind], 'clock': '', 'entry': 0, **more._asdict()})
+        self.rows = limited(self.open_rows)
+
+
+def limited(rows: Iterable[dict[str, Any]]) -> list[dict[str, Any]]:
+    """The first rows of each kind, and how many more there are."""
+    counts: Counter[str] = Counter()
+    shown = []
+    for row in rows:
+        counts[row['kind']] += 1
+        if counts[row['kind']] <= MOST:
+            shown.append(row)
+    more = [Alert(kind, MORE, f'and {count - MOST} more of this kind') for kind, count in counts.items() if count > MOST]
+    return [*shown, *({'severity': SEVERITY[one.kind], 'clock': '', 'entry': 0, **one._asdict()} for one in more)]
 
 
 def forgotten(seen: dict[tuple[str, str], Seen], alerts: Iterable[Alert]) -> None:
@@ -122,7 +131,9 @@ def of_adoptions(day: Day) -> Iterator[Alert]:
 
 
 def of_server(server: Server) -> Iterator[Alert]:
-    if server.runs is False:
+    if server.runs is False and server.closed is not None:
+        yield Alert('closed', 'day', f'{server.closed.who} has closed the day at {server.closed.at}.')
+    elif server.runs is False:
         yield Alert('server', 'ended', 'No server runs over this store. What is reported now is answered when a server is started again.')
     elif server.waits_since is not None and time.monotonic() - server.waits_since > PATIENCE:
         yield Alert('server', 'silent', 'The server has not answered the last line.')

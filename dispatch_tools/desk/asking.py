@@ -16,7 +16,7 @@ from dispatch_tools.formats.runtext import Entry, read_message, read_time
 from dispatch_tools.model.messages import Adopt, Decision
 from dispatch_tools.model.network import Network
 from dispatch_tools.model.railway import apply, cost_of, Plan, Rows, sound_times
-from dispatch_tools.pictures.figures import BOUND, Curve, LEVEL, millions, picture, Scale, Study
+from dispatch_tools.pictures.figures import BOUND, Curve, LEVEL, picture, Scale, Study
 
 # The seconds of the waiting rules that are compared, and the budget of the plan beside them.
 WAITS = (0, 60, 120, 180, 300, 420, 600, 900)
@@ -28,6 +28,11 @@ class Followed(NamedTuple):
     entries: int
     times: list[int]
     cost: int
+
+
+def tenths(cost: int) -> int:
+    """A cost in tenths of passenger minutes."""
+    return round(cost / 6_000)
 
 
 def message_line(entry: Entry) -> str:
@@ -89,13 +94,14 @@ class Asking:
             path = self.written(entries)
             study = Study(self.program.name, self.program.net, path, [f'--penalty={self.program.penalty}', *self.program.options])
             never, always = study.ruled('never', BUDGET), study.ruled('always', 1)
-            waits = [(wait, study.ruled(wait, 1).cost) for wait in WAITS]
+            waits = [(wait, tenths(study.ruled(wait, 1).cost)) for wait in WAITS]
         ends = WAITS[0], WAITS[-1]
         levels = [('never', never.cost, LEVEL), ('always', always.cost, LEVEL), ('plan', never.plan_cost, LEVEL),
                   ('proved bound', never.bound, BOUND)]
-        curves = [Curve('wait at most', waits), *(Curve(name, [(end, cost) for end in ends], style) for name, cost, style in levels)]
+        curves = [Curve('wait at most', waits), *(Curve(name, [(end, tenths(cost)) for end in ends], style) for name, cost, style in levels)]
         title = f'Waiting rules after {len(entries)} entries'
-        return picture(title, 'seconds that a train waits at most', 'cost (millions)', curves, y_scale=Scale(millions))
+        scales = Scale(lambda wait: f'{wait / 60:g}'), Scale(lambda cost: f'{cost / 10:,g}')
+        return picture(title, 'minutes that a train waits at most', 'passenger minutes', curves, *scales)
 
 
 def found_program(name: Optional[str], top: str) -> Optional[str]:

@@ -4,13 +4,13 @@ from __future__ import annotations
 from dataclasses import dataclass
 from typing import Iterable, Iterator, Optional, Sequence
 
-from dispatch_tools.desk.naming import duration, Naming
+from dispatch_tools.desk.naming import Naming
 from dispatch_tools.formats.files import BadFile, in_one_line
 from dispatch_tools.formats.markup import escaped
 from dispatch_tools.model.messages import Decision
 from dispatch_tools.model.network import Network
 from dispatch_tools.model.railway import cost_of, is_met, Rows, times_of, with_decisions
-from dispatch_tools.pictures.scene import Scene
+from dispatch_tools.pictures.scene import duration, Scene
 
 MINUTE = 60
 

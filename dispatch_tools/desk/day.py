@@ -22,8 +22,9 @@ from dispatch_tools.pictures.scene import changes_of, Scene, trains_of
 # If more entries come at once, all times are worked out anew, and not entry by entry.
 MANY = 200
 
-# At most so many entries, own lines and late trains are shown, and so many own lines can be taken back.
-SHOWN, KEPT = 40, 4_096
+# At most so many entries, own lines and late trains are shown, so many own lines can be taken back, and so many entries are looked through
+# for those of some trains.
+SHOWN, KEPT, LOOKED_THROUGH = 40, 4_096, 4_096
 
 # At most so many adoptions of others are alerts, and so many decisions are known for the next shift.
 ADOPTIONS, DECIDED = 12, 1_000
@@ -90,7 +91,7 @@ class Day:
         self.head: Optional[Head] = None
         self.reckoning = self.first.begun(self.start.copy())
         self.entries: list[str] = []
-        self.last: deque[Reported] = deque(maxlen=SHOWN)
+        self.last: deque[Reported] = deque(maxlen=LOOKED_THROUGH)
         self.latest: dict[Subject, Reported] = {}
         self.adoptions: deque[Reported] = deque(maxlen=ADOPTIONS)
         self.decided: deque[Reported] = deque(maxlen=DECIDED)

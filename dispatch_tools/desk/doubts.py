@@ -4,9 +4,8 @@ from __future__ import annotations
 from typing import Iterator, Optional
 
 from dispatch_tools.desk.day import Day
-from dispatch_tools.desk.naming import duration
 from dispatch_tools.model.messages import DelayActivity, DelayEvent, Pass, Said
-from dispatch_tools.pictures.scene import clock_time
+from dispatch_tools.pictures.scene import clock_time, duration
 
 # A delay of more seconds is asked about, and a time that is farther from the clock, or from the time that is expected.
 LONG, FAR = 3_600, 3_600

@@ -6,10 +6,11 @@ from typing import Any, Callable, Sequence
 
 from dispatch_tools.desk.asking import Followed
 from dispatch_tools.desk.concerns import arrivals_moved, comes_to, minutes, people, State, state_of
-from dispatch_tools.desk.naming import duration, Naming
+from dispatch_tools.desk.naming import Naming
 from dispatch_tools.model.messages import Decision, Drop, First, Keep
 from dispatch_tools.model.parts import branches_of, Part, places_of, PlanByParts
 from dispatch_tools.model.railway import Plan, with_decisions
+from dispatch_tools.pictures.scene import duration
 from dispatch_tools.pictures.view import cost_words
 
 # So many trains, choices and parts are listed, so many trains of a part are named, and so many trains that a choice concerns.

@@ -9,7 +9,7 @@ from dispatch_tools.desk.notebook import wall_time
 from dispatch_tools.desk.screen import late_row, plan_row
 from dispatch_tools.formats.markup import escaped
 from dispatch_tools.model.messages import Adopt, DelayActivity, DelayEvent, Drop
-from dispatch_tools.pictures.scene import clock_time
+from dispatch_tools.pictures.scene import whole_time
 from dispatch_tools.pictures.view import cost_words
 
 if TYPE_CHECKING:
@@ -22,7 +22,7 @@ HOUR, MOST = 3_600, 200
 def handover(room: Room) -> str:
     """The page in HTML."""
     day = room.day
-    clock = clock_time(day.clock, True) if day.clock else 'not reported'
+    clock = whole_time(day.clock) if day.clock else 'not reported'
     title = f'Handover by {room.who()}'
     return ('<!DOCTYPE html>\n<html lang="en"><head><meta charset="utf-8"><meta name="viewport" content="width=device-width,initial-scale=1">'
             f'<title>{escaped(title)}</title><link rel="stylesheet" href="/desk.css"></head><body>\n<h1>{escaped(title)}</h1>\n'
@@ -96,4 +96,4 @@ def decided(room: Room, one: Reported) -> list[object]:
     words = naming.said(one.message)
     if isinstance(one.message, Adopt):
         words = f'{words}: {"; ".join(few([naming.decision(decision) for decision in one.message.decisions]))}'
-    return [one.entry, clock_time(one.clock, True) if one.clock else '', room.reporter(one.feed, one.line), words]
+    return [one.entry, whole_time(one.clock) if one.clock else '', room.reporter(one.feed, one.line), words]

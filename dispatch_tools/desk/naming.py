@@ -9,7 +9,7 @@ from dispatch_tools.model.messages import (
     Recall, Refusal, Said, Statement, STATEMENTS,
 )
 from dispatch_tools.model.network import Network
-from dispatch_tools.pictures.scene import clock_time, counted
+from dispatch_tools.pictures.scene import clock_time, counted, duration
 from dispatch_tools.pictures.view import cost_words
 
 
@@ -20,13 +20,6 @@ MOST_SAID = 8
 def few(words: list[str]) -> list[str]:
     """The first of some words, and how many more there are."""
     return words if len(words) <= MOST_SAID else [*words[:MOST_SAID], f'and {len(words) - MOST_SAID} more']
-
-
-def duration(seconds: int) -> str:
-    """A length of time, as `5 min` or `1 h 5 min 30 s`."""
-    hours, minutes, rest = seconds // 3600, seconds // 60 % 60, seconds % 60
-    parts = [f'{number} {unit}' for number, unit in ((hours, 'h'), (minutes, 'min'), (rest, 's')) if number]
-    return ' '.join(parts) or '0 min'
 
 
 class Naming:

@@ -1,4 +1,5 @@
-"""What the desks of a day tell each other beside the journal: their names, what somebody has seen, and which lines are one action.
+"""What the desks of a day tell each other beside the journal: their names, what somebody has seen, which lines are one action, and who has
+closed the day.
 
 It stands in a file of the store's folder, `desks`, of which each line is an object of JSON. Each desk appends to it and reads it. The
 server does not know it. A line that is broken off or of another form says nothing.
@@ -26,6 +27,12 @@ class Seen(NamedTuple):
     level: int
 
 
+class Closed(NamedTuple):
+    """Who has closed the day, and when, by the clock on the wall."""
+    who: str
+    at: str
+
+
 @dataclass(frozen=True)
 class Action:
     """Lines of the desk's feed that one press of a button wrote: the first and the last, in words, and the line that they take back, or 0."""
@@ -48,6 +55,7 @@ FORMS: dict[str, dict[str, Callable[[object], bool]]] = {
     'name': {'feed': is_number, 'line': is_number, 'name': is_text},
     'seen': {'kind': is_text, 'key': is_text, 'level': is_number, 'who': is_text, 'at': is_text},
     'action': {'feed': is_number, 'first': is_number, 'last': is_number, 'says': is_text, 'undoes': is_number},
+    'closed': {'who': is_text, 'at': is_text}, 'open': {},
 }
 
 
@@ -79,6 +87,7 @@ class Notebook:
         self.actions: dict[int, Action] = {}
         self.first_of: dict[int, int] = {}
         self.undone: dict[int, int] = {}
+        self.closed: Optional[Closed] = None
 
     def read(self) -> None:
         """Takes up the whole lines that are new."""
@@ -100,6 +109,8 @@ class Notebook:
             insort(self.names.setdefault(note['feed'], []), (note['line'], note['name']), key=lambda one: one[:1])
         elif note['is'] == 'seen':
             self.seen[note['kind'], note['key']] = Seen(note['who'], note['at'], note['level'])
+        elif note['is'] in ('closed', 'open'):
+            self.closed = Closed(note['who'], note['at']) if note['is'] == 'closed' else None
         elif note['feed'] == self.feed:
             self.act(Action(note['first'], note['last'], note['says'], note['undoes']))
 
@@ -122,6 +133,13 @@ class Notebook:
 
     def see(self, kind: str, key: str, seen: Seen) -> None:
         self.write({'is': 'seen', 'kind': kind, 'key': key[:MOST_TEXT], 'level': seen.level, 'who': seen.who, 'at': seen.at})
+
+    def close(self, who: str) -> None:
+        self.write({'is': 'closed', 'who': who, 'at': wall_time()})
+
+    def reopen(self) -> None:
+        """Says that a server runs again over a day that was closed."""
+        self.write({'is': 'open'})
 
     def called(self, line: int, name: str) -> None:
         """Whoever writes to the feed from this line on has a name."""

@@ -4,18 +4,29 @@ from __future__ import annotations
 import threading
 from typing import Callable, NamedTuple, Optional
 
-from dispatch_tools.pictures.diagram import drawn, Frame, frame_of, LEFT, Marked, marked_on, title_of, TOP, Trains
+from dispatch_tools.pictures.diagram import drawn, Frame, frame_of, Marked, marked_on, Preview, title_of, TOP, Trains
 from dispatch_tools.pictures.scene import Scene
 
-# At most so many drawings are kept.
-KEPT = 32
+# At most so many drawings are kept, and so many units the time of a drawing has at least.
+KEPT, NARROW = 32, 560
 
 
 class Asked(NamedTuple):
-    """The number of a line, and the times between which it is shown."""
+    """The number of a line, the times between which it is shown, and whether it shows what the plan would change."""
     line: int
     begin: Optional[int]
     end: Optional[int]
+    is_planned: bool = False
+
+
+class Shown(NamedTuple):
+    """A day, and what a plan would make of it."""
+    scene: Scene
+    preview: Optional[Preview]
+
+
+# The version of a day, and the line that asked for the plan that is shown, or 0.
+Version = tuple[int, int]
 
 
 class Picture(NamedTuple):
@@ -32,26 +43,26 @@ class Pictures:
         self.lines = lines
         self.lock = threading.Lock()
         self.frames: dict[Asked, tuple[Frame, Trains, Marked]] = {}
-        self.kept: dict[Asked, tuple[int, Picture]] = {}
+        self.kept: dict[Asked, tuple[Version, Picture]] = {}
 
-    def draw(self, asked: Asked, version: int, scene: Callable[[], Scene]) -> Picture:
-        """The drawing of a line at a version of the day. If it has to be drawn anew, `scene` gives the day."""
+    def draw(self, asked: Asked, version: Version, shown: Callable[[], Shown]) -> Picture:
+        """The drawing of a line at a version of the day. If it has to be drawn anew, `shown` gives the day."""
         with self.lock:
             if asked not in self.kept or self.kept[asked][0] != version:
                 if len(self.kept) >= KEPT:
                     self.kept.clear()
                     self.frames.clear()
-                self.kept[asked] = (version, self.drawn_anew(asked, scene()))
+                self.kept[asked] = (version, self.drawn_anew(asked, shown()))
             return self.kept[asked][1]
 
-    def drawn_anew(self, asked: Asked, scene: Scene) -> Picture:
-        line = self.lines[asked.line]
+    def drawn_anew(self, asked: Asked, shown: Shown) -> Picture:
+        line, scene = self.lines[asked.line], shown.scene
         if asked not in self.frames:
-            frame, trains = frame_of(scene, line, asked.begin, asked.end)
+            frame, trains = frame_of(scene, line, asked.begin, asked.end, NARROW)
             self.frames[asked] = frame, trains, marked_on(frame, scene)
         frame, trains, marked = self.frames[asked]
-        svg = '\n'.join(drawn(scene, frame, self.near(frame, trains, scene), marked, title_of(scene, line)))
-        return Picture(svg, f'{frame.begin} {frame.end} {LEFT} {frame.scale} {TOP} {frame.height}')
+        svg = '\n'.join(drawn(scene, frame, self.near(frame, trains, scene), marked, title_of(scene, line), preview=shown.preview))
+        return Picture(svg, f'{frame.begin} {frame.end} {frame.left} {frame.scale} {TOP} {frame.height}')
 
     def near(self, frame: Frame, trains: Trains, scene: Scene) -> Trains:
         """The trains that run within the frame's times, as scheduled or as they stand."""

@@ -11,14 +11,14 @@ from dispatch_tools.days.playing import Program
 from dispatch_tools.desk.alerts import Alert, alerts_of, forgotten, Marks, MORE, Server, Since, Standing
 from dispatch_tools.desk.asking import adoption, Asking, Followed, SecondReading
 from dispatch_tools.desk.concerns import State
+from dispatch_tools.desk.control import Control
 from dispatch_tools.desk.day import Day, Reported, Told
 from dispatch_tools.desk.doubts import doubts_of
 from dispatch_tools.desk.effects import Alone, effect
 from dispatch_tools.desk.feed import Feed, line_of
-from dispatch_tools.desk.locks import is_held
 from dispatch_tools.desk.naming import few
 from dispatch_tools.desk.notebook import Action, Notebook, Seen, wall_time
-from dispatch_tools.desk.pictures import Asked, Picture, Pictures
+from dispatch_tools.desk.pictures import Asked, Picture, Pictures, Shown, Version
 from dispatch_tools.desk.reckoning import Cycle
 from dispatch_tools.desk.screen import screen_of
 from dispatch_tools.desk.undoing import standing, Subject, subjects_of, turned_back
@@ -30,7 +30,8 @@ from dispatch_tools.formats.runtext import heard
 from dispatch_tools.model.messages import Decision, DECISIONS, Message
 from dispatch_tools.model.parts import PlanByParts
 from dispatch_tools.model.railway import decision_refusal, Plan, refusal_at_once
-from dispatch_tools.pictures.scene import clock_time, counted, lines_of
+from dispatch_tools.pictures.diagram import Preview
+from dispatch_tools.pictures.scene import counted, lines_of, whole_time
 
 # The seconds between two looks at the journal, between two looks at who is silent, and from one answer of the program to the next question.
 LOOK, TICK, PAUSE = 0.01, 1.0, 0.3
@@ -61,6 +62,13 @@ class Undone(NamedTuple):
     left: list[str]
 
 
+class Effect(NamedTuple):
+    """What a plan would change: as the page's tables have it, and the times by place."""
+    plan: Plan | PlanByParts
+    found: dict[str, Any]
+    times: list[int]
+
+
 @dataclass
 class Settings:
     """How a desk was started."""
@@ -72,6 +80,17 @@ class Settings:
     options: list[str]
     tells: bool
     name: str = ''
+    start: Sequence[str] = ()
+
+
+def open_at_end(day: Day) -> list[str]:
+    """What of a day is not over."""
+    ahead = sum(lateness.next is not None for lateness in day.lateness)
+    return [f'{counted(ahead, "train has", "trains have")} not arrived yet.'] if ahead else []
+
+
+def waiting_words(count: int) -> list[str]:
+    return [f'{counted(count, "line of this desk waits", "lines of this desk wait")} for the server.'] if count else []
 
 
 @dataclass
@@ -88,6 +107,7 @@ class Room:
         self.screen, self.number = b'{}', 0
         self.faults: list[str] = []
         self.standing = Standing()
+        self.control = Control(self.settings.store, self.settings.start)
         self.begin_anew()
 
     def begin_anew(self) -> None:
@@ -96,7 +116,7 @@ class Room:
         self.rounds: Optional[Rounds] = None
         self.asking: Union[Asking, SecondReading, None] = None
         self.followed: Optional[Followed] = None
-        self.effect: Optional[tuple[Plan | PlanByParts, dict[str, Any]]] = None
+        self.effect: Optional[Effect] = None
         self.pending: dict[int, tuple[str, float]] = {}
         self.is_other_feed = False
         self.broken = self.is_caught_up = False
@@ -226,21 +246,22 @@ class Room:
         """Works out what the last plan of the desk's feed would change."""
         with self.changed:
             plan, asking, day = self.day.plan, self.asking, self.day
-            if plan is None or asking is None or (self.effect is not None and self.effect[0] is plan):
+            if plan is None or asking is None or (self.effect is not None and self.effect.plan is plan):
                 return
             entries, line = day.entries[:plan.entry], day.plan_line
-        found = {**self.effect_of(plan, entries), 'line': line}
+        known = self.effect_of(plan, entries)
         with self.changed:
-            self.effect = (plan, found)
+            self.effect = known._replace(found={**known.found, 'line': line})
         self.show()
 
-    def effect_of(self, plan: Plan | PlanByParts, entries: list[str]) -> dict[str, Any]:
+    def effect_of(self, plan: Plan | PlanByParts, entries: list[str]) -> Effect:
         assert self.asking is not None
         before = self.asking.follow(entries)
         after = self.asking.follow([*entries, adoption(plan.choices, self.day.feed)]) if plan.choices else before
         day, penalty = self.day, self.day.head.penalty if self.day.head else 0
         rows = SecondReading(day.network, day.start, penalty).rows_after(entries)
-        return effect(Alone(day.naming, day.trains, State(rows, before.times, before.cost), penalty), plan, before, after)
+        found = effect(Alone(day.naming, day.trains, State(rows, before.times, before.cost), penalty), plan, before, after)
+        return Effect(plan, found, after.times)
 
     # ---- What the page asks
 
@@ -248,7 +269,11 @@ class Room:
         """Makes the picture of the screen anew, and wakes the streams if it has changed."""
         with self.changed:
             waits_since = min((since for _, since in self.pending.values()), default=None)
-            server = Server(is_held(f'{self.settings.store}/lock'), waits_since)
+            self.control.look()
+            self.notebook.read()
+            server = Server(self.control.runs(), waits_since, self.notebook.closed)
+            if server.runs and server.closed is not None and self.settings.tells and not self.control.is_ending():
+                self.notebook.reopen()
             self.stand(alerts_of(self.day, self.settings.marks, server, self.faults))
             screen = json.dumps(screen_of(self), separators=(',', ':'), ensure_ascii=True).encode()
             if screen != self.screen:
@@ -258,10 +283,9 @@ class Room:
 
     def stand(self, alerts: list[Alert]) -> None:
         """Takes up which alerts stand, and who has seen them."""
-        self.notebook.read()
         if self.is_caught_up:
             forgotten(self.notebook.seen, alerts)
-        clock = clock_time(self.day.clock, True) if self.day.clock else wall_time()
+        clock = whole_time(self.day.clock) if self.day.clock else wall_time()
         self.standing.stand(alerts, self.notebook.seen, Since(clock, len(self.day.entries)))
 
     def see(self, kind: object, key: object) -> None:
@@ -273,6 +297,27 @@ class Room:
             self.notebook.see(row['kind'], row['key'], Seen(self.who(), wall_time(), row['level']))
         self.show()
 
+    def close(self, agreed: object = None) -> None:
+        """Closes the day: ends its server, after whoever asks has read what is still open."""
+        with self.changed:
+            if self.control.runs() is not True:
+                raise Refused('no server runs over this store')
+            if type(agreed) is not int:
+                raise Doubted([*open_at_end(self.day), *waiting_words(len(self.pending)), 'The server ends. What is reported later waits for the next start.'],
+                              len(self.day.entries))
+            self.control.close()
+            self.notebook.close(self.who())
+        self.show()
+
+    def start_server(self) -> None:
+        """Runs the command that starts the server. Refused if the desk was given none, or a server runs."""
+        if not self.control.command:
+            raise Refused('this desk was started without --start')
+        if self.control.runs() is not False:
+            raise Refused('a server runs over this store')
+        self.control.start()
+        self.show()
+
     def who(self) -> str:
         """The name of whoever works at this desk."""
         return self.settings.name or self.day.names.feed(self.day.feed)
@@ -282,12 +327,21 @@ class Room:
         name, called = self.notebook.name_of(feed, line), self.day.names.feed(feed)
         return f'{name} ({called})' if name else called
 
-    def draw(self, asked: Asked) -> Picture:
-        return self.pictures.draw(asked, self.day.version, self.scene)
+    def previewed(self) -> Optional[Effect]:
+        """What the last plan would change, if it is known and the plan can still be adopted."""
+        known, day = self.effect, self.day
+        return known if known and known.plan is day.plan and not day.adopted and known.plan.entry == len(day.entries) else None
 
-    def scene(self) -> Any:
+    def draw(self, asked: Asked) -> Picture:
         with self.changed:
-            return self.day.scene()
+            known = self.previewed() if asked.is_planned else None
+            version: Version = self.day.version, self.day.plan_line if known else 0
+
+        def shown() -> Shown:
+            with self.changed:
+                choices = [(choice, self.day.naming.decision(choice)) for choice in known.plan.choices] if known else []
+                return Shown(self.day.scene(), Preview(known.times, choices) if known else None)
+        return self.pictures.draw(asked, version, shown)
 
     def tell(self, kind: object, numbers: object, agreed: object = None) -> int:
         """Appends a line to the feed, and gives its number. Refused if the page may not write it, and doubted if it may be a slip."""
@@ -417,7 +471,7 @@ class Room:
         if asking is None:
             raise Refused('no server has begun a journal here')
         plan = asking.window(entries, begin, end, budget, held)
-        return self.effect_of(plan, entries)
+        return self.effect_of(plan, entries).found
 
     def rules(self) -> str:
         with self.changed:

@@ -6,12 +6,12 @@ import re
 from itertools import chain, groupby, islice
 from typing import TYPE_CHECKING, Any, Optional
 
-from dispatch_tools.desk.day import Day, SHOWN, Told
-from dispatch_tools.desk.naming import duration, few, Naming, raw
+from dispatch_tools.desk.day import Day, Reported, SHOWN, Told
+from dispatch_tools.desk.naming import few, Naming, raw
 from dispatch_tools.desk.undoing import standing, subjects_of
 from dispatch_tools.formats.runtext import heard, Item
 from dispatch_tools.model.messages import First
-from dispatch_tools.pictures.scene import clock_time
+from dispatch_tools.pictures.scene import clock_time, conflicts_of, duration, whole_time
 from dispatch_tools.pictures.view import cost_words
 
 if TYPE_CHECKING:
@@ -28,16 +28,20 @@ def screen_of(room: Room) -> dict[str, Any]:
     day, followed = room.day, room.followed
     late = day.late_trains(60)
     return {
-        'entries': len(day.entries), 'clock': clock_time(day.clock, True) if day.clock else '', 'seconds': day.clock, 'version': day.version,
+        'entries': len(day.entries), 'clock': whole_time(day.clock) if day.clock else '', 'seconds': day.clock, 'version': day.version,
         'confirmed': followed.entries if followed else None, 'second': room.settings.program is None,
         'cost': cost_words(followed.cost) if followed else '', 'who': room.who(),
         'late': [late_row(day, number) for number in late[:SHOWN]], 'lateCount': len(late), 'trains': len(day.trains),
         'alerts': room.standing.rows, 'seen': room.standing.seen_rows,
-        'journal': [[entry, room.reporter(feed, line), day.naming.said(message), raw(message)]
-                    for entry, feed, line, message, _ in reversed(day.last)],
+        'journal': [journal_row(room, one) for one in islice(reversed(day.last), SHOWN)],
         'told': told_rows(room), 'plan': plan_row(room),
-        'began': room.rounds is not None,
+        'began': room.rounds is not None, 'runs': room.control.runs(),
     }
+
+
+def journal_row(room: Room, one: Reported) -> list[Any]:
+    """An entry: its number, who made it, and what it says, in words and as the feed has it."""
+    return [one.entry, room.reporter(one.feed, one.line), room.day.naming.said(one.message), raw(one.message)]
 
 
 def late_row(day: Day, number: int) -> list[Any]:
@@ -114,7 +118,7 @@ def plan_row(room: Room) -> Optional[dict[str, Any]]:
     return {
         'line': day.plan_line, 'entry': plan.entry, 'mark': plan.mark, 'cost': cost_words(plan.cost), 'bound': cost_words(plan.bound), 'count': len(plan.choices),
         'old': not day.adopted and plan.entry < len(day.entries), 'adopted': day.adopted,
-        'ready': room.effect is not None and room.effect[0] is plan,
+        'ready': room.effect is not None and room.effect.plan is plan, 'previewed': room.previewed() is not None,
     }
 
 
@@ -132,6 +136,7 @@ def description(room: Room) -> dict[str, Any]:
         'lines': [f'{naming.stop(line[0])} – {naming.stop(line[-1])}' for line in room.pictures.lines],
         'span': [min((event.time for event in events), default=0), max((event.time for event in events), default=0)],
         'tells': room.settings.tells, 'program': room.settings.program is not None, 'late': room.settings.marks.late,
+        'starts': bool(room.settings.start),
     }
 
 
@@ -168,13 +173,16 @@ def train_of(day: Day, number: int) -> dict[str, Any]:
 
 
 def pair_row(day: Day, pair: int) -> list[Any]:
-    """A pair: the event that goes first and the other one, by id, in words with what turning it would say, and a headway between."""
-    ends, first = day.network.pairs[pair], day.reckoning.rows.first[pair]
+    """A pair: the event that goes first and the other one, by id, in words with what turning it would say, a headway between, and how
+    long the other one waits."""
+    ends, rows = day.network.pairs[pair], day.reckoning.rows
+    first = rows.first[pair]
     other = ends[0] if ends[1] == first else ends[1]
     events, naming = day.network.events, day.naming
+    waits = conflicts_of(day.network, rows, day.reckoning.times, [pair], dict(zip(ends, map(day.reckoning.into.__getitem__, ends))))
     return [events[first].id, events[other].id, naming.decision(First(events[first].id, events[other].id)),
             naming.decision(First(events[other].id, events[first].id)),
-            day.network.activities[day.network.headways[ends][0]].id]
+            day.network.activities[day.network.headways[ends][0]].id, duration(waits[0].wait) if waits else '']
 
 
 def event_row(day: Day, place: int, where: str) -> list[Any]:

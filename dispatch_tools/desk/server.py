@@ -16,6 +16,7 @@ from typing import Any, Callable, Optional
 from urllib.parse import parse_qs, urlsplit
 
 from dispatch_tools.desk.handover import handover
+from dispatch_tools.desk.only import Only, screen_only
 from dispatch_tools.desk.pictures import Asked
 from dispatch_tools.desk.rights import LONGEST_BODY, Rights
 from dispatch_tools.desk.room import Doubted, Refused, Room
@@ -122,7 +123,8 @@ class Handler(BoundedHandler):
             self.send(data, f'{kind}; charset=utf-8')
             return
         answer = {'/day': self.get_day, '/events': self.get_events, '/line': self.get_line, '/board': self.get_board,
-                  '/train': self.get_train, '/plan': self.get_plan, '/handover': self.get_handover}.get(parts.path)
+                  '/train': self.get_train, '/plan': self.get_plan, '/only': self.get_only,
+                  '/handover': self.get_handover}.get(parts.path)
         if answer is None:
             raise Asks(404, 'there is nothing under this address')
         answer(words)
@@ -151,7 +153,7 @@ class Handler(BoundedHandler):
         begin, end = (self.whole(words, name, 2 ** 32) for name in ('from', 'to'))
         if (begin is None) != (end is None) or begin is not None and end is not None and not 0 < end - begin <= LONGEST_VIEW:
             raise Asks(400, f'a line is shown whole, or from one time to another at most {LONGEST_VIEW} s later')
-        picture = room.draw(Asked(line, begin, end))
+        picture = room.draw(Asked(line, begin, end, bool(self.whole(words, 'plan', 2))))
         self.send(picture.svg.encode(), SVG, more=[('X-Frame', picture.frame)])
 
     def get_board(self, words: dict[str, list[str]]) -> None:
@@ -169,7 +171,14 @@ class Handler(BoundedHandler):
     def get_plan(self, words: dict[str, list[str]]) -> None:
         with self.server.room.changed:
             found = self.server.room.effect
-        self.send_json(found[1] if found else None)
+        self.send_json(found.found if found else None)
+
+    def get_only(self, words: dict[str, list[str]]) -> None:
+        room = self.server.room
+        only = Only(self.whole(words, 'line', len(room.pictures.lines)), self.whole(words, 'stop', 2 ** 32))
+        with room.changed:
+            screen = screen_only(room, only)
+        self.send_json(screen)
 
     def get_handover(self, words: dict[str, list[str]]) -> None:
         with self.server.room.changed:
@@ -205,7 +214,8 @@ class Handler(BoundedHandler):
         if refusal is not None:
             raise Asks(403, refusal)
         take = {'/tell': self.post_tell, '/undo': self.post_undo, '/see': self.post_see, '/enter': self.post_enter, '/adopt': self.post_adopt,
-                '/window': self.post_window, '/rules': self.post_rules, '/token': self.post_token}.get(self.path)
+                '/window': self.post_window, '/rules': self.post_rules, '/close': self.post_close, '/start': self.post_start,
+                '/token': self.post_token}.get(self.path)
         if take is None:
             raise Asks(404, 'nothing is taken at this address')
         take(self.asked())
@@ -244,6 +254,15 @@ class Handler(BoundedHandler):
 
     def post_adopt(self, asked: dict[str, Any]) -> None:
         self.send_json({'line': self.server.room.adopt(asked.get('plan'))})
+
+    def post_close(self, asked: dict[str, Any]) -> None:
+        self.server.room.close(asked.get('agreed'))
+        self.send_json({})
+
+    def post_start(self, asked: dict[str, Any]) -> None:
+        with self.alone():
+            self.server.room.start_server()
+        self.send_json({})
 
     def post_window(self, asked: dict[str, Any]) -> None:
         begin, end, budget = (whole_of(asked, name, least, most) for name, least, most in

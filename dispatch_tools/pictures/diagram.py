@@ -3,13 +3,15 @@ from __future__ import annotations
 
 import sys
 from math import ceil
-from typing import Callable, Container, Iterable, Iterator, NamedTuple, Optional, Sequence
+from typing import Callable, Container, Iterable, Iterator, Mapping, NamedTuple, Optional, Sequence
 
 from dispatch_tools.formats.files import BadFile
 from dispatch_tools.formats.markup import escaped
+from dispatch_tools.model.messages import Decision, Drop, First
 from dispatch_tools.model.parts import places_of, PlanByParts
+from dispatch_tools.pictures.labels import Box, HIGH, Label, Labels, LARGE, length_of, LONGEST, short
 from dispatch_tools.pictures.scene import (
-    changes_of, CLASSES, clock_time, counted, distances, lateness_class, lines_of, links_of, Scene, span_of_times,
+    changes_of, CLASSES, clock_time, Conflict, conflicts_of, counted, distances, duration, lateness_class, lines_of, links_of, Scene, span_of_times,
     turned_pairs,
 )
 
@@ -19,20 +21,23 @@ DARK = ('#7db5f0', '#e6c229', '#ff9e4a', '#ff6f6f', '#e58bd0')
 
 STYLE = '''
 .page{fill:#fff}text{font:12px system-ui,sans-serif;fill:#222}.title{font-size:15px;font-weight:600}
-.small{font-size:10px;paint-order:stroke;stroke:#fff;stroke-width:3;stroke-linejoin:round}
+.small{font-size:12px;paint-order:stroke;stroke:#fff;stroke-width:3;stroke-linejoin:round}
 .stop,.ten{stroke:#e2e2e2;stroke-width:1}.ten{stroke:#f0f0f0}.hour{stroke:#c4c4c4;stroke-width:1}
 .plan{fill:none;stroke:#9a9a9a;stroke-width:.8}.run{fill:none;stroke-width:2;stroke-linejoin:round}
 .kept,.dropped,.missed{fill:none;stroke-width:1.6;stroke-dasharray:2 3}.kept{stroke:#00735c}.dropped{stroke:#8a8a8a}
 .missed{stroke:#b2182b}.cross{stroke:#555;stroke-width:1.6}.turned{fill:#fff;stroke:#6a3d9a;stroke-width:1.6}
 .passed{fill:#222}.now{stroke:#6a3d9a;stroke-width:1.5;stroke-dasharray:6 3}
+.conflict{fill:#b2182b;stroke:#fff;stroke-width:1}.then,.chosen-then{fill:none;stroke:#00735c;stroke-width:1.8}.then{stroke-dasharray:7 4}
 '''
 DARK_STYLE = '''
 @media (prefers-color-scheme:dark){.page{fill:#16181c}text{fill:#e6e6e6}.small{stroke:#16181c}.stop,.ten{stroke:#2c2f36}.ten{stroke:#22252a}
 .hour{stroke:#4a4e57}.plan{stroke:#80858f}.kept{stroke:#3fd0a8}.dropped{stroke:#a0a0a0}.missed{stroke:#ff6f6f}
-.cross{stroke:#ccc}.turned{fill:#16181c;stroke:#c9a4ff}.passed{fill:#e6e6e6}.now{stroke:#c9a4ff}}
+.cross{stroke:#ccc}.turned{fill:#16181c;stroke:#c9a4ff}.passed{fill:#e6e6e6}.now{stroke:#c9a4ff}
+.conflict{fill:#ff6f6f;stroke:#16181c}.then,.chosen-then{stroke:#3fd0a8}}
 '''
 
-LEFT, RIGHT, TOP, BOTTOM = 130, 20, 64, 112
+# The least room for the names of stops, and the room at the other edges.
+LEFT, RIGHT, TOP, BOTTOM = 130, 20, 64, 46
 
 # The stretches of a train on a line, lists of places; trains by number with theirs.
 Stretches = list[list[int]]
@@ -43,19 +48,25 @@ MOST_LINES = 12
 
 
 class Frame(NamedTuple):
-    """Where the stops of a line stand, and how time runs across: from `begin` to `end`, `scale` units a second."""
+    """Where the stops of a line stand, and how time runs across: from `begin` to `end`, `scale` units a second, right of `left`."""
     rows: dict[int, int]
     height: int
     begin: int
     end: int
     scale: float
+    left: int
 
     @property
     def width(self) -> int:
         return round((self.end - self.begin) * self.scale)
 
+    @property
+    def right(self) -> int:
+        """The right edge of the picture, which has room for a long name."""
+        return self.left + max(self.width, LARGE * LONGEST) + RIGHT
+
     def x(self, time: int) -> int:
-        return LEFT + round((min(max(time, self.begin), self.end) - self.begin) * self.scale)
+        return self.left + round((min(max(time, self.begin), self.end) - self.begin) * self.scale)
 
     def y(self, stop: int) -> int:
         return self.rows[stop]
@@ -84,16 +95,20 @@ def trains_on(scene: Scene, rows: Container[int]) -> Trains:
     return found
 
 
-def scale_of(scene: Scene, trains: Trains, begin: int, end: int) -> float:
-    """Units a second: so many that trains which follow each other can be seen apart, within 700 to 9,000 units in all."""
+# The least units of the time that a frame shows.
+NARROW = 700
+
+
+def scale_of(scene: Scene, trains: Trains, begin: int, end: int, least: int) -> float:
+    """Units a second: so many that trains which follow each other can be seen apart, within `least` to 9,000 units in all."""
     starts = sorted(scene.scheduled(stretches[0][0]) for _, stretches in trains)
     gaps = sorted(after - before for before, after in zip(starts, starts[1:]) if after > before)
     gap = gaps[len(gaps) // 2] if gaps else 600
     length = max(1, end - begin)
-    return min(max(10 / gap, 700 / length), max(9000, 700) / length, 2.0)
+    return min(max(10 / gap, least / length), 9000 / length, 2.0)
 
 
-def frame_of(scene: Scene, line: Sequence[int], begin: Optional[int], end: Optional[int]) -> tuple[Frame, Trains]:
+def frame_of(scene: Scene, line: Sequence[int], begin: Optional[int], end: Optional[int], least: int = NARROW) -> tuple[Frame, Trains]:
     """The frame of a line, whose times are those of its trains where none are given."""
     shares = distances(scene.network, scene.trains, line)
     height = max(220, min(44 * (len(line) - 1), 900))
@@ -103,7 +118,8 @@ def frame_of(scene: Scene, line: Sequence[int], begin: Optional[int], end: Optio
     begin = (first - 60) // 60 * 60 if begin is None else begin
     end = (last + 119) // 60 * 60 if end is None else end
     end = max(end, begin + 60)
-    return Frame(rows, height, begin, end, scale_of(scene, trains, begin, end)), trains
+    left = max([LEFT, *(length_of(short(scene.stop_name(stop)), LARGE) + 12 for stop in line)])
+    return Frame(rows, height, begin, end, scale_of(scene, trains, begin, end, least), left), trains
 
 
 # ---- Paths
@@ -162,7 +178,7 @@ def train_marks(frame: Frame, scene: Scene, trains: Trains, together: Optional[C
             yield f'<path class="plan" d="{data}"/>'
     for number, stretches in trains:
         late = max(scene.lateness(place) for stretch in stretches for place in stretch)
-        title = f'{escaped(scene.train_label(number))}: at most {clock_time(late, True)} late'
+        title = f'{escaped(scene.train_label(number))}: {f"at most {duration(late)} late" if late else "on time"}'
         paths = ''.join(
             f'<path class="run l{kind}" d="{data}"/>'
             for kind, data in enumerate(coloured_paths(frame, scene, stretches)) if data
@@ -172,34 +188,32 @@ def train_marks(frame: Frame, scene: Scene, trains: Trains, together: Optional[C
             yield f'<g class="train" data-t="{number}"{pale}><title>{title}</title>{paths}</g>'
 
 
-# About how wide a small letter is, and the longest name that is written.
-LETTER = 6
-LONGEST_NAME = 40
+def points_of(frame: Frame, scene: Scene, stretches: Stretches) -> list[tuple[int, int]]:
+    """The points of a train in a frame, as it runs, and then as it is scheduled."""
+    places = [place for stretch in stretches for place in stretch]
+    timed = [*((scene.times[place], place) for place in places), *((scene.scheduled(place), place) for place in places)]
+    return [(frame.x(time), frame.y(scene.stop(place))) for time, place in timed if frame.shows(time)]
 
 
-def side_of(frame: Frame, x: int, length: int, is_right: bool) -> bool:
-    """Whether a text of this length goes to the right of x: where that is wished and nothing is cut off, or it would lie over the stops."""
-    if is_right:
-        return x + 3 + length <= LEFT + frame.width + RIGHT or x - 3 - length < LEFT
-    return x - 5 - length < LEFT
+def edges_of(frame: Frame) -> Box:
+    """Where names of trains may stand: not over the stops, the title or the hours, and not beyond the edge."""
+    return Box(frame.left, TOP - HIGH - 3, frame.right, TOP + frame.height + 6)
 
 
-def train_names(frame: Frame, scene: Scene, trains: Trains) -> Iterator[str]:
-    """The names of trains at their first stop on the line, where there is room behind the name before."""
-    taken: dict[int, int] = {}
-    firsts = sorted((scene.times[stretches[0][0]], number, stretches[0][0]) for number, stretches in trains)
-    for time, number, place in firsts:
-        name = scene.train_label(number)[:LONGEST_NAME]
-        x, y, length = frame.x(time), frame.y(scene.stop(place)), LETTER * len(name)
-        goes_right = side_of(frame, x, length, y == TOP)
-        left = x + 3 if goes_right else x - 5 - length
-        if not frame.shows(time) or left < taken.get(y, 0):
-            continue
-        taken[y] = left + length + LETTER
-        across = f'x="{x + 3}"' if goes_right else f'x="{x - 5}" text-anchor="end"'
-        # Below the last stop stand the hours.
-        down = y - 4 if y in (TOP, TOP + frame.height) else y + 13
-        yield f'<text class="small" {across} y="{down}">{escaped(name)}</text>'
+def train_names(frame: Frame, scene: Scene, trains: Trains, conflicts: Iterable[Conflict]) -> Iterator[str]:
+    """The names of all trains that are drawn, each beside its path, from its first stop on the line on, and not over a conflict."""
+    labels = Labels(edges_of(frame))
+    for conflict in conflicts:
+        x, y = at_conflict(frame, scene, conflict)
+        labels.take(Box(x - 6, y - 10, x + 6, y))
+    drawn_at = {number: points for number, stretches in trains if (points := points_of(frame, scene, stretches))}
+    for number, points in sorted(drawn_at.items(), key=lambda one: (one[1][0], one[0])):
+        yield written(labels.put(short(scene.train_label(number)), points))
+
+
+def written(label: Label) -> str:
+    anchor = ' text-anchor="end"' if label.is_left else ''
+    return f'<text class="small" x="{label.x}"{anchor} y="{label.y}">{escaped(label.text)}</text>'
 
 
 # ---- Marks
@@ -210,16 +224,28 @@ def cross(x: float, y: float) -> str:
 
 
 class Marked(NamedTuple):
-    """Where marks may lie on a line: the places of its events, and of the changes that begin or end there."""
+    """Where marks may lie on a line: the places of its events, of the changes that begin or end there, and of the pairs there; and
+    of each event of these pairs its train, by number, and the activities that lead to it."""
     places: Sequence[int]
     changes: Sequence[int]
+    pairs: Sequence[int]
+    train_of: Mapping[int, int]
+    into: Mapping[int, Sequence[int]]
 
 
 def marked_on(frame: Frame, scene: Scene) -> Marked:
-    """The events of a line, and its changes."""
-    places = [place for place, event in enumerate(scene.network.events) if event.stop in frame.rows]
-    ends, network = set(places), scene.network
-    return Marked(places, [change for change in changes_of(network) if network.tails[change] in ends or network.heads[change] in ends])
+    """The events of a line, its changes, and its pairs."""
+    network = scene.network
+    places = [place for place, event in enumerate(network.events) if event.stop in frame.rows]
+    ends = set(places)
+    pairs = [pair for pair, events in enumerate(network.pairs) if not ends.isdisjoint(events)]
+    into: dict[int, list[int]] = {place: [] for pair in pairs for place in network.pairs[pair]}
+    for activity, head in enumerate(network.heads):
+        if head in into:
+            into[head].append(activity)
+    changes = [change for change in changes_of(network) if network.tails[change] in ends or network.heads[change] in ends]
+    train_of = {place: number for number, train in enumerate(scene.trains) for place in train if place in into}
+    return Marked(places, changes, pairs, train_of, into)
 
 
 def link_marks(frame: Frame, scene: Scene, changes: Iterable[int]) -> Iterator[str]:
@@ -251,6 +277,60 @@ def pair_marks(frame: Frame, scene: Scene) -> Iterator[str]:
         yield f'<path class="turned" d="M{x} {y - 6}l6 6l-6 6l-6-6z"><title>order of {ids} turned</title></path>'
 
 
+def shown_conflicts(frame: Frame, scene: Scene, marked: Marked) -> list[Conflict]:
+    """The conflicts of a line that lie in a frame."""
+    found = conflicts_of(scene.network, scene.rows, scene.times, marked.pairs, marked.into)
+    return [one for one in found if scene.stop(one.second) in frame.rows and frame.shows(scene.times[one.second])]
+
+
+def at_conflict(frame: Frame, scene: Scene, conflict: Conflict) -> tuple[int, int]:
+    return frame.x(scene.times[conflict.second]), frame.y(scene.stop(conflict.second))
+
+
+def conflict_marks(frame: Frame, scene: Scene, marked: Marked, conflicts: Iterable[Conflict]) -> Iterator[str]:
+    """A triangle where a train waits for another one on its track."""
+    for conflict in conflicts:
+        x, y = at_conflict(frame, scene, conflict)
+        waits, before = (scene.train_label(marked.train_of[place]) for place in (conflict.second, conflict.first))
+        words = f'{waits} waits {duration(conflict.wait)} for {before} at {scene.stop_name(scene.stop(conflict.second))}'
+        yield f'<path class="conflict" d="M{x} {y}l6-10h-12z"><title>conflict: {escaped(words)}</title></path>'
+
+
+class Preview(NamedTuple):
+    """What a plan would make of the day: the times by place, and its choices with their words."""
+    times: Sequence[int]
+    choices: Sequence[tuple[Decision, str]]
+
+
+def preview_marks(frame: Frame, scene: Scene, trains: Trains, preview: Preview) -> Iterator[str]:
+    """The trains that a plan moves, as they would run, and its choices."""
+    then = scene._replace(times=list(preview.times))
+    for number, stretches in trains:
+        moved = [part for stretch in stretches if (part := moved_part(stretch, scene.times, then.times))]
+        data = ''.join(path_data([(x, y) for _, x, y in run]) for stretch in moved for run in within(frame, then, stretch, then.times.__getitem__))
+        if data:
+            yield f'<path class="then" data-t="{number}" d="{data}"><title>{escaped(scene.train_label(number))} by the plan</title></path>'
+    for choice, words in preview.choices:
+        yield from choice_mark(frame, then, choice, words)
+
+
+def moved_part(stretch: list[int], times: Sequence[int], then: Sequence[int]) -> list[int]:
+    """The part of a stretch whose times differ, with what joins it to the rest."""
+    moved = [at for at, place in enumerate(stretch) if times[place] != then[place]]
+    return stretch[max(0, moved[0] - 1):moved[-1] + 2] if moved else []
+
+
+def choice_mark(frame: Frame, then: Scene, choice: Decision, words: str) -> Iterator[str]:
+    """A ring where a plan decides, with a cross where it drops a change."""
+    network = then.network
+    place = network.event_place[choice.event] if isinstance(choice, First) else network.heads[network.activity_place[choice.activity]]
+    if then.stop(place) not in frame.rows or not frame.shows(then.times[place]):
+        return
+    x, y = frame.x(then.times[place]), frame.y(then.stop(place))
+    mark = cross(x, y) if isinstance(choice, Drop) else ''
+    yield f'<g><title>the plan: {escaped(words)}</title><circle class="chosen-then" cx="{x}" cy="{y}" r="7"/>{mark}</g>'
+
+
 def passed_marks(frame: Frame, scene: Scene, places: Iterable[int]) -> Iterator[str]:
     for place in places:
         time = scene.rows.passed[place]
@@ -266,8 +346,8 @@ def clock_mark(frame: Frame, scene: Scene) -> Iterator[str]:
         x = frame.x(clock)
         yield f'<line class="now" x1="{x}" x2="{x}" y1="{TOP - 8}" y2="{TOP + frame.height + 8}"/>'
         said = f'clock {clock_time(clock, True)}'
-        across = f'x="{x + 4}"' if side_of(frame, x, LETTER * len(said), True) else f'x="{x - 4}" text-anchor="end"'
-        yield f'<text class="small" {across} y="{TOP - 10}">{said}</text>'
+        is_left = x + 4 + length_of(said) > frame.right
+        yield written(Label(said, x - 4 if is_left else x + 4, TOP - 16, is_left))
 
 
 # ---- The page around
@@ -285,8 +365,8 @@ def time_steps(frame: Frame) -> tuple[int, int]:
 def grid(frame: Frame, scene: Scene) -> Iterator[str]:
     """The lines of stops and of times with their labels."""
     for stop, y in frame.rows.items():
-        yield f'<line class="stop" x1="{LEFT}" x2="{LEFT + frame.width}" y1="{y}" y2="{y}"/>'
-        yield f'<text x="{LEFT - 8}" y="{y + 4}" text-anchor="end">{escaped(scene.stop_name(stop)[:22])}</text>'
+        yield f'<line class="stop" x1="{frame.left}" x2="{frame.left + frame.width}" y1="{y}" y2="{y}"/>'
+        yield f'<text x="{frame.left - 8}" y="{y + 4}" text-anchor="end">{escaped(short(scene.stop_name(stop)))}</text>'
     thin, strong = time_steps(frame)
     for time in range(-(-frame.begin // thin) * thin, frame.end + 1, thin):
         x, kind = frame.x(time), 'hour' if time % strong == 0 else 'ten'
@@ -295,26 +375,36 @@ def grid(frame: Frame, scene: Scene) -> Iterator[str]:
             yield f'<text x="{x}" y="{TOP + frame.height + 18}" text-anchor="middle">{clock_time(time)}</text>'
 
 
+SAMPLES = [
+    ('<path class="plan" d="M0 0h22"/>', 'scheduled'), *((f'<path class="run l{kind}" d="M0 0h22"/>', name) for kind, name in enumerate(CLASSES)),
+    ('<path class="kept" d="M0 0h22"/>', 'change kept'), (f'<path class="dropped" d="M0 0h22"/>{cross(11, 0)}', 'dropped'),
+    (f'<path class="missed" d="M0 0h22"/>{cross(11, 0)}', 'missed'), ('<path class="turned" d="M11-6l6 6l-6 6l-6-6z"/>', 'order turned'),
+    ('<circle class="passed" cx="11" cy="0" r="3"/>', 'passed'), ('<line class="now" x1="0" x2="22" y1="0" y2="0"/>', 'clock'),
+    ('<path class="conflict" d="M11 5l6-10h-12z"/>', 'conflict: a train waits for another'), ('<path class="then" d="M0 0h22"/>', 'by the plan'),
+    ('<circle class="chosen-then" cx="11" cy="0" r="7"/>', 'where the plan decides'),
+]
+
+
+def legend_rows(width: int) -> list[list[tuple[int, str, str]]]:
+    """What the marks mean, in rows that are so wide: where each begins, its mark, and its name."""
+    rows: list[list[tuple[int, str, str]]] = [[]]
+    x = 0
+    for mark, name in SAMPLES:
+        length = 48 + LARGE * len(name)
+        if rows[-1] and x + length > width:
+            rows.append([])
+            x = 0
+        rows[-1].append((x, mark, name))
+        x += length
+    return rows
+
+
 def legend(frame: Frame) -> Iterator[str]:
-    """What the marks mean, in two rows."""
-    y = TOP + frame.height + 46
-    samples = [('<path class="plan" d="M0 0h22"/>', 'scheduled')]
-    samples += [(f'<path class="run l{kind}" d="M0 0h22"/>', name) for kind, name in enumerate(CLASSES)]
-    yield from legend_row(samples, y)
-    samples = [
-        ('<path class="kept" d="M0 0h22"/>', 'change kept'), ('<path class="dropped" d="M0 0h22"/>' + cross(11, 0), 'dropped'),
-        ('<path class="missed" d="M0 0h22"/>' + cross(11, 0), 'missed'),
-        ('<path class="turned" d="M11-6l6 6l-6 6l-6-6z"/>', 'order turned'), ('<circle class="passed" cx="11" cy="0" r="3"/>', 'passed'),
-        ('<line class="now" x1="0" x2="22" y1="0" y2="0"/>', 'clock'),
-    ]
-    yield from legend_row(samples, y + 24)
-
-
-def legend_row(samples: Iterable[tuple[str, str]], y: int) -> Iterator[str]:
-    x = LEFT
-    for mark, name in samples:
-        yield f'<g transform="translate({x} {y})">{mark}</g><text x="{x + 28}" y="{y + 4}">{name}</text>'
-        x += 48 + 7 * len(name)
+    """What the marks mean."""
+    for number, row in enumerate(legend_rows(frame.right - frame.left)):
+        y = TOP + frame.height + BOTTOM + 24 * number
+        for x, mark, name in row:
+            yield f'<g transform="translate({frame.left + x} {y})">{mark}</g><text x="{frame.left + x + 28}" y="{y + 4}">{name}</text>'
 
 
 def colour_rules(colours: Iterable[str]) -> str:
@@ -360,17 +450,20 @@ def drawing(scene: Scene, line: Sequence[int], begin: Optional[int] = None, end:
     yield from drawn(scene, frame, trains, marked_on(frame, scene), name, together)
 
 
-def drawn(scene: Scene, frame: Frame, trains: Trains, marked: Marked, name: str, together: Optional[Together] = None) -> Iterator[str]:
-    """The SVG of trains in a frame, with the marks on their line, under a title."""
+def drawn(scene: Scene, frame: Frame, trains: Trains, marked: Marked, name: str, together: Optional[Together] = None,
+          preview: Optional[Preview] = None) -> Iterator[str]:
+    """The SVG of trains in a frame, with the marks on their line and what a plan would change, under a title."""
     strong = None if together is None else together.trains
-    width = max(LEFT + frame.width + RIGHT, 820)
-    height = TOP + frame.height + BOTTOM
+    height = TOP + frame.height + BOTTOM + 24 * len(legend_rows(frame.right - frame.left))
     title = escaped(name)
-    yield (f'<svg xmlns="http://www.w3.org/2000/svg" viewBox="0 0 {width} {height}" width="{width}" height="{height}" role="img" '
-           f'aria-label="{title}"><style>{style()}</style><rect class="page" width="{width}" height="{height}"/>')
+    yield (f'<svg xmlns="http://www.w3.org/2000/svg" viewBox="0 0 {frame.right} {height}" width="{frame.right}" height="{height}" role="img" '
+           f'aria-label="{title}"><style>{style()}</style><rect class="page" width="{frame.right}" height="{height}"/>')
     yield f'<text class="title" x="{LEFT}" y="26">{title}</text>'
+    shown = () if preview is None else preview_marks(frame, scene, trains, preview)
+    conflicts = shown_conflicts(frame, scene, marked)
     for part in (grid(frame, scene), train_marks(frame, scene, trains, strong), link_marks(frame, scene, marked.changes), pair_marks(frame, scene),
-                 passed_marks(frame, scene, marked.places), clock_mark(frame, scene), train_names(frame, scene, trains), legend(frame)):
+                 shown, conflict_marks(frame, scene, marked, conflicts), passed_marks(frame, scene, marked.places), clock_mark(frame, scene),
+                 train_names(frame, scene, trains, conflicts), legend(frame)):
         yield '\n'.join(part)
     yield '</svg>'
 

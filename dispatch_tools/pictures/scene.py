@@ -6,7 +6,7 @@ as far apart as the trains are scheduled to drive between them. Times are in sec
 from __future__ import annotations
 
 from collections import Counter, defaultdict
-from typing import Iterable, NamedTuple, Optional, Sequence
+from typing import Iterable, Mapping, NamedTuple, Optional, Sequence
 
 from dispatch_tools.formats.files import BadFile, text_of
 from dispatch_tools.formats.giv import read_delays, read_network
@@ -14,7 +14,7 @@ from dispatch_tools.formats.names import read_labels, read_stops, read_trips
 from dispatch_tools.formats.lines import Bad
 from dispatch_tools.formats.runtext import read_run, Run
 from dispatch_tools.model.network import Network
-from dispatch_tools.model.railway import apply, cost_of, is_met, refusal_at_once, Rows
+from dispatch_tools.model.railway import apply, cost_of, floor_of, is_active, is_met, refusal_at_once, Rows, span_of
 
 # The largest lateness of each class but the last, in seconds, and how the classes are called.
 LATENESS = (60, 180, 360, 900)
@@ -217,6 +217,34 @@ def turned_pairs(scene: Scene) -> list[tuple[int, int]]:
     return [pair for pair, was, now in zip(scene.network.pairs, scene.start.first, scene.rows.first) if was != now]
 
 
+class Conflict(NamedTuple):
+    """A train that waits for another one on its track: the places of the event that goes first and of the one that waits, and for how
+    many seconds."""
+    first: int
+    second: int
+    wait: int
+
+
+# A train that waits so many seconds for another is a conflict.
+CONFLICT = 60
+
+
+def conflicts_of(network: Network, rows: Rows, times: Sequence[int], pairs: Iterable[int], into: Mapping[int, Sequence[int]]) -> list[Conflict]:
+    """The conflicts among some pairs, by place; `into` has the activities that lead to each of their events."""
+    found = []
+    for pair in pairs:
+        ends, first = network.pairs[pair], rows.first[pair]
+        second = ends[0] if ends[1] == first else ends[1]
+        if rows.passed[second] is not None or times[second] <= network.events[second].time:
+            continue
+        asked = {activity: times[network.tails[activity]] + span_of(network, rows, activity) for activity in into[second] if is_active(network, rows, activity)}
+        others = [time for activity, time in asked.items() if network.pair_by_activity[activity] != pair]
+        wait = times[second] - max([floor_of(network, rows, second), *others])
+        if wait >= CONFLICT:
+            found.append(Conflict(first, second, wait))
+    return found
+
+
 class CostParts(NamedTuple):
     """What a timetable costs, in thousandths of passenger seconds: by late arrivals, dropped changes and missed ones."""
     lateness: int
@@ -248,8 +276,20 @@ def counted(number: int, one: str, more: str) -> str:
     return f'{number} {one if number == 1 else more}'
 
 
+def duration(seconds: int) -> str:
+    """A length of time, as `5 min` or `1 h 5 min 30 s`."""
+    hours, minutes, rest = seconds // 3600, seconds // 60 % 60, seconds % 60
+    parts = [f'{number} {unit}' for number, unit in ((hours, 'h'), (minutes, 'min'), (rest, 's')) if number]
+    return ' '.join(parts) or '0 min'
+
+
 def clock_time(seconds: float, with_seconds: bool = False) -> str:
     """A time of day as `6:05`, or `6:05:30`."""
     minutes, rest = divmod(int(seconds), 60)
     text = f'{minutes // 60}:{minutes % 60:02}'
     return f'{text}:{rest:02}' if with_seconds and rest else text
+
+
+def whole_time(seconds: int) -> str:
+    """A time of day with its seconds, as a clock has it."""
+    return f'{clock_time(seconds)}:{seconds % 60:02}'

@@ -17,9 +17,14 @@ function show(text) {
     seen.refreshBoard();
     seen.refreshTrain();
   }
+  else if (previewOf(before) !== previewOf(screen)) seen.refreshLine();
   done.showPlan(screen);
+  done.showServer(screen);
   document.documentElement.dataset.version = screen.version;
 }
+
+// Which plan the diagram can show.
+const previewOf = ({ plan }) => plan?.previewed ? plan.line : 0;
 
 // New alerts are read aloud, but not those that stood there when the page was opened.
 function announce(before) {

@@ -15,6 +15,8 @@ export function begin(given, screen) {
   element('window').addEventListener('submit', tryWindow);
   element('rules').addEventListener('submit', tryRules);
   element('event').addEventListener('change', showEvent);
+  element('start').addEventListener('click', () => ofServer('/start', 'The server was started.'));
+  element('close').addEventListener('click', () => ofServer('/close', 'The server is told to end.'));
   showRights();
 }
 
@@ -22,7 +24,10 @@ export function showRights() {
   element('ask').hidden = !rights.mayTell;
   element('whatif').hidden = !(rights.mayTell && day.program);
   element('tell').hidden = !(rights.mayTell && train);
-  if (screenNow()) showTold(screenNow());
+  if (screenNow()) {
+    showTold(screenNow());
+    showServer(screenNow());
+  }
   plannedOf = null;
   if (screenNow()) showPlan(screenNow());
 }
@@ -118,10 +123,10 @@ function showChoices(mayTell) {
     rows.push(choice(`${words}: ${state}`, key, over ? [] : may(keyed(turn, key), ...hold(id, words), placeBeside(key))));
   }
   if (train.pairs.length) rows.push(made('h3', 'Who goes first'));
-  for (const [first, other, words, turned, headway] of train.pairs) {
+  for (const [first, other, words, turned, headway, waits] of train.pairs) {
     const key = `pair ${Math.min(first, other)} ${Math.max(first, other)}`;
     const turn = keyed(button('Turn', () => tell(key, 'first', [other, first]), `Turn: ${turned}`), key);
-    rows.push(choice(words, `${first} ${other}`, may(turn, ...hold(headway, words), placeBeside(key))));
+    rows.push(choice(waits ? `${words}: conflict, the other one waits ${waits}` : words, `${first} ${other}`, may(turn, ...hold(headway, words), placeBeside(key))));
   }
   replace(element('choices'), ...rows);
 }
@@ -212,6 +217,22 @@ export function showPlan(screen) {
   plannedOf = is;
   if (screen.plan) refreshPlan();
   else replace(element('planned'), made('p', 'No plan was asked for here.'));
+}
+
+// ---- The server
+
+async function ofServer(path, words) {
+  beside('server', 'Sent.');
+  const answer = await asked('server', async () => await postAsking(path, {}) || beside('server', 'Not done.'));
+  if (answer) beside('server', words);
+}
+
+export function showServer({ runs }) {
+  element('server').hidden = !rights.mayTell;
+  element('runs').textContent = runs === null ? 'Whether a server runs cannot be known here.' : runs ? 'A server runs.' : 'No server runs.';
+  element('close').disabled = runs !== true;
+  element('start').disabled = runs !== false;
+  element('start').hidden = !day.starts;
 }
 
 // ---- What if

@@ -2,7 +2,7 @@
 import { beside, button, element, get, made, oneAtATime, placeBeside, post, replace, rights, say, secondsOf, table, timeOf, withNumber } from './parts.js';
 import { trainShown } from './done.js';
 
-let day = null, clock = 0, lastEntries = 0, wide = 1, shown = null;
+let day = null, clock = 0, lastEntries = 0, wide = 1, shown = null, only = null;
 
 // So many hits are listed.
 const HITS = 12;
@@ -14,16 +14,19 @@ export function begin(given) {
   day = given;
   element('lines').append(...day.lines.map(option));
   element('trains').append(...day.trains.map(([name], number) => option(name, number)));
-  element('stops').append(...day.stops.map(([stop, name]) => option(name, stop)));
+  for (const id of ['stops', 'only-stop']) element(id).append(...day.stops.map(([stop, name]) => option(name, stop)));
+  element('only-line').append(...day.lines.map(option));
+  element('only-line').addEventListener('change', chooseOnly);
+  element('only-stop').addEventListener('change', chooseOnly);
   for (const [id, does] of [['lines', refreshLine], ['trains', () => chooseTrain(Number(element('trains').value))], ['stops', refreshBoard]]) element(id).addEventListener('change', does);
-  for (const id of ['from', 'to', 'follows']) element(id).addEventListener('change', refreshLine);
+  for (const id of ['from', 'to', 'follows', 'preview']) element(id).addEventListener('change', refreshLine);
   element('from').addEventListener('input', () => { element('follows').checked = false; });
   element('to').addEventListener('input', () => { element('follows').checked = false; });
   element('wider').addEventListener('click', () => widen(1.4));
   element('narrower').addEventListener('click', () => widen(1 / 1.4));
   element('find').addEventListener('submit', find);
   element('wanted').addEventListener('input', showHits);
-  element('order').addEventListener('change', () => shown && showAlerts(shown));
+  element('order').addEventListener('change', () => shown && showAlerts(only || shown));
   element('wall').textContent = timeOf(wallClock(), true);
   setInterval(() => { element('wall').textContent = timeOf(wallClock(), true); }, 1000);
   element('view').addEventListener('click', event => {
@@ -101,9 +104,40 @@ export function showScreen(screen) {
   element('cost-at').textContent = screen.cost ? `Cost at entry ${screen.confirmed}` : 'Cost';
   element('who').textContent = screen.who;
   shown = screen;
-  showAlerts(screen);
-  showLate(screen);
-  showJournal(screen);
+  if (wanted()) refreshOnly();
+  else showLists();
+}
+
+// What is shown alone: the fields of an address, or nothing.
+function wanted() {
+  const words = new URLSearchParams();
+  for (const name of ['line', 'stop']) if (element(`only-${name}`).value) words.set(name, element(`only-${name}`).value);
+  return String(words);
+}
+
+const refreshOnly = oneAtATime(async () => {
+  const words = wanted(), found = words ? await (await get(`/only?${words}`)).json() : null;
+  if (words !== wanted()) return;
+  only = found;
+  showLists();
+});
+
+// Shows a line and a stop alone, and turns the diagram and the board to them.
+function chooseOnly() {
+  for (const [from, to, refresh] of [['only-line', 'lines', refreshLine], ['only-stop', 'stops', refreshBoard]]) {
+    if (!element(from).value || element(from).value === element(to).value) continue;
+    element(to).value = element(from).value;
+    refresh();
+  }
+  refreshOnly();
+}
+
+function showLists() {
+  const lists = only || shown;
+  if (!lists) return;
+  showAlerts(lists);
+  showLate(lists);
+  showJournal(lists);
 }
 
 function confirmed(screen) {
@@ -164,7 +198,7 @@ function showJournal(screen) {
   const rows = screen.journal.map(([number, feed, words, line]) =>
     [[String(number), withNumber(words, line), feed], number > lastEntries && lastEntries ? 'new' : '']);
   replace(body('journal'), table('', ['Entry', 'Says', 'Reported by'], rows));
-  lastEntries = screen.entries;
+  lastEntries = shown.entries;
 }
 
 // ---- The diagram
@@ -191,6 +225,7 @@ export const refreshLine = oneAtATime(async () => {
   const words = new URLSearchParams({ line: element('lines').value || 0 });
   if (begin !== null) words.set('from', begin);
   if (end !== null) words.set('to', end);
+  if (element('preview').checked && shown?.plan?.previewed) words.set('plan', 1);
   const answer = await get(`/line?${words}`);
   const drawn = new DOMParser().parseFromString(await answer.text(), 'image/svg+xml').documentElement;
   const svg = document.importNode(drawn, true);

@@ -1,0 +1,104 @@
+"""Where the names of trains stand in a diagram: each beside a point of its train, none cut off, and none over another if there is room."""
+from __future__ import annotations
+
+import unicodedata
+from typing import Iterable, Iterator, NamedTuple, Sequence
+
+# About how wide a small letter is, a wide one, such as those of Chinese, and one of the names of stops; and how high a small one is.
+LETTER, WIDE, LARGE, HIGH = 7, 12, 7, 13
+
+# The longest name that is written whole.
+LONGEST = 40
+
+# So many points of a train are tried.
+MOST_POINTS = 16
+
+Point = tuple[int, int]
+
+
+def short(name: str) -> str:
+    """A name as it is written: whole, if it is not very long."""
+    return name if len(name) <= LONGEST else f'{name[:LONGEST - 1]}…'
+
+
+def length_of(text: str, letter: int = LETTER) -> int:
+    """About how wide a text is."""
+    return sum(WIDE if unicodedata.east_asian_width(one) in 'WF' else letter for one in text)
+
+
+class Box(NamedTuple):
+    """What a text covers."""
+    left: int
+    top: int
+    right: int
+    bottom: int
+
+    def over(self, other: Box) -> int:
+        """How much of another box lies under this one."""
+        across = min(self.right, other.right) - max(self.left, other.left)
+        down = min(self.bottom, other.bottom) - max(self.top, other.top)
+        return across * down if across > 0 and down > 0 else 0
+
+
+class Label(NamedTuple):
+    """A text to the right of a point, or to the left of it: across and down, as SVG has them."""
+    text: str
+    x: int
+    y: int
+    is_left: bool
+
+    @property
+    def box(self) -> Box:
+        length = length_of(self.text)
+        left = self.x - length if self.is_left else self.x
+        return Box(left, self.y - HIGH + 3, left + length, self.y + 3)
+
+
+class Labels:
+    """The texts of a picture, within its edges."""
+
+    def __init__(self, edges: Box) -> None:
+        self.edges = edges
+        self.bands: dict[int, list[Box]] = {}
+
+    def take(self, box: Box) -> None:
+        """Lets no later text stand here, if there is room elsewhere."""
+        for band in range(box.top // HIGH, box.bottom // HIGH + 1):
+            self.bands.setdefault(band, []).append(box)
+
+    def covered(self, box: Box) -> int:
+        """How much of what stands there already a box would cover."""
+        bands = range(box.top // HIGH, box.bottom // HIGH + 1)
+        return sum(box.over(other) for other in {other for band in bands for other in self.bands.get(band, ())})
+
+    def spots(self, text: str, points: Iterable[Point]) -> Iterator[Label]:
+        """Where a text may stand beside some points."""
+        edges = self.edges
+        for x, y in points:
+            # Above the first stop the name stands on its right, where its train goes on; below the last one stand the hours.
+            sides = (False, True) if y <= edges.top + HIGH + 4 else (True, False)
+            for down in (y + 14, y - 4):
+                for is_left in sides:
+                    label = Label(text, x - 5 if is_left else x + 3, down, is_left)
+                    box = label.box
+                    if edges.left <= box.left and box.right <= edges.right and edges.top <= box.top and box.bottom <= edges.bottom:
+                        yield label
+
+    def pushed(self, text: str, points: Sequence[Point]) -> Label:
+        """A text at its first point, pushed to where it is not cut off."""
+        edges, (x, y) = self.edges, points[0]
+        x = max(edges.left, min(x + 3, edges.right - length_of(text)))
+        return Label(text, x, min(max(y - 4, edges.top + HIGH), edges.bottom - 2), False)
+
+    def put(self, text: str, points: Sequence[Point]) -> Label:
+        """Places a text beside one of some points, the first ones first: where it covers nothing, or else least."""
+        least = None
+        for label in self.spots(text, points[:MOST_POINTS]):
+            covered = self.covered(label.box)
+            if least is None or covered < least[0]:
+                least = covered, label
+            if not covered:
+                break
+        found = least[1] if least else self.pushed(text, points)
+        self.take(found.box)
+        return found
