@@ -390,7 +390,9 @@ class Rooms(InRoom):
         self.room.show()
         whole = self.screen()
         self.assertEqual(([row[0] for row in whole['late']], whole['lateCount'], whole['trains']), ([1, 0], 2, 2))
-        for only, trains, entries in [(Only(None, 1), {0}, [3, 1]), (Only(None, 4), {1}, [3, 2]), (Only(None, 2), {0, 1}, [3, 2, 1]), (Only(None, 99), set(), [])]:
+        cases: list[tuple[Only, set[int], list[int]]] = [
+            (Only(None, 1), {0}, [3, 1]), (Only(None, 4), {1}, [3, 2]), (Only(None, 2), {0, 1}, [3, 2, 1]), (Only(None, 99), set(), [])]
+        for only, trains, entries in cases:
             self.assertEqual(trains_only(self.room, only), trains)
             shown = screen_only(self.room, only)
             self.assertEqual({row[0] for row in shown['late']}, trains)

@@ -21,7 +21,7 @@ from dispatch_tools.model.network import Change, Pair
 from dispatch_tools.model.network import Activity, Event, Network
 from dispatch_tools.model.railway import rows_after, Rows, sound_times
 from dispatch_tools.pictures.diagram import chosen_line, drawing, drawn, frame_of, marked_on, part_of, Preview
-from dispatch_tools.pictures.labels import Box, Labels, LONGEST
+from dispatch_tools.pictures.labels import Box, Labels, length_of, LONGEST
 from dispatch_tools.pictures.scene import (
     Conflict, conflicts_of, cost_parts, distances, duration, lines_of, links_of, path_of, read_scene, Scene, trains_of, turned_pairs, whole_time,
 )
@@ -148,11 +148,11 @@ class Previews(unittest.TestCase):
                                                             names={}, labels={1: 'RE 1', 3: 'RB 2'}, trips={})
         frame, trains = frame_of(whole, [1, 2], None, None)
         preview = Preview(sound_times(net, after), [(First(3, 1), 'RB 2 goes before RE 1')])
-        svg = ''.join(drawn(whole, frame, trains, marked_on(frame, whole), 'both', preview=preview))
+        svg = ''.join(drawn(whole, frame, trains, marked_on(frame.rows, whole), 'both', preview=preview))
         self.assertIn('<title>RE 1 by the plan</title>', svg)
         self.assertNotIn('RB 2 by the plan', svg)
         self.assertIn('<title>the plan: RB 2 goes before RE 1</title>', svg)
-        without = ''.join(drawn(whole, frame, trains, marked_on(frame, whole), 'both'))
+        without = ''.join(drawn(whole, frame, trains, marked_on(frame.rows, whole), 'both'))
         self.assertEqual([classes(one).count('then') for one in (svg, without)], [2, 1])
 
 
@@ -223,14 +223,14 @@ class Names(unittest.TestCase):
         labels = Labels(Box(130, 50, 900, 300))
         put = [labels.put(f'Train {number}', [(200 + 3 * (number % 7), 100), (400 + 30 * number, 200), (860, 240)]) for number in range(14)]
         self.assertEqual(len({label.text for label in put}), 14)
-        boxes = [label.box for label in put]
+        boxes = [label.box(length_of(label.text)) for label in put]
         self.assertEqual([one for place, one in enumerate(boxes) for other in boxes[:place] if one.over(other)], [])
         self.assertTrue(all(box.left >= 130 and box.right <= 900 and box.top >= 50 and box.bottom <= 300 for box in boxes))
 
     def test_names_that_find_no_room_are_written_all_the_same(self) -> None:
         labels = Labels(Box(130, 50, 220, 80))
         put = [labels.put('x' * 12, [(215, 70)]) for _ in range(9)]
-        self.assertTrue(all(130 <= label.box.left and label.box.right <= 220 for label in put))
+        self.assertTrue(all(130 <= label.box(84).left and label.box(84).right <= 220 for label in put))
 
     def test_every_train_of_a_day_has_its_name(self) -> None:
         found = read_scene(os.path.join(TOP, 'examples', 'day', 'net'), os.path.join(TOP, 'examples', 'day', 'text'))

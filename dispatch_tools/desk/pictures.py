@@ -4,7 +4,7 @@ from __future__ import annotations
 import threading
 from typing import Callable, NamedTuple, Optional
 
-from dispatch_tools.pictures.diagram import drawn, Frame, frame_of, Marked, marked_on, Preview, title_of, TOP, Trains
+from dispatch_tools.pictures.diagram import drawn, Frame, frame_at, Laid, laid, Marked, marked_on, Preview, title_of, TOP, Trains
 from dispatch_tools.pictures.scene import Scene
 
 # At most so many drawings are kept, and so many units the time of a drawing has at least.
@@ -37,13 +37,21 @@ class Picture(NamedTuple):
 
 
 class Pictures:
-    """The drawings of lines. Where the stops and the trains of a line are drawn is worked out once for a stretch of time."""
+    """The drawings of lines. Where the stops and the trains of a line are drawn, and what may be marked there, is worked out once."""
 
     def __init__(self, lines: list[list[int]]) -> None:
         self.lines = lines
         self.lock = threading.Lock()
-        self.frames: dict[Asked, tuple[Frame, Trains, Marked]] = {}
+        self.lying: dict[int, tuple[Laid, Marked]] = {}
+        self.frames: dict[Asked, Frame] = {}
         self.kept: dict[Asked, tuple[Version, Picture]] = {}
+
+    def lay(self, line: int, scene: Scene) -> tuple[Laid, Marked]:
+        """How a line lies, and what may be marked on it."""
+        if line not in self.lying:
+            found = laid(scene, self.lines[line])
+            self.lying[line] = found, marked_on(found.rows, scene)
+        return self.lying[line]
 
     def draw(self, asked: Asked, version: Version, shown: Callable[[], Shown]) -> Picture:
         """The drawing of a line at a version of the day. If it has to be drawn anew, `shown` gives the day."""
@@ -56,12 +64,12 @@ class Pictures:
             return self.kept[asked][1]
 
     def drawn_anew(self, asked: Asked, shown: Shown) -> Picture:
-        line, scene = self.lines[asked.line], shown.scene
+        scene, (line, marked) = shown.scene, self.lay(asked.line, shown.scene)
         if asked not in self.frames:
-            frame, trains = frame_of(scene, line, asked.begin, asked.end, NARROW)
-            self.frames[asked] = frame, trains, marked_on(frame, scene)
-        frame, trains, marked = self.frames[asked]
-        svg = '\n'.join(drawn(scene, frame, self.near(frame, trains, scene), marked, title_of(scene, line), preview=shown.preview))
+            self.frames[asked] = frame_at(scene, line, asked.begin, asked.end, NARROW)
+        frame = self.frames[asked]
+        title = title_of(scene, self.lines[asked.line])
+        svg = '\n'.join(drawn(scene, frame, self.near(frame, line.trains, scene), marked, title, preview=shown.preview))
         return Picture(svg, f'{frame.begin} {frame.end} {frame.left} {frame.scale} {TOP} {frame.height}')
 
     def near(self, frame: Frame, trains: Trains, scene: Scene) -> Trains:

@@ -126,6 +126,8 @@ class Room:
         if self.settings.tells and self.settings.name:
             self.notebook.read()
             self.notebook.called(self.feed.next_line(), self.settings.name)
+        if self.pictures.lines:
+            self.pictures.lay(0, self.day.scene())
         for work in (self.read_on, self.ask_on):
             threading.Thread(target=work, daemon=True).start()
 

@@ -12,7 +12,6 @@ from dispatch_tools.model.parts import places_of, PlanByParts
 from dispatch_tools.pictures.labels import Box, HIGH, Label, Labels, LARGE, length_of, LONGEST, short
 from dispatch_tools.pictures.scene import (
     changes_of, CLASSES, clock_time, Conflict, conflicts_of, counted, distances, duration, lateness_class, lines_of, links_of, Scene, span_of_times,
-    turned_pairs,
 )
 
 # Colours that differ in lightness as well as in hue: on time, and the classes of lateness.
@@ -108,18 +107,37 @@ def scale_of(scene: Scene, trains: Trains, begin: int, end: int, least: int) -> 
     return min(max(10 / gap, least / length), 9000 / length, 2.0)
 
 
-def frame_of(scene: Scene, line: Sequence[int], begin: Optional[int], end: Optional[int], least: int = NARROW) -> tuple[Frame, Trains]:
-    """The frame of a line, whose times are those of its trains where none are given."""
+class Laid(NamedTuple):
+    """What is the same whenever a line is drawn: where its stops stand, how high it is, its trains, and the room for its stops' names."""
+    rows: dict[int, int]
+    height: int
+    trains: Trains
+    left: int
+
+
+def laid(scene: Scene, line: Sequence[int]) -> Laid:
+    """How a line lies."""
     shares = distances(scene.network, scene.trains, line)
     height = max(220, min(44 * (len(line) - 1), 900))
     rows = {stop: TOP + round(height * share) for stop, share in zip(line, shares)}
-    trains = trains_on(scene, rows)
-    first, last = span_of_times(scene, [place for _, stretches in trains for stretch in stretches for place in stretch])
-    begin = (first - 60) // 60 * 60 if begin is None else begin
-    end = (last + 119) // 60 * 60 if end is None else end
-    end = max(end, begin + 60)
     left = max([LEFT, *(length_of(short(scene.stop_name(stop)), LARGE) + 12 for stop in line)])
-    return Frame(rows, height, begin, end, scale_of(scene, trains, begin, end, least), left), trains
+    return Laid(rows, height, trains_on(scene, rows), left)
+
+
+def frame_at(scene: Scene, line: Laid, begin: Optional[int], end: Optional[int], least: int = NARROW) -> Frame:
+    """The frame of a line, whose times are those of its trains where none are given."""
+    if begin is None or end is None:
+        first, last = span_of_times(scene, [place for _, stretches in line.trains for stretch in stretches for place in stretch])
+        begin = (first - 60) // 60 * 60 if begin is None else begin
+        end = (last + 119) // 60 * 60 if end is None else end
+    end = max(end, begin + 60)
+    return Frame(line.rows, line.height, begin, end, scale_of(scene, line.trains, begin, end, least), line.left)
+
+
+def frame_of(scene: Scene, line: Sequence[int], begin: Optional[int], end: Optional[int]) -> tuple[Frame, Trains]:
+    """The frame of a line and its trains."""
+    found = laid(scene, line)
+    return frame_at(scene, found, begin, end), found.trains
 
 
 # ---- Paths
@@ -233,10 +251,10 @@ class Marked(NamedTuple):
     into: Mapping[int, Sequence[int]]
 
 
-def marked_on(frame: Frame, scene: Scene) -> Marked:
-    """The events of a line, its changes, and its pairs."""
+def marked_on(rows: Container[int], scene: Scene) -> Marked:
+    """The events of a line's stops, its changes, and its pairs."""
     network = scene.network
-    places = [place for place, event in enumerate(network.events) if event.stop in frame.rows]
+    places = [place for place, event in enumerate(network.events) if event.stop in rows]
     ends = set(places)
     pairs = [pair for pair, events in enumerate(network.pairs) if not ends.isdisjoint(events)]
     into: dict[int, list[int]] = {place: [] for pair in pairs for place in network.pairs[pair]}
@@ -266,9 +284,10 @@ def link_marks(frame: Frame, scene: Scene, changes: Iterable[int]) -> Iterator[s
         yield f'<g class="link" data-a="{link.id}"><title>change {link.id}: {link.state}</title><path class="{link.state}" d="{data}"/>{mark}</g>'
 
 
-def pair_marks(frame: Frame, scene: Scene) -> Iterator[str]:
-    """A diamond at each pair whose order was turned, between its two events."""
-    for first, second in turned_pairs(scene):
+def pair_marks(frame: Frame, scene: Scene, pairs: Iterable[int]) -> Iterator[str]:
+    """A diamond at each of some pairs whose order was turned, between its two events."""
+    turned = [scene.network.pairs[pair] for pair in pairs if scene.start.first[pair] != scene.rows.first[pair]]
+    for first, second in turned:
         if scene.stop(first) not in frame.rows or not frame.shows(scene.times[first]):
             continue
         x = (frame.x(scene.times[first]) + frame.x(scene.times[second])) // 2
@@ -279,8 +298,10 @@ def pair_marks(frame: Frame, scene: Scene) -> Iterator[str]:
 
 def shown_conflicts(frame: Frame, scene: Scene, marked: Marked) -> list[Conflict]:
     """The conflicts of a line that lie in a frame."""
-    found = conflicts_of(scene.network, scene.rows, scene.times, marked.pairs, marked.into)
-    return [one for one in found if scene.stop(one.second) in frame.rows and frame.shows(scene.times[one.second])]
+    times, events = scene.times, scene.network.pairs
+    pairs = [pair for pair in marked.pairs if frame.shows(times[events[pair][0]]) or frame.shows(times[events[pair][1]])]
+    found = conflicts_of(scene.network, scene.rows, times, pairs, marked.into)
+    return [one for one in found if scene.stop(one.second) in frame.rows and frame.shows(times[one.second])]
 
 
 def at_conflict(frame: Frame, scene: Scene, conflict: Conflict) -> tuple[int, int]:
@@ -447,7 +468,7 @@ def drawing(scene: Scene, line: Sequence[int], begin: Optional[int] = None, end:
     """The SVG of a line, as pieces of text; if trains decide together, all others are pale."""
     frame, trains = frame_of(scene, line, begin, end)
     name = title_of(scene, line) + ('' if together is None else f'; {together.name}')
-    yield from drawn(scene, frame, trains, marked_on(frame, scene), name, together)
+    yield from drawn(scene, frame, trains, marked_on(frame.rows, scene), name, together)
 
 
 def drawn(scene: Scene, frame: Frame, trains: Trains, marked: Marked, name: str, together: Optional[Together] = None,
@@ -461,7 +482,7 @@ def drawn(scene: Scene, frame: Frame, trains: Trains, marked: Marked, name: str,
     yield f'<text class="title" x="{LEFT}" y="26">{title}</text>'
     shown = () if preview is None else preview_marks(frame, scene, trains, preview)
     conflicts = shown_conflicts(frame, scene, marked)
-    for part in (grid(frame, scene), train_marks(frame, scene, trains, strong), link_marks(frame, scene, marked.changes), pair_marks(frame, scene),
+    for part in (grid(frame, scene), train_marks(frame, scene, trains, strong), link_marks(frame, scene, marked.changes), pair_marks(frame, scene, marked.pairs),
                  shown, conflict_marks(frame, scene, marked, conflicts), passed_marks(frame, scene, marked.places), clock_mark(frame, scene),
                  train_names(frame, scene, trains, conflicts), legend(frame)):
         yield '\n'.join(part)

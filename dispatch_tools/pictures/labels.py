@@ -2,6 +2,7 @@
 from __future__ import annotations
 
 import unicodedata
+from itertools import product
 from typing import Iterable, Iterator, NamedTuple, Sequence
 
 # About how wide a small letter is, a wide one, such as those of Chinese, and one of the names of stops; and how high a small one is.
@@ -12,6 +13,9 @@ LONGEST = 40
 
 # So many points of a train are tried.
 MOST_POINTS = 16
+
+# How wide the columns are by which a text is looked up.
+COLUMN = 64
 
 Point = tuple[int, int]
 
@@ -47,11 +51,15 @@ class Label(NamedTuple):
     y: int
     is_left: bool
 
-    @property
-    def box(self) -> Box:
-        length = length_of(self.text)
+    def box(self, length: int) -> Box:
+        """What it covers, if the text is so wide."""
         left = self.x - length if self.is_left else self.x
         return Box(left, self.y - HIGH + 3, left + length, self.y + 3)
+
+
+def cells_of(box: Box) -> Iterator[tuple[int, int]]:
+    """The rows and columns by which what stands under a box is looked up."""
+    return product(range(box.top // HIGH, box.bottom // HIGH + 1), range(box.left // COLUMN, box.right // COLUMN + 1))
 
 
 class Labels:
@@ -59,46 +67,43 @@ class Labels:
 
     def __init__(self, edges: Box) -> None:
         self.edges = edges
-        self.bands: dict[int, list[Box]] = {}
+        self.cells: dict[tuple[int, int], list[Box]] = {}
 
     def take(self, box: Box) -> None:
         """Lets no later text stand here, if there is room elsewhere."""
-        for band in range(box.top // HIGH, box.bottom // HIGH + 1):
-            self.bands.setdefault(band, []).append(box)
+        for cell in cells_of(box):
+            self.cells.setdefault(cell, []).append(box)
 
     def covered(self, box: Box) -> int:
         """How much of what stands there already a box would cover."""
-        bands = range(box.top // HIGH, box.bottom // HIGH + 1)
-        return sum(box.over(other) for other in {other for band in bands for other in self.bands.get(band, ())})
+        return sum(box.over(other) for other in {other for cell in cells_of(box) for other in self.cells.get(cell, ())})
 
-    def spots(self, text: str, points: Iterable[Point]) -> Iterator[Label]:
-        """Where a text may stand beside some points."""
+    def spots(self, text: str, length: int, points: Iterable[Point]) -> Iterator[tuple[Label, Box]]:
+        """Where a text that is so wide may stand beside some points, and what it covers there."""
         edges = self.edges
         for x, y in points:
             # Above the first stop the name stands on its right, where its train goes on; below the last one stand the hours.
             sides = (False, True) if y <= edges.top + HIGH + 4 else (True, False)
-            for down in (y + 14, y - 4):
-                for is_left in sides:
-                    label = Label(text, x - 5 if is_left else x + 3, down, is_left)
-                    box = label.box
-                    if edges.left <= box.left and box.right <= edges.right and edges.top <= box.top and box.bottom <= edges.bottom:
-                        yield label
+            for down, is_left in product((y + 14, y - 4), sides):
+                label = Label(text, x - 5 if is_left else x + 3, down, is_left)
+                box = label.box(length)
+                if edges.left <= box.left and box.right <= edges.right and edges.top <= box.top and box.bottom <= edges.bottom:
+                    yield label, box
 
-    def pushed(self, text: str, points: Sequence[Point]) -> Label:
-        """A text at its first point, pushed to where it is not cut off."""
-        edges, (x, y) = self.edges, points[0]
-        x = max(edges.left, min(x + 3, edges.right - length_of(text)))
-        return Label(text, x, min(max(y - 4, edges.top + HIGH), edges.bottom - 2), False)
+    def pushed(self, text: str, length: int, point: Point) -> Label:
+        """A text at a point, pushed to where it is not cut off."""
+        edges, (x, y) = self.edges, point
+        return Label(text, max(edges.left, min(x + 3, edges.right - length)), min(max(y - 4, edges.top + HIGH), edges.bottom - 3), False)
 
     def put(self, text: str, points: Sequence[Point]) -> Label:
         """Places a text beside one of some points, the first ones first: where it covers nothing, or else least."""
-        least = None
-        for label in self.spots(text, points[:MOST_POINTS]):
-            covered = self.covered(label.box)
+        length, least = length_of(text), None
+        for label, box in self.spots(text, length, points[:MOST_POINTS]):
+            covered = self.covered(box)
             if least is None or covered < least[0]:
                 least = covered, label
             if not covered:
                 break
-        found = least[1] if least else self.pushed(text, points)
-        self.take(found.box)
+        found = least[1] if least else self.pushed(text, length, points[0])
+        self.take(found.box(length))
         return found
