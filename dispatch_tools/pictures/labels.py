@@ -2,7 +2,7 @@
 from __future__ import annotations
 
 import unicodedata
-from itertools import product
+from itertools import chain, product
 from typing import Iterable, Iterator, NamedTuple, Sequence
 
 # About how wide a small letter is, a wide one, such as those of Chinese, and one of the names of stops; and how high a small one is.
@@ -13,6 +13,9 @@ LONGEST = 40
 
 # So many points of a train are tried.
 MOST_POINTS = 16
+
+# So many rows away from its first point a name may stand, if there is no room at any.
+FARTHEST = 24
 
 # How wide the columns are by which a text is looked up.
 COLUMN = 64
@@ -90,6 +93,11 @@ class Labels:
                 if edges.left <= box.left and box.right <= edges.right and edges.top <= box.top and box.bottom <= edges.bottom:
                     yield label, box
 
+    def farther(self, text: str, length: int, point: Point) -> Iterator[tuple[Label, Box]]:
+        """Where a text may stand above or below a point, the nearest places first."""
+        x, y = point
+        return self.spots(text, length, [(x, y + sign * HIGH * rows) for rows in range(1, FARTHEST) for sign in (1, -1)])
+
     def pushed(self, text: str, length: int, point: Point) -> Label:
         """A text at a point, pushed to where it is not cut off."""
         edges, (x, y) = self.edges, point
@@ -98,7 +106,7 @@ class Labels:
     def put(self, text: str, points: Sequence[Point]) -> Label:
         """Places a text beside one of some points, the first ones first: where it covers nothing, or else least."""
         length, least = length_of(text), None
-        for label, box in self.spots(text, length, points[:MOST_POINTS]):
+        for label, box in chain(self.spots(text, length, points[:MOST_POINTS]), self.farther(text, length, points[0])):
             covered = self.covered(box)
             if least is None or covered < least[0]:
                 least = covered, label

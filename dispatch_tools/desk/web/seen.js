@@ -4,8 +4,8 @@ import { trainShown } from './done.js';
 
 let day = null, clock = 0, lastEntries = 0, wide = 1, shown = null, only = null;
 
-// So many hits are listed.
-const HITS = 12;
+// So many hits are listed, and a drawing is at least so large beside its own size.
+const HITS = 12, LEGIBLE = 0.7;
 const SEVERITIES = ['urgent', 'warning', 'notice'];
 const body = id => element(id).querySelector('.scroll');
 const option = (text, value) => new Option(text, value);
@@ -244,10 +244,11 @@ function drawNow(svg, [begin, end, left, scale, top, height]) {
   svg.append(line);
 }
 
+// The drawing fills its place, but is not made so small that its names cannot be read.
 function widen(by) {
   wide = Math.min(8, Math.max(0.5, wide * by));
-  const svg = element('view').querySelector('svg');
-  if (svg) svg.style.width = `${wide * 100}%`;
+  const view = element('view'), svg = view.querySelector('svg');
+  if (svg) svg.style.width = `${wide * Math.max(view.clientWidth, LEGIBLE * svg.viewBox.baseVal.width)}px`;
 }
 
 function markTrain() {
