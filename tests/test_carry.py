@@ -135,6 +135,25 @@ class TwoDays(unittest.TestCase):
         there = dict(zip((event.id for event in network.events), sound_times(network, rows)))
         self.assertEqual(there[4], 60 + 540 + 1100)
 
+    def test_an_arrival_before_midnight_stands_at_its_zero(self) -> None:
+        """A train arrives at 23:50; another one leaves at 0:12 and waits for it, 300 s after its arrival."""
+        evening = [Event(1, 'departure', DAY - 1800, 0, 1), Event(2, 'arrival', DAY - 600, 1000, 2), Event(3, 'departure', DAY + 720, 0, 2),
+                   Event(4, 'arrival', DAY + 1800, 1000, 3)]
+        night = [event._replace(time=max(0, event.time - DAY)) for event in evening]
+        def ways(lower: int, drive: int) -> list[Activity]:
+            return [Activity(1, 'drive', 1, 2, drive, 0), Activity(2, 'drive', 3, 4, 1000, 0), Activity(3, 'change', 2, 3, lower, 500)]
+        for lower, late in ((300, 500), (300, 1500), (900, 1500)):
+            before, after = Network(evening, ways(lower, 1200)), Network(night, ways(min(lower, 720), 0))
+            days = carry.Days(before, after, DAY, carry.events_of_both(before, after, carry.same_ids(before, after), DAY), {0: 0, 1: 1, 2: 2})
+            self.assertEqual(days.events, {0: 0, 1: 1, 2: 2, 3: 3})
+            rows = rows_after_all(before, [DelayEvent(2, late)])
+            there = carry.rows_of_next_day(days, rows, Rows(after))
+            times = [max(0, time - DAY) for time in sound_times(before, rows)]
+            self.assertEqual(sound_times(after, there), times, (lower, late))
+            after_drop = rows_after_all(after, [Drop(3)])
+            after_drop.event_delays = there.event_delays
+            self.assertEqual(sound_times(after, after_drop)[2] == 720, lower == 300)
+
     def test_what_has_passed_and_the_clock_go_along(self) -> None:
         journal: list[Message] = [Pass(1, DAY - 590), Pass(2, DAY - 50), Pass(3, DAY + 100), Now(DAY + 200)]
         self.assertEqual(self.carried(journal), (0, ['pass 3 100', 'now 200']))

@@ -166,6 +166,45 @@ class DayBefore(InNetwork):
         self.assertIn('left out: calls before midnight of trains of the service day before: 1', said)
         self.assertEqual(len(self.made(files)[0].events), 10)
 
+    def night(self, *transfers: str) -> tuple[Network, str]:
+        """A train that arrives in C at 23:50, one that leaves there at 0:12, both of the day before, and one of the day itself."""
+        trips = trips_and_times('r1 R 0 - A 23:10 B 23:30 C 23:50', 'g1 G 0 - C 24:12 E 24:30', 'g2 G 0 - C 08:00 E 08:20', 'r2 R 0 - A 22:00 B 22:10')
+        files: dict[str, File] = {**trips, 'stops.txt': STOPS, 'calendar_dates.txt': ['service_id,date,exception_type', 'S,20261223,1'],
+                                  **({'transfers.txt': [HEADING, *transfers]} if transfers else {})}
+        return self.made(files, '--day-before')
+
+    def test_connections_over_midnight_are_made(self) -> None:
+        for transfers, lower in ((), 180), (('C,C,r1,g1,,,1,240',), 240), (('C,C,r1,g1,,,1,',), 0):
+            net, said = self.night(*transfers)
+            self.assertIn(('r1@20261223 C', 'g1@20261223 C', lower), self.activities(net, 'change'))
+            self.assertIn('besides: connections over midnight, from an arrival that stands at midnight: 1', said)
+            self.assertEqual('guaranteed connections: 2' in said, bool(transfers))
+            self.assertIn('besides: trains of the service day before that run past midnight: 1', said)
+            self.assertEqual(self.activities(net, 'drive')[0], ('r1@20261223 B', 'r1@20261223 C', 0))
+            self.assertNotIn('left out: calls before midnight', said)
+
+    def test_a_guaranteed_one_may_take_longer_than_the_longest_change(self) -> None:
+        trips = trips_and_times('r1 R 0 - A 21:10 B 21:30', 'g1 G 0 - B 24:12 E 24:30', 'g2 G 0 - C 08:00 E 08:20')
+        files: dict[str, File] = {**trips, 'stops.txt': STOPS, 'calendar_dates.txt': ['service_id,date,exception_type', 'S,20261223,1'],
+                                  'transfers.txt': [HEADING, 'B,B,r1,g1,,,1,60']}
+        net, said = self.made(files, '--day-before')
+        self.assertIn(('r1@20261223 B', 'g1@20261223 B', 60), self.activities(net, 'change'))
+        self.assertNotIn('do not meet', said)
+
+    def test_what_lies_before_midnight_stands_there_and_counts_nothing(self) -> None:
+        net, _ = self.night()
+        events = {tuple(line.split(';')[2:6]): (net.events[place], line.split(';')[6]) for place, line in enumerate(read(self.net, 'Events.csv').splitlines()[1:])}
+        arrival, printed = events['r1@20261223', '3', 'C', 'arrival']
+        self.assertEqual((arrival.time, arrival.weight, printed), (0, 0, '-00:10:00'))
+        self.assertEqual([event.id for event in net.events], list(range(1, len(net.events) + 1)))
+        self.assertNotIn('r2@20261223', {trip for trip, *_ in events})
+        self.assertEqual(sound_times(net, Rows(net)), [event.time for event in net.events])
+        self.assertIn(';Red 23:30;r1@20261223;', read(self.net, 'Trains.csv'))
+
+    def test_a_change_that_the_timetable_has_no_longer_time_for_from_midnight_is_shorter(self) -> None:
+        net, _ = self.night('C,C,r1,g1,,,1,1200')
+        self.assertIn(('r1@20261223 C', 'g1@20261223 C', 720), self.activities(net, 'change'))
+
     def test_trains_of_a_day_before_without_service_are_none(self) -> None:
         files: dict[str, File] = {**trips_and_times('r1 R 0 - A 23:50 B 24:10 C 24:30'), 'calendar_dates.txt': ['service_id,date,exception_type', 'S,20261223,2']}
         self.assertEqual(len(self.made(files, '--day-before')[0].events), 4)

@@ -159,10 +159,11 @@ def same_ids(before: Network, after: Network) -> dict[int, int]:
 
 
 def events_of_both(before: Network, after: Network, ids: dict[int, int], shift: int) -> dict[int, int]:
-    """The places of the events that stand in both networks, so many seconds apart."""
+    """The places of the events that stand in both networks, so many seconds apart. What lies before the zero of the next one stands at
+    its zero there."""
     places = {before.event_place[one]: after.event_place[other] for one, other in ids.items()
               if one in before.event_place and other in after.event_place}
-    return {one: other for one, other in places.items() if before.events[one].time - after.events[other].time == shift}
+    return {one: other for one, other in places.items() if max(0, before.events[one].time - shift) == after.events[other].time}
 
 
 def activities_of_both(before: Network, after: Network, events: dict[int, int]) -> dict[int, int]:
@@ -193,16 +194,30 @@ def read_days(folder: str, before: Network, other: str, shift: Optional[int]) ->
     return Days(before, after, shift, events, activities_of_both(before, after, events))
 
 
+def is_early(days: Days, place: int) -> bool:
+    """Whether an event of the day before lies before the zero of the next one's network, and stands at its zero there."""
+    return days.before.events[place].time < days.shift
+
+
+def is_shorter(days: Days, place: int) -> bool:
+    """Whether an activity from before the zero takes less time in the next network than in the one before."""
+    there = days.activities.get(place)
+    return is_early(days, days.before.tails[place]) and (there is None or days.after.activities[there].lower < days.before.activities[place].lower)
+
+
 def lateness_of(days: Days, rows: Rows) -> dict[int, int]:
-    """The delay that each event of both networks gets in the next one."""
+    """The delay that each event of both networks gets in the next one: its own, or all of its lateness where what makes it late is not
+    there, or is shorter there."""
     held, times = active_activities(days.before, rows), sound_times(days.before, rows)
     waits_for_others = {
-        head for place, (tail, head) in enumerate(zip(days.before.tails, days.before.heads)) if held[place] and tail not in days.events
+        head for place, (tail, head) in enumerate(zip(days.before.tails, days.before.heads))
+        if held[place] and (tail not in days.events or is_shorter(days, place))
     }
-    return {
-        other: min(LARGEST_DELAY, times[one] - days.before.events[one].time) if one in waits_for_others else rows.event_delays[one]
-        for one, other in days.events.items() if rows.passed[one] is None
+    late = {
+        one: times[one] - max(days.shift, days.before.events[one].time) if one in waits_for_others or is_early(days, one) else rows.event_delays[one]
+        for one in days.events if rows.passed[one] is None
     }
+    return {days.events[one]: min(LARGEST_DELAY, max(0, delay)) for one, delay in late.items()}
 
 
 def rows_of_next_day(days: Days, rows: Rows, start: Rows) -> Rows:

@@ -8,7 +8,7 @@ from __future__ import annotations
 import graphlib
 from bisect import bisect_left
 from collections import Counter, defaultdict
-from dataclasses import dataclass
+from dataclasses import dataclass, replace
 from itertools import islice
 from typing import Callable, Iterable, Iterator, NamedTuple, Optional
 
@@ -63,7 +63,7 @@ def turnarounds(trains: list[Train], linked: list[Transfer], passengers: Passeng
             blocks[train.trip.block].append(train)
     for block in blocks.values():
         for before, after in zip(block, block[1:]):
-            if after.name in before.linked:
+            if after.name in before.linked or after.begins < 0:
                 continue
             if after.begins < before.ends:
                 notes.left_out['turnarounds between trips of a block that overlap'] += 1
@@ -88,6 +88,8 @@ def linked_trips(trains: list[Train], linked: list[Transfer], passengers: Passen
         if not pairs:
             notes.left_out['rows of transfers.txt for trips that do not run, or are not chosen'] += 1
         for before, after in pairs:
+            if after.begins < 0:
+                continue
             if before.repeats or after.repeats:
                 notes.left_out['turnarounds of trains that a frequency made'] += 1
             elif after.begins < before.ends:
@@ -196,7 +198,7 @@ def next_changes(arrival: Moment, changing: Changing, done: set[tuple[str, str]]
             for found in changing.reached(arrival, others, is_other_branch):
                 if found[0].beyond not in branches:
                     branches.add(found[0].beyond)
-                    notes.besides['changes between branches of one route'] += 1
+                    notes.besides['changes between branches of one route'] += not found[0].is_early
                     yield changing.link(arrival, *found)
 
 
@@ -214,6 +216,8 @@ def guaranteed(trains: list[Train], changing: Changing, notes: Notes) -> Iterato
                 continue
             arrival, departure = found
             taken.add(arrival.event.id)
+            if departure.is_early:
+                continue
             scheduled = departure.event.time - arrival.event.time
             least = scheduled if row.least is None else row.least
             if least > scheduled:
@@ -264,7 +268,7 @@ def headways(trains: list[Train], stations: dict[str, str], rule: Headways, note
     """Both ways between departures of one kind of vehicle that follow each other from one station to the next."""
     legs: dict[tuple[str, str, str], list[Moment]] = defaultdict(list)
     for moment in sorted(moments(trains), key=time_of):
-        if moment.event.kind == 'departure':
+        if moment.event.kind == 'departure' and not moment.is_early:
             legs[stations[moment.call.stop], moment.beyond, moment.train.trip.route.kind].append(moment)
     for ends, leg in legs.items():
         headway, is_said = rule.between(*ends)
@@ -296,7 +300,7 @@ def meetings(trains: list[Train], single: dict[frozenset[str], int], notes: Note
     for train in trains:
         for departure, arrival in zip(train.moments[::2], train.moments[1::2]):
             ends = frozenset((departure.beyond, arrival.beyond))
-            if ends in single:
+            if ends in single and not departure.is_early:
                 tracks[ends, train.trip.route.kind].append(Drive(departure, arrival.event.time - departure.event.time))
     for (ends, _), drives in tracks.items():
         drives.sort(key=lambda drive: drive.departure.event.time)
@@ -366,6 +370,51 @@ def without_circles(links: list[Link], notes: Notes) -> list[Link]:
     return links
 
 
+# ---- Midnight
+
+
+def is_over_midnight(link: Link) -> bool:
+    """Whether one changes from before midnight, or from a leg that begins before it, to a train past midnight."""
+    return link.kind in ('change', 'turnaround') and not link.head.is_early
+
+
+def from_midnight(trains: list[Train], links: list[Link], notes: Notes) -> tuple[list[Train], list[Link]]:
+    """The trains from midnight on, and the legs before from which one changes to a train past midnight; all times before it are midnight,
+    and passengers who arrive before it count in their own day."""
+    needed = {link.tail.event.id for link in links if is_over_midnight(link)}
+    kept = [train for train in trains if is_cut(train, needed, notes)]
+    ids = {moment.event.id for moment in moments(kept)}
+    links = [link for link in links if ids.issuperset(link.ends) and (link.kind in ('drive', 'wait') or not link.head.is_early)]
+    notes.besides['connections over midnight, from an arrival that stands at midnight'] += sum(
+        link.kind == 'change' and link.tail.is_early for link in links)
+    for moment in moments(kept):
+        if moment.is_early:
+            moment.event = moment.event._replace(time=0, weight=0)
+    return kept, [link._replace(lower=min(link.lower, link.scheduled)) if link.scheduled >= 0 else link for link in links]
+
+
+def is_cut(train: Train, needed: set[int], notes: Notes) -> bool:
+    """Leaves of a train what runs past midnight and the legs that are needed, and says whether anything is left."""
+    legs = list(zip(train.moments[::2], train.moments[1::2]))
+    first = next((place for place, (tail, head) in enumerate(legs) if not tail.is_early or head.event.id in needed), len(legs))
+    calls = train.trip.calls
+    train.moments, train.trip = train.moments[2 * first:], replace(train.trip, calls=calls[first:])
+    is_past = any(not moment.is_early for moment in train.moments[::2])
+    if train.trip.day_before:
+        notes.besides['trains of the service day before that run past midnight'] += is_past
+        notes.left_out['calls before midnight of trains of the service day before'] += first if is_past else 0
+    return bool(train.moments)
+
+
+def numbered_anew(trains: list[Train], stations: dict[str, str]) -> dict[str, int]:
+    """Gives the events of trains ids from 1, and their stations numbers; the number of each station."""
+    called = {stations[moment.call.stop] for moment in moments(trains)}
+    numbers = {station: number for number, station in enumerate((one for one in stations if one in called), 1)}
+    for event, moment in enumerate(moments(trains), 1):
+        moment.event = moment.event._replace(id=event, stop=numbers[stations[moment.call.stop]])
+    return numbers
+
+
 @dataclass
 class Expanded:
     """The network of trains, the number of each station, the changes by number, and how many begin at each station."""
@@ -393,6 +442,9 @@ def expand(
     if rules.headways is not None:
         links += some(headways(trains, stations, rules.headways, notes))
     links += some(meetings(trains, rules.single, notes))
+    if any(moment.is_early for moment in moments(trains)):
+        trains, links = from_midnight(trains, links, notes)
+        numbers = numbered_anew(trains, stations)
     links = without_circles(links, notes)
     if len(links) > limits.activities:
         raise Refused(

@@ -10,7 +10,7 @@ from fractions import Fraction
 from typing import Iterator, Optional
 
 from dispatch_tools.days.expand import expand, Expanded, Link
-from dispatch_tools.days.trains import Headways, Limits, Notes, Passengers, Refused, Rules, trains_of, Window
+from dispatch_tools.days.trains import Headways, Limits, Notes, Passengers, Reach, Refused, Rules, Window, trains_of
 from dispatch_tools.formats.giv import decimal, network_files
 from dispatch_tools.formats.gtfs import (
     Day, read_day, read_routes, read_services, read_stops, read_transfers, read_zone, Route, Stops, TYPES,
@@ -228,12 +228,13 @@ def make(feed: Feed, words: argparse.Namespace, limits: Limits) -> Made:
     day = read_day(feed, stops, services, routes, chosen)
     notes = Notes(day.left_out)
     before = day_before(feed, stops, routes, chosen, words.date) if words.day_before else None
-    trains = trains_of(day, before, Window(words.start, words.end), stops.stations, notes, limits)
+    transfers = read_transfers(feed, stops, routes, words.change)
+    reach = Reach(words.longest_change, frozenset(row.ends[0].trip for row in transfers.promised.values()))
+    trains = trains_of(day, before, Window(words.start, words.end), stops.stations, notes, limits, reach)
     if not trains:
         running = len(services.running)
         raise Refused(f'{feed.name} has no train on {words.date} that is chosen: {running} services run then, and {services.span()}')
     passengers = read_passengers(words.passengers, feed, stops)
-    transfers = read_transfers(feed, stops, routes, words.change)
     headways = None if words.no_headways else read_headways(words.headways, feed, stops, words.headway)
     single = read_single_track(words.single_track, feed, stops)
     rules = Rules(words.reserve, words.dwell, words.turn, words.longest_change, headways, words.changing, words.guaranteed, single)
@@ -267,7 +268,7 @@ def texts_of(made: Made) -> dict[str, str]:
     events = [
         EventName(
             one.event.id, train.moments[0].event.id, train.name, one.call.sequence, one.call.stop, one.event.kind,
-            clock(one.event.time),
+            clock(one.scheduled),
         )
         for train in expanded.trains for one in train.moments
     ]

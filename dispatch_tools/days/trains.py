@@ -69,12 +69,12 @@ class Rules:
 
 @dataclass(frozen=True)
 class Window:
-    """A stretch of the day; a train is in it that runs at any time within."""
+    """A stretch of the day; a train is in it that runs at any time within, or from which one changes over midnight into its first hours."""
     start: int
     end: int
 
     def has(self, train: Train) -> bool:
-        return train.begins <= self.end and train.ends >= self.start
+        return train.begins <= self.end and (train.ends >= self.start or self.start == 0)
 
 
 @dataclass
@@ -113,7 +113,9 @@ class Train:
 
     @property
     def events(self) -> int:
-        return 2 * len(self.trip.calls) - 2
+        """How many events it has past midnight."""
+        later = [call for call in self.trip.calls if call.departure + self.shift >= 0]
+        return max(0, 2 * len(later) - 2)
 
     @cached_property
     def stations(self) -> set[str]:
@@ -122,7 +124,7 @@ class Train:
 
     @property
     def label(self) -> str:
-        return f'{self.trip.route.name} {self.trip.short_name or clock(self.begins)[:-3]}'
+        return f'{self.trip.route.name} {self.trip.short_name or clock(self.begins if self.begins >= 0 else self.begins + WHOLE_DAY)[:-3]}'
 
     def shares_vehicle(self, other: Train) -> bool:
         block = self.trip.block
@@ -140,21 +142,41 @@ class Moment:
     beyond: str
 
     @property
+    def is_early(self) -> bool:
+        """Whether it lies before midnight."""
+        return self.event.time < 0
+
+    @property
+    def scheduled(self) -> int:
+        """The time of the timetable, also where that of the event is midnight, since it lies before."""
+        return self.train.shift + (self.call.departure if self.event.kind == 'departure' else self.call.arrival)
+
+    @property
     def end(self) -> End:
         trip = self.train.trip
         return End(self.call.stop, trip.id, trip.route.id)
 
 
+@dataclass(frozen=True)
+class Reach:
+    """How long before midnight one may arrive to change past it: the longest change, or any time by a trip with a guaranteed connection."""
+    longest_change: int = 0
+    promised: frozenset[str] = frozenset()
+
+    def of(self, trip: Trip) -> int:
+        return WHOLE_DAY if trip.id in self.promised else self.longest_change
+
+
 def trains_of(
-    day: Day, before: Optional[Day], window: Window, stations: dict[str, str], notes: Notes, limits: Limits,
+    day: Day, before: Optional[Day], window: Window, stations: dict[str, str], notes: Notes, limits: Limits, reach: Reach = Reach(),
 ) -> list[Train]:
     """The trips of a day, and of the one before, that run within a window, in the order in which they begin; Refused if they have
-    too many events."""
+    too many events. Those of the day before from which one may change to a train past midnight are among them."""
     trains: list[Train] = []
     events: Counter[str] = Counter()
     ways: Counter[tuple[str, ...]] = Counter()
     calls = Calls()
-    for train in chain(all_trains(day, notes), past_midnight(before, notes) if before else ()):
+    for train in chain(all_trains(day, notes), towards_midnight(before, reach) if before else ()):
         if window.has(train):
             events[train.trip.route.id] += train.events
             way = tuple(stations[call.stop] for call in train.trip.calls)
@@ -194,18 +216,16 @@ def all_trains(day: Day, notes: Notes) -> Iterator[Train]:
                 yield Train(name, trip, start - trip.calls[0].departure, True, start in exact)
 
 
-def past_midnight(before: Day, notes: Notes) -> Iterator[Train]:
-    """The trains of the day before, from the first stop on that they leave past midnight, by the clock of the day."""
+def towards_midnight(before: Day, reach: Reach) -> Iterator[Train]:
+    """The trains of the day before, by the clock of the day, from the last stop on that they leave before they may be changed from to a
+    train past midnight."""
     for train in all_trains(before, Notes()):
-        shift = train.shift - WHOLE_DAY
-        calls = [call for call in train.trip.calls if call.departure + shift >= 0]
-        if len(calls) > 1:
-            notes.besides['trains of the service day before that run past midnight'] += 1
-            notes.left_out['calls before midnight of trains of the service day before'] += len(train.trip.calls) - len(calls)
-            trip = train.trip
+        shift, trip = train.shift - WHOLE_DAY, train.trip
+        first = next((place for place, call in enumerate(trip.calls) if place and call.arrival + shift >= -reach.of(trip)), None)
+        if first is not None:
             block = trip.block and f'{trip.block}@{trip.day_before}'
             name = name_of_trip(trip.id, trip.day_before, named_trip(train.name).start)
-            yield Train(name, replace(trip, calls=calls, block=block), shift, train.repeats, train.is_exact)
+            yield Train(name, replace(trip, calls=trip.calls[first - 1:], block=block), shift, train.repeats, train.is_exact)
 
 
 @dataclass
@@ -262,8 +282,9 @@ def give_moments(trains: list[Train], stations: dict[str, str], passengers: Pass
         for tail, head in zip(calls, calls[1:]):
             ends = stations[tail.stop], stations[head.stop]
             departure = Event(event + 1, 'departure', tail.departure + train.shift, 0, numbers[ends[0]])
-            weight = passengers.leaving(train, head, left, notes)
-            arrival = Event(event + 2, 'arrival', head.arrival + train.shift, weight, numbers[ends[1]])
+            arrives = head.arrival + train.shift
+            weight = passengers.leaving(train, head, left, notes if arrives >= 0 else Notes())
+            arrival = Event(event + 2, 'arrival', arrives, weight, numbers[ends[1]])
             train.moments += [Moment(departure, train, tail, ends[1]), Moment(arrival, train, head, ends[0])]
             event += 2
     return numbers

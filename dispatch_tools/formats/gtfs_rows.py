@@ -195,8 +195,9 @@ def seconds_of(text: str) -> Optional[int]:
 
 
 def clock(seconds: int) -> str:
-    """A time in print."""
-    return f'{seconds // 3600:02}:{seconds // 60 % 60:02}:{seconds % 60:02}'
+    """A time in print; one before midnight has a sign."""
+    sign, seconds = '-' if seconds < 0 else '', abs(seconds)
+    return f'{sign}{seconds // 3600:02}:{seconds // 60 % 60:02}:{seconds % 60:02}'
 
 
 def date_of(text: str) -> Optional[date]:

@@ -67,6 +67,14 @@ class Said:
             self.say(f'{in_one_line(source)}: this can be read again')
 
 
+def seconds_before(time: str) -> int:
+    """How many seconds before midnight a time lies; a sign stands before such a one."""
+    if not time.startswith('-'):
+        return 0
+    hours, minutes, seconds = (int(part) if part.isdecimal() else 0 for part in (*time[1:].split(':'), '', '')[:3])
+    return 3600 * hours + 60 * minutes + seconds
+
+
 @dataclass
 class Told:
     """What a message says of events, by place: when they happen, and which have happened, at the latest at a time."""
@@ -192,7 +200,11 @@ class Listener:
         place = self.network.event_place[name.event]
         if said is None or not said.keys() & {'time', 'delay'}:
             return last
-        at: int = said['time'] - self.named.begin if said.get('time') else self.network.events[place].time + said.get('delay', 0)
+        early = seconds_before(name.time)
+        at: int = said['time'] - self.named.begin if said.get('time') else self.network.events[place].time - early + said.get('delay', 0)
+        if early:
+            # It lies before midnight, and stands at midnight in the network.
+            at = max(0, at)
         if last is not None and at < last:
             self.said.tell('times that fall', f'{where}, {name.kind}')
             return last
@@ -209,7 +221,7 @@ class Listener:
             place = self.network.event_place[name.event]
             if self.rows.passed[place] is not None:
                 continue
-            if self.network.events[place].time + delay > now:
+            if self.network.events[place].time - seconds_before(name.time) + delay > now:
                 self.take_time(name, {'delay': delay}, None, told, f'{name.trip}, call {name.sequence}')
                 return
             told.past[place] = now
