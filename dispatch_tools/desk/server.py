@@ -24,7 +24,7 @@ from dispatch_tools.desk.screen import board_of, description, train_of
 from dispatch_tools.formats.files import BadFile
 from dispatch_tools.formats.markup import policy
 from dispatch_tools.live.http_server import Asks, BoundedHandler, BoundedServer
-from dispatch_tools.pictures.diagram import style
+from dispatch_tools.pictures.style import style
 
 WEB = os.path.join(os.path.dirname(os.path.abspath(__file__)), 'web')
 FILES = {'/': ('desk.html', 'text/html'), '/desk.css': ('desk.css', 'text/css'), '/desk.js': ('desk.js', 'text/javascript'),

@@ -13,27 +13,7 @@ from dispatch_tools.pictures.labels import Box, HIGH, Label, Labels, LARGE, leng
 from dispatch_tools.pictures.scene import (
     changes_of, CLASSES, clock_time, Conflict, conflicts_of, counted, distances, duration, lateness_class, lines_of, links_of, Scene, span_of_times,
 )
-
-# Colours that differ in lightness as well as in hue: on time, and the classes of lateness.
-COLOURS = ('#2f6db3', '#b8860b', '#d95f02', '#b2182b', '#5b0b3b')
-DARK = ('#7db5f0', '#e6c229', '#ff9e4a', '#ff6f6f', '#e58bd0')
-
-STYLE = '''
-.page{fill:#fff}text{font:12px system-ui,sans-serif;fill:#222}.title{font-size:15px;font-weight:600}
-.small{font-size:12px;paint-order:stroke;stroke:#fff;stroke-width:3;stroke-linejoin:round}
-.stop,.ten{stroke:#e2e2e2;stroke-width:1}.ten{stroke:#f0f0f0}.hour{stroke:#c4c4c4;stroke-width:1}
-.plan{fill:none;stroke:#9a9a9a;stroke-width:.8}.run{fill:none;stroke-width:2;stroke-linejoin:round}
-.kept,.dropped,.missed{fill:none;stroke-width:1.6;stroke-dasharray:2 3}.kept{stroke:#00735c}.dropped{stroke:#8a8a8a}
-.missed{stroke:#b2182b}.cross{stroke:#555;stroke-width:1.6}.turned{fill:#fff;stroke:#6a3d9a;stroke-width:1.6}
-.passed{fill:#222}.now{stroke:#6a3d9a;stroke-width:1.5;stroke-dasharray:6 3}
-.conflict{fill:#b2182b;stroke:#fff;stroke-width:1}.then,.chosen-then{fill:none;stroke:#00735c;stroke-width:1.8}.then{stroke-dasharray:7 4}
-'''
-DARK_STYLE = '''
-@media (prefers-color-scheme:dark){.page{fill:#16181c}text{fill:#e6e6e6}.small{stroke:#16181c}.stop,.ten{stroke:#2c2f36}.ten{stroke:#22252a}
-.hour{stroke:#4a4e57}.plan{stroke:#80858f}.kept{stroke:#3fd0a8}.dropped{stroke:#a0a0a0}.missed{stroke:#ff6f6f}
-.cross{stroke:#ccc}.turned{fill:#16181c;stroke:#c9a4ff}.passed{fill:#e6e6e6}.now{stroke:#c9a4ff}
-.conflict{fill:#ff6f6f;stroke:#16181c}.then,.chosen-then{stroke:#3fd0a8}}
-'''
+from dispatch_tools.pictures.style import style
 
 # The least room for the names of stops, and the room at the other edges.
 LEFT, RIGHT, TOP, BOTTOM = 130, 20, 64, 46
@@ -426,14 +406,6 @@ def legend(frame: Frame) -> Iterator[str]:
         y = TOP + frame.height + BOTTOM + 24 * number
         for x, mark, name in row:
             yield f'<g transform="translate({frame.left + x} {y})">{mark}</g><text x="{frame.left + x + 28}" y="{y + 4}">{name}</text>'
-
-
-def colour_rules(colours: Iterable[str]) -> str:
-    return ''.join(f'.l{kind}{{stroke:{colour}}}' for kind, colour in enumerate(colours))
-
-
-def style() -> str:
-    return STYLE + colour_rules(COLOURS) + DARK_STYLE[:-2] + colour_rules(DARK) + '}'
 
 
 def title_of(scene: Scene, line: Sequence[int]) -> str:

@@ -12,8 +12,9 @@ from dispatch_tools.model.messages import Inner, Node, PartNode
 from dispatch_tools.model.network import Choice
 from dispatch_tools.model.parts import branches_of, Part, places_of, PlanByParts
 from dispatch_tools.model.railway import Plan, ways_of
-from dispatch_tools.pictures.diagram import drawing, style, trains_on
+from dispatch_tools.pictures.diagram import drawing, trains_on
 from dispatch_tools.pictures.scene import clock_time, cost_parts, counted, lateness_class, lines_of, Scene
+from dispatch_tools.pictures.style import style
 
 # At most so many lines are drawn, nodes of trees shown, and items of a log listed, of longer ones as plain text, which is shorter.
 MOST_LINES = 8
