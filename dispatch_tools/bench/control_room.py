@@ -5,10 +5,11 @@
 Over a generated day it starts a server (`serve`) with two feeds, and the desk. With Debian's `chromium` it does a control room's
 work. It reports a delay on the page, and sees the reply, the train and the board move. It asks for a plan, compares it, and
 adopts it, or finds it old. It takes a correction back, and is asked if a colleague has said something since. It is asked before a
-slip of the hand is sent. It sees alerts, hands over, and looks what stands on two sizes of screens. It tries a window and the
-waiting rules. It looks that names which are scripts do nothing. It sends what must be refused: requests from another origin, without a token, too long, or with a path
-upwards. It kills the server and starts it again while the page is open. Then it measures the first picture, an entry from the
-feed to the screen, ten pages at once, and memory.
+slip of the hand is sent. It sees alerts and hands over. On two sizes of screens, by day and by night, it looks what stands there:
+the form, conflicts, the names of all trains, the trains of a line alone, clocks, units, and a plan in the diagram. It tries a window
+and the waiting rules. It looks that names which are scripts do nothing. It sends what must be refused: requests from another origin,
+without a token, too long, or with a path upwards. It kills the server, starts it again from the page, and closes the day. Then it
+measures the first picture, an entry from the feed to the screen, ten pages at once, and memory.
 
 It prints what differs, and the status is then 1. With --pictures it leaves pictures of the page in FOLDER, by day and by night.
 """
