@@ -16,21 +16,25 @@ pub struct CommandTable {
     pub options: u32,
 }
 
-/// An option with its bit, an example, and the limits of its number, where it has one.
+/// What stands behind the name of an option.
+#[derive(Clone, Copy)]
+pub enum OptionValue {
+    Number { least: u64, most: u64 },
+    Text,
+    Nothing,
+}
+
+/// An option with its bit and an example.
 #[derive(Clone, Copy)]
 pub struct OptionTable {
     pub bit: u32,
 
-    /// With the equals sign behind it.
+    /// With the equals sign behind it, where a value follows.
     pub name: &'static str,
 
     pub example: &'static str,
 
-    pub least: u64,
-
-    pub most: u64,
-
-    pub has_number: bool,
+    pub value: OptionValue,
 
     pub meaning: &'static str,
 }
@@ -65,6 +69,8 @@ const PLANS: u32 = 1024;
 const HELD: u32 = 2048;
 
 const MINIMAL: u32 = 4096;
+
+const SOLVE: u32 = 8192;
 
 const FILES: u32 = PENALTY
     + PLANS
@@ -122,14 +128,14 @@ pub const COMMANDS: [CommandTable; 9] = [
         form: "window DIR TEXT FROM TO BUDGET",
         least: 5,
         most: 5,
-        options: FILES + AT + HELD + MINIMAL,
+        options: FILES + AT + HELD + MINIMAL + SOLVE,
     },
     CommandTable {
         name: "rules",
         form: "rules DIR TEXT RULE BUDGET",
         least: 4,
         most: 4,
-        options: FILES + WORKERS,
+        options: FILES + WORKERS + SOLVE,
     },
     CommandTable {
         name: "journey",
@@ -141,123 +147,119 @@ pub const COMMANDS: [CommandTable; 9] = [
 ];
 
 /// All options.
-pub const OPTIONS: [OptionTable; 13] = [
+pub const OPTIONS: [OptionTable; 14] = [
     OptionTable {
         bit: PENALTY,
         name: "--penalty=",
         example: "--penalty=3600",
-        least: 0,
-        most: 1_000_000,
-        has_number: true,
+        value: OptionValue::Number {
+            least: 0,
+            most: 1_000_000,
+        },
         meaning: "seconds for each passenger who misses a change (3600)",
     },
     OptionTable {
         bit: PLANS,
         name: "--plans=",
         example: "--plans=16",
-        least: 1,
-        most: 4_096,
-        has_number: true,
+        value: OptionValue::Number {
+            least: 1,
+            most: 4_096,
+        },
         meaning: "how many plans a feed may have, 1 to 4096 (16)",
     },
     OptionTable {
         bit: BATCH,
         name: "--batch=",
         example: "--batch=16",
-        least: 1,
-        most: 1_000_000,
-        has_number: true,
+        value: OptionValue::Number {
+            least: 1,
+            most: 1_000_000,
+        },
         meaning: "lines of each feed that are answered in a round (16; of a server 1000)",
     },
     OptionTable {
         bit: BOARDS,
         name: "--boards=",
         example: "--boards=4,2",
-        least: 0,
-        most: 0,
-        has_number: false,
+        value: OptionValue::Text,
         meaning: "1 to 64 different stops, each with a board in DIR/board-STOP.txt",
     },
     OptionTable {
         bit: EVENT_COLUMNS,
         name: "--event-columns=",
         example: "--event-columns=id,periodic-id,type,time,weight,stop",
-        least: 0,
-        most: 0,
-        has_number: false,
+        value: OptionValue::Text,
         meaning: "the order of the columns of the events file",
     },
     OptionTable {
         bit: ACTIVITY_COLUMNS,
         name: "--activity-columns=",
         example: "--activity-columns=id,periodic-id,type,tail,head,lower,upper,weight",
-        least: 0,
-        most: 0,
-        has_number: false,
+        value: OptionValue::Text,
         meaning: "the order of the columns of the activities file",
     },
     OptionTable {
         bit: EVENT_DELAYS,
         name: "--event-delays=",
         example: "--event-delays=Delays-Events.giv",
-        least: 0,
-        most: 0,
-        has_number: false,
+        value: OptionValue::Text,
         meaning: "a file in DIR with delays of events at the start",
     },
     OptionTable {
         bit: ACTIVITY_DELAYS,
         name: "--activity-delays=",
         example: "--activity-delays=Delays-Activities.giv",
-        least: 0,
-        most: 0,
-        has_number: false,
+        value: OptionValue::Text,
         meaning: "a file in DIR with delays of activities at the start",
     },
     OptionTable {
         bit: CHANGES,
         name: "--changes=",
         example: "--changes=4",
-        least: 0,
-        most: 8,
-        has_number: true,
+        value: OptionValue::Number { least: 0, most: 8 },
         meaning: "the most changes of a journey (4)",
     },
     OptionTable {
         bit: WORKERS,
         name: "--workers=",
         example: "--workers=1",
-        least: 1,
-        most: 16,
-        has_number: true,
+        value: OptionValue::Number { least: 1, most: 16 },
         meaning: "how many search for a plan, 1 to 16 (1)",
     },
     OptionTable {
         bit: AT,
         name: "--at=",
         example: "--at=0",
-        least: 0,
-        most: 1_000_000,
-        has_number: true,
+        value: OptionValue::Number {
+            least: 0,
+            most: 1_000_000,
+        },
         meaning: "after how many entries a window is planned (all)",
     },
     OptionTable {
         bit: HELD,
         name: "--held=",
         example: "--held=5,6",
-        least: 0,
-        most: 0,
-        has_number: false,
+        value: OptionValue::Text,
         meaning: "1 to 4096 changes and headways whose choices a window leaves as they are",
     },
     OptionTable {
         bit: MINIMAL,
         name: "--minimal=",
         example: "--minimal=60000",
-        least: 0,
-        most: 18_446_744_073_709_551_615,
-        has_number: true,
+        value: OptionValue::Number {
+            least: 0,
+            most: 18_446_744_073_709_551_615,
+        },
         meaning: "gives choices of a window's plan back while that costs no more than this",
+    },
+    OptionTable {
+        bit: SOLVE,
+        name: "--solve",
+        example: "--solve",
+        value: OptionValue::Nothing,
+        meaning: "a plan by parts, of a window or beside a rule",
     },
 ];
 

@@ -2,7 +2,8 @@
 use crate::files::value_or;
 use crate::saying::{say, say_text, say_word};
 use crate::tables::{
-    ACTIVITY_WORDS, BATCH, CommandTable, EVENT_WORDS, OPTIONS, OptionTable, command_of, option_of,
+    ACTIVITY_WORDS, BATCH, CommandTable, EVENT_WORDS, OPTIONS, OptionTable, OptionValue,
+    command_of, option_of,
 };
 use crate::text::{number, part_at, shown};
 use dm_lintim::{ColumnFault, Columns};
@@ -78,16 +79,21 @@ fn is_wrong(table: CommandTable, before: &[String], word: &str) -> bool {
     option.bit & table.options == 0 || is_given(option, before) || !has_value(option, word)
 }
 
-/// Whether an option has a value that it may have; of lists only that they are not empty.
+/// Whether an option has a value that it may have, or none where it takes none; of lists only that they are not empty.
 fn has_value(option: OptionTable, word: &str) -> bool {
     let Some(value) = word.strip_prefix(option.name) else {
         return false;
     };
-    if !option.has_number {
-        return !value.is_empty();
+    match option.value {
+        OptionValue::Number { least, most } => is_within(least, most, value),
+        OptionValue::Text => !value.is_empty(),
+        OptionValue::Nothing => value.is_empty(),
     }
+}
+
+fn is_within(least: u64, most: u64, value: &str) -> bool {
     match number(value.as_bytes()) {
-        Some(value) => option.least <= value && value <= option.most,
+        Some(value) => least <= value && value <= most,
         None => false,
     }
 }
@@ -197,15 +203,27 @@ fn tell_value<R: Eprint>(
             ],
         );
     }
+    tell_limits(rt, place, name, option.value)
+}
+
+/// Says which values an option takes.
+fn tell_limits<R: Eprint>(rt: &R, place: usize, name: &str, value: OptionValue) -> io::Result<()> {
+    let OptionValue::Number { least, most } = value else {
+        return say_word(
+            rt,
+            place,
+            &[Piece::Text(name), Piece::Text(" takes no value")],
+        );
+    };
     say_word(
         rt,
         place,
         &[
             Piece::Text(name),
             Piece::Text(" takes "),
-            Piece::Number(option.least as u128),
+            Piece::Number(least as u128),
             Piece::Text(" to "),
-            Piece::Number(option.most as u128),
+            Piece::Number(most as u128),
         ],
     )
 }

@@ -1,10 +1,10 @@
 -- Words ask for one thing at most.
-use Rattle.std.proofs.Common.{◌<◌, arith, codes, eqb, eq-eqb, get_or, true, false, ◌≡◌, ℕ, List, [], ◌∷◌, Option, Some, None, Result, Ok, refl, sym, ap, subst, ◌∙◌}
+use Rattle.std.proofs.Common.{◌<◌, arith, codes, eqb, eq-eqb, get_or, Bool, true, false, ◌≡◌, ℕ, List, [], ◌∷◌, Option, Some, None, Result, Ok, refl, sym, ap, subst, ◌∙◌}
 use Rattle.std.specs.Char.{IsAsciiDigit}
 use Rattle.dm_lintim.specs.Columns.{FileColumns, ReadsFileColumns}
 use Rattle.dm_lintim.specs.declared.columns.ColumnFault.{ColumnFault}
 use Rattle.dm_lintim.proofs.WordLemmas.{columns_one}
-use Rattle.dm_words.specs.Options.{GivesOption, penalty_option, batch_option, boards_option, event_columns_option, activity_columns_option, event_delays_option, activity_delays_option, held_option}
+use Rattle.dm_words.specs.Options.{GivesOption, penalty_option, batch_option, boards_option, event_columns_option, activity_columns_option, event_delays_option, activity_delays_option, held_option, solve_option, HasFlag}
 use Rattle.dm_words.specs.Ids.{AreIdsOrNone}
 use Rattle.dm_words.specs.Values.{IsNumber, IsNumberOr, IsNumberOrNone}
 use Rattle.dm_words.specs.Words.{Command, FilesAsked, RunAsked, CheckAsked, GenAsked, QueryAsked, RunOf, CheckOf, GenOf, QueryOf, Asks, AsksFiles, AsksRun, AsksCheck, AsksGen, AsksQuery, IsPenalty, IsBatch, HasBoards, event_words, activity_words}
@@ -184,21 +184,28 @@ held_one words a b p q =
     let same = given_one held_option words p.value q.value p.given q.given in
     ids_one _ q.value a b (subst (λ (v : Option (List ℕ)). AreIdsOrNone _ v a) same p.are) q.are
 
-abbrev window_of : List ℕ → Option ℕ → ℕ → ℕ → ℕ → Option ℕ → WindowWords
-window_of held minimal from to budget at =
-    record { from = from; to = to; budget = budget; at = at; held = held; minimal = minimal }
+flag_one : (option : List ℕ) (words : List (List ℕ)) (x y : Bool) → HasFlag option words x → HasFlag option words y → x ≡ y
+flag_one option words true true p q = refl
+flag_one option words false false p q = refl
+flag_one option words true false p q = let e = p in let f = q in absurd cc
+flag_one option words false true p q = let e = p in let f = q in absurd cc
+
+abbrev window_of : Bool → List ℕ → Option ℕ → ℕ → ℕ → ℕ → Option ℕ → WindowWords
+window_of solve held minimal from to budget at =
+    record { from = from; to = to; budget = budget; at = at; held = held; minimal = minimal; solve = solve }
 
 window_one : (names words : List (List ℕ)) (x y : WindowWords) → AsksWindow x names words → AsksWindow y names words → x ≡ y
 window_one names words x y p q =
     let same = three_names p.from p.to p.budget q.from q.to q.budget (sym p.are_names ∙ q.are_names) in
     let to_is : IsNumber q.to x.from _ x.to = subst (λ (t : List ℕ). IsNumber t x.from _ x.to) same.1 p.is_to in
-    ap (λ held. window_of held x.minimal x.from x.to x.budget x.at) (held_one words x.held y.held p.held q.held)
-    ∙ (ap (λ minimal. window_of y.held minimal x.from x.to x.budget x.at) (may_have_one _ _ words x.minimal y.minimal p.minimal q.minimal)
-    ∙ four_same (window_of y.held y.minimal) x.from y.from x.to y.to x.budget y.budget x.at y.at
+    ap (λ solve. window_of solve x.held x.minimal x.from x.to x.budget x.at) (flag_one solve_option words x.solve y.solve p.solve q.solve)
+    ∙ (ap (λ held. window_of y.solve held x.minimal x.from x.to x.budget x.at) (held_one words x.held y.held p.held q.held)
+    ∙ (ap (λ minimal. window_of y.solve y.held minimal x.from x.to x.budget x.at) (may_have_one _ _ words x.minimal y.minimal p.minimal q.minimal)
+    ∙ four_same (window_of y.solve y.held y.minimal) x.from y.from x.to y.to x.budget y.budget x.at y.at
     (number_one q.from _ _ x.from y.from (subst (λ (t : List ℕ). IsNumber t _ _ x.from) same.0 p.is_from) q.is_from)
     (to_is.is ∙ sym q.is_to.is)
     (number_one q.budget _ _ x.budget y.budget (subst (λ (t : List ℕ). IsNumber t _ _ x.budget) same.2 p.is_budget) q.is_budget)
-    (may_have_one _ _ words x.at y.at p.at q.at))
+    (may_have_one _ _ words x.at y.at p.at q.at)))
 
 -- no number is spelled by a letter
 no_number : (word : List ℕ) (least most n letter : ℕ) (letters : List ℕ) → word ≡ letter ∷ letters → 57 < letter → IsNumber word least most n → ⊥
@@ -218,10 +225,11 @@ rule_one word (AtMost k) Never p q = absurd (no_number word _ _ k 110 (codes "ev
 rule_one word Always (AtMost l) p q = absurd (no_number word _ _ l 97 (codes "lways") p (omega arith) q)
 rule_one word (AtMost k) Always p q = absurd (no_number word _ _ k 97 (codes "lways") q (omega arith) p)
 
-rules_are : (x y : RulesWords) → x.rule ≡ y.rule → x.budget ≡ y.budget → x.workers ≡ y.workers → x ≡ y
-rules_are x y rule budget workers =
+rules_are : (x y : RulesWords) → x.rule ≡ y.rule → x.budget ≡ y.budget → x.workers ≡ y.workers → x.solve ≡ y.solve → x ≡ y
+rules_are x y rule budget workers solve =
     ap (λ v. record x { rule = v }) rule
-    ∙ (ap (λ v. record x { rule = y.rule; budget = v }) budget ∙ ap (λ v. record y { workers = v }) workers)
+    ∙ (ap (λ v. record x { rule = y.rule; budget = v }) budget
+    ∙ (ap (λ v. record y { solve = x.solve; workers = v }) workers ∙ ap (λ v. record y { solve = v }) solve))
 
 rules_one : (names words : List (List ℕ)) (x y : RulesWords) → AsksRules x names words → AsksRules y names words → x ≡ y
 rules_one names words x y p q =
@@ -231,6 +239,7 @@ rules_one names words x y p q =
     rules_are x y (rule_one q.rule x.rule y.rule (subst (λ (t : List ℕ). IsRule t x.rule) rule p.is_rule) q.is_rule)
     (number_one q.budget _ _ x.budget y.budget (subst (λ (t : List ℕ). IsNumber t _ _ x.budget) budget p.is_budget) q.is_budget)
     (option_one _ _ _ _ words x.workers y.workers p.workers q.workers)
+    (flag_one solve_option words x.solve y.solve p.solve q.solve)
 
 -- each kind of question is asked in one way
 own_one : (names words : List (List ℕ)) (x y : Query) → kind_of x ≡ kind_of y → AsksOwn x names words → AsksOwn y names words → x ≡ y

@@ -1,8 +1,8 @@
 -- Words that are names and words that are options.
 --
--- An option is a word `--NAME=VALUE`, wherever it stands after the command word. Each name stands at most once, and no
--- value is empty.
-use Rattle.std.specs.Prelude.{ℕ, ◌≡◌, ◌≢◌, Bool, false, not, ◌==◌, if◌then◌else◌, List, [], ◌∷◌, take, drop, length, Option, Some, None, is_some, codes}
+-- An option is a word `--NAME=VALUE`, or the word `--solve`, wherever it stands after the command word. Each name stands at most
+-- once, and no value is empty.
+use Rattle.std.specs.Prelude.{ℕ, ◌≡◌, ◌≢◌, Bool, true, false, not, ◌==◌, if◌then◌else◌, List, [], ◌∷◌, take, drop, length, Option, Some, None, is_some, codes}
 use Rattle.std.specs.List.{filter_map, list_any}
 use Rattle.std.specs.Str.{bytes_eq}
 use Rattle.dm_words.specs.declared.options.Kind.{Kind}
@@ -49,6 +49,10 @@ changes_option = codes "--changes="
 abbrev pub workers_option : List ℕ
 workers_option = codes "--workers="
 
+-- the option that has no value
+abbrev pub solve_option : List ℕ
+solve_option = codes "--solve"
+
 -- the options of the files of a folder
 abbrev pub file_options : List (List ℕ)
 file_options =
@@ -61,8 +65,8 @@ options_of Run = batch_option ∷ workers_option ∷ boards_option ∷ file_opti
 options_of Check = file_options
 options_of Gen = penalty_option ∷ []
 options_of (Query Follow) = file_options
-options_of (Query Window) = at_option ∷ held_option ∷ minimal_option ∷ file_options
-options_of (Query Rules) = workers_option ∷ file_options
+options_of (Query Window) = at_option ∷ held_option ∷ minimal_option ∷ solve_option ∷ file_options
+options_of (Query Rules) = workers_option ∷ solve_option ∷ file_options
 options_of (Query Journey) = changes_option ∷ file_options
 
 -- what stands behind the text, where the word begins with it
@@ -86,3 +90,8 @@ values_of option words = filter_map (behind option) words
 abbrev pub GivesOption : List ℕ → List (List ℕ) → Option (List ℕ) → Type 0
 GivesOption option words None = values_of option words ≡ []
 GivesOption option words (Some value) = (values_of option words ≡ value ∷ []) × (value ≢ [])
+
+-- whether the words have an option that takes no value
+abbrev pub HasFlag : List ℕ → List (List ℕ) → Bool → Type 0
+HasFlag option words true = values_of option words ≡ [] ∷ []
+HasFlag option words false = values_of option words ≡ []

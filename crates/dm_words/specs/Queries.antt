@@ -2,7 +2,7 @@
 -- `rules DIR TEXT RULE BUDGET` or `journey DIR TEXT FROM TO AFTER`.
 use Rattle.std.specs.Prelude.{ℕ, ◌≡◌, List, [], ◌∷◌, Option, codes}
 use Rattle.dm_base.specs.declared.limits.TheConstants.{BUDGET, PASSED_TIME, TIME, WORKERS}
-use Rattle.dm_words.specs.Options.{GivesOption, at_option, changes_option, held_option, minimal_option, workers_option}
+use Rattle.dm_words.specs.Options.{GivesOption, HasFlag, at_option, changes_option, held_option, minimal_option, solve_option, workers_option}
 use Rattle.dm_words.specs.Ids.{AreIdsOrNone}
 use Rattle.dm_words.specs.Values.{IsNumber, IsNumberOr, IsNumberOrNone}
 use Rattle.dm_words.specs.declared.options.QueryKind.{QueryKind}
@@ -50,7 +50,7 @@ pub record HasHeld (words : List (List ℕ)) (held : List ℕ) : Type 0 where
   pub are : AreIdsOrNone HELD value held
 
 -- the names are two times, the second no earlier than the first, and a budget; the words may name an entry and activities whose
--- choices are held, and say which choices are given back
+-- choices are held, and say which choices are given back, and whether the plan is one by parts
 pub record AsksWindow (window : WindowWords) (names words : List (List ℕ)) : Type 0 where
   pub from : List ℕ
   pub to : List ℕ
@@ -62,6 +62,7 @@ pub record AsksWindow (window : WindowWords) (names words : List (List ℕ)) : T
   pub at : HasEntry words window.at
   pub held : HasHeld words window.held
   pub minimal : HasMinimal words window.minimal
+  pub solve : HasFlag solve_option words window.solve
 
 -- the word of a waiting rule
 abbrev pub IsRule : List ℕ → RuleWord → Type 0
@@ -79,7 +80,7 @@ pub record HasNumber (option : List ℕ) (least most standard : ℕ) (words : Li
 abbrev pub HasWorkers : List (List ℕ) → ℕ → Type 0
 HasWorkers words workers = HasNumber workers_option 1 WORKERS STANDARD_WORKERS words workers
 
--- the names are a rule and a budget, and the words give the workers
+-- the names are a rule and a budget, and the words give the workers and say whether the plan is one by parts
 pub record AsksRules (rules : RulesWords) (names words : List (List ℕ)) : Type 0 where
   pub rule : List ℕ
   pub budget : List ℕ
@@ -87,6 +88,7 @@ pub record AsksRules (rules : RulesWords) (names words : List (List ℕ)) : Type
   pub is_rule : IsRule rule rules.rule
   pub is_budget : IsNumber budget 1 BUDGET rules.budget
   pub workers : HasWorkers words rules.workers
+  pub solve : HasFlag solve_option words rules.solve
 
 -- the most changes of a journey
 abbrev pub HasChanges : List (List ℕ) → ℕ → Type 0

@@ -1,9 +1,9 @@
 //! Words that are names, and words that are options.
-ghost use Rattle.std.specs.Prelude.{◌≡◌, ◌∷◌, [], ◌||◌, ℕ, Option, List, Some, None, map, filter, length, string_bytes, MatchOption};
+ghost use Rattle.std.specs.Prelude.{Bool, ◌≡◌, ◌∷◌, [], ◌||◌, ℕ, Option, List, Some, None, map, filter, length, string_bytes, MatchOption};
 ghost use Rattle.std.specs.Option.{option_map};
 ghost use Rattle.std.specs.List.{list_all};
 ghost use Rattle.dm_words.specs.Asked.{names_in};
-ghost use Rattle.dm_words.specs.Options.{GivesOption, behind, file_options, is_name, is_option, options_of, values_of};
+ghost use Rattle.dm_words.specs.Options.{GivesOption, HasFlag, at_option, behind, file_options, held_option, is_name, is_option, minimal_option, options_of, solve_option, values_of};
 
 /// How the word of each option begins.
 pub const PENALTY_OPTION: &str = "--penalty=";
@@ -31,6 +31,9 @@ pub const MINIMAL_OPTION: &str = "--minimal=";
 pub const CHANGES_OPTION: &str = "--changes=";
 
 pub const WORKERS_OPTION: &str = "--workers=";
+
+/// The option that has no value.
+pub const SOLVE_OPTION: &str = "--solve";
 
 /// A question to the journal of a text.
 #[derive(Clone, Copy, PartialEq, Eq, Debug)]
@@ -78,6 +81,17 @@ fn is_file_option(word: &str) -> bool
         || behind(ACTIVITY_DELAYS, word).is_some()
 }
 
+/// Whether the word is an option of a window.
+fn is_window_option(word: &str) -> bool
+    ensures { result ≡ is_option (at_option ∷ held_option ∷ minimal_option ∷ solve_option ∷ file_options) word.now }
+{
+    behind(AT_OPTION, word).is_some()
+        || behind(HELD_OPTION, word).is_some()
+        || behind(MINIMAL_OPTION, word).is_some()
+        || behind(SOLVE_OPTION, word).is_some()
+        || is_file_option(word)
+}
+
 /// Whether the word is an option of the command.
 fn is_option(kind: Kind, word: &str) -> bool
     ensures { result ≡ is_option (options_of kind) word.now }
@@ -91,14 +105,11 @@ fn is_option(kind: Kind, word: &str) -> bool
         }
         Kind::Check | Kind::Query(QueryKind::Follow) => is_file_option(word),
         Kind::Gen => behind(PENALTY_OPTION, word).is_some(),
-        Kind::Query(QueryKind::Window) => {
-            behind(AT_OPTION, word).is_some()
-                || behind(HELD_OPTION, word).is_some()
-                || behind(MINIMAL_OPTION, word).is_some()
-                || is_file_option(word)
-        }
+        Kind::Query(QueryKind::Window) => is_window_option(word),
         Kind::Query(QueryKind::Rules) => {
-            behind(WORKERS_OPTION, word).is_some() || is_file_option(word)
+            behind(WORKERS_OPTION, word).is_some()
+                || behind(SOLVE_OPTION, word).is_some()
+                || is_file_option(word)
         }
         Kind::Query(QueryKind::Journey) => {
             behind(CHANGES_OPTION, word).is_some() || is_file_option(word)
@@ -143,6 +154,20 @@ pub fn given<'a>(option: &str, words: &'a [String]) -> Option<Option<&'a str>>
         return None;
     }
     Some(Some(value))
+}
+
+/// Whether the words have an option that takes no value, which stands at most once.
+pub fn has_flag(option: &str, words: &[String]) -> Option<bool>
+    ensures { MatchOption result ((has : Bool) → HasFlag option.now (map string_bytes words.now) has → ⊥)
+        (λ has. HasFlag option.now (map string_bytes words.now) has) }
+{
+    let Some((value, rest)) = next_value(option, words) else {
+        return Some(false);
+    };
+    if !value.is_empty() || next_value(option, rest).is_some() {
+        return None;
+    }
+    Some(true)
 }
 
 /// The first of the words that is a name, and the words behind it.

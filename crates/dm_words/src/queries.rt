@@ -8,8 +8,8 @@ ghost use Rattle.dm_words.specs.Words.{AsksQuery, QueryAsked};
 use crate::files::{FileWords, number_of, number_or, read_files};
 use crate::ids::{Ids, ids_of};
 use crate::options::{
-    AT_OPTION, CHANGES_OPTION, HELD_OPTION, Kind, MINIMAL_OPTION, QueryKind, WORKERS_OPTION,
-    are_known, given, next_name, three_names, two_names,
+    AT_OPTION, CHANGES_OPTION, HELD_OPTION, Kind, MINIMAL_OPTION, QueryKind, SOLVE_OPTION,
+    WORKERS_OPTION, are_known, given, has_flag, next_name, three_names, two_names,
 };
 use dm_base::limits::{BUDGET, PASSED_TIME, TIME, WORKERS};
 
@@ -56,6 +56,9 @@ pub struct RulesWords {
 
     /// How many workers search, from 1 to 16.
     pub workers: u32,
+
+    /// Whether the plan is one by parts.
+    pub solve: bool,
 }
 
 /// A journey from one stop to another.
@@ -91,6 +94,9 @@ pub struct WindowWords<'a> {
 
     /// In thousandths of passenger seconds: choices that are worth less are given back, or none are.
     pub minimal: Option<u64>,
+
+    /// Whether the plan is one by parts.
+    pub solve: bool,
 }
 
 /// What is asked of a journal.
@@ -183,10 +189,14 @@ fn read_rules(names: &[String], words: &[String]) -> Option<RulesWords>
     let Some(workers) = workers_of(words) else {
         return None;
     };
+    let Some(solve) = has_flag(SOLVE_OPTION, words) else {
+        return None;
+    };
     Some(RulesWords {
         rule,
         budget,
         workers: workers as u32,
+        solve,
     })
 }
 
@@ -307,6 +317,9 @@ fn read_window<'a>(names: &'a [String], words: &'a [String]) -> Option<WindowWor
     let Some(minimal) = minimal_of(words) else {
         return None;
     };
+    let Some(solve) = has_flag(SOLVE_OPTION, words) else {
+        return None;
+    };
     Some(WindowWords {
         from,
         to,
@@ -314,6 +327,7 @@ fn read_window<'a>(names: &'a [String], words: &'a [String]) -> Option<WindowWor
         at,
         held,
         minimal,
+        solve,
     })
 }
 

@@ -8,3 +8,6 @@ returns-in_default-held_of c = λ window asks. c.in_default-held_of.ensures _ as
 
 pub returns-in_default-minimal_of : goal.returns-in_default-minimal_of
 returns-in_default-minimal_of c = λ window asks. c.in_default-minimal_of.ensures _ asks.minimal
+
+pub returns-in_default-has_flag : goal.returns-in_default-has_flag
+returns-in_default-has_flag c = λ window asks. c.in_default-has_flag.ensures _ asks.solve
