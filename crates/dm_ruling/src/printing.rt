@@ -1,10 +1,13 @@
 //! A comparison in print.
-ghost use Rattle.std.specs.Prelude.{◌≤◌};
+ghost use Rattle.std.specs.Prelude.{◌≤◌, codes};
 ghost use Rattle.dm_outside.specs.Printing.{Prints, Puts};
-ghost use Rattle.dm_ruling.specs.Texts.{comparison_text, compared_text, cost_text, gap_text, rule_text};
+ghost use Rattle.dm_waitrule.specs.Kinds.{bound_of};
+ghost use Rattle.dm_ruling.specs.Texts.{comparison_text, compared_text, cost_text, gap_line, gap_text, rule_text};
 
+use dm_base::Cost;
 use dm_cert::put_choices;
 use dm_outside::{Page, Piece, Sink, WriteFault};
+use dm_parts::AnyPlan;
 use dm_report::put_labelled;
 use dm_tree::Mark;
 use dm_waitrule::{Comparison, WaitRule};
@@ -16,7 +19,7 @@ pub fn print_comparison<K: Sink>(
     compared: &Comparison,
     sink: &mut K,
 ) -> Result<(), WriteFault>
-    requires { compared.now.plan.bound ≤ compared.now.cost }
+    requires { bound_of compared.now.plan ≤ compared.now.cost }
     ensures { Puts K.taken K.faults sink.old sink.new result (comparison_text rule compared.now) }
 {
     let mut page = Page::new();
@@ -47,7 +50,7 @@ fn put_compared<K: Sink>(
     page: &mut Page,
     compared: &Comparison,
 ) -> Result<(), WriteFault>
-    requires { compared.now.plan.bound ≤ compared.now.cost }
+    requires { bound_of compared.now.plan ≤ compared.now.cost }
     ensures { Prints K.taken K.faults sink.old sink.new page.old page.new result (compared_text compared.now) }
 {
     let Ok(()) = put_cost(sink, page, compared) else {
@@ -56,7 +59,7 @@ fn put_compared<K: Sink>(
     let Ok(()) = put_choices(sink, page, compared.choices.as_slice()) else {
         return Err(WriteFault);
     };
-    put_gap(sink, page, compared)
+    put_gap(sink, page, compared.cost, &compared.plan)
 }
 
 // Prints what the rows cost by the rule, and how many choices follow.
@@ -72,20 +75,61 @@ fn put_cost<K: Sink>(sink: &mut K, page: &mut Page, compared: &Comparison) -> Re
 }
 
 // Prints the plan, and by how much the rule's cost is above its bound.
-#[tactic(auto, unfolding(crate::specs::Texts::gap_text))]
-fn put_gap<K: Sink>(sink: &mut K, page: &mut Page, compared: &Comparison) -> Result<(), WriteFault>
-    requires { compared.now.plan.bound ≤ compared.now.cost }
-    ensures { Prints K.taken K.faults sink.old sink.new page.old page.new result (gap_text compared.now) }
+fn put_gap<K: Sink>(
+    sink: &mut K,
+    page: &mut Page,
+    cost: Cost,
+    plan: &AnyPlan,
+) -> Result<(), WriteFault>
+    requires { bound_of plan.now ≤ cost }
+    ensures { Prints K.taken K.faults sink.old sink.new page.old page.new result (gap_text cost plan.now) }
 {
-    let (cost, bound) = (compared.plan.cost, compared.plan.bound);
-    let mark = match compared.plan.mark {
+    match plan {
+        AnyPlan::Whole(plan) => {
+            let above = cost - plan.bound;
+            put_plan(sink, page, plan.mark, plan.cost, plan.bound, above)
+        }
+        AnyPlan::ByParts(plan) => {
+            let above = cost - plan.bound;
+            put_solved(sink, page, plan.mark, plan.cost, plan.bound, above)
+        }
+    }
+}
+
+#[tactic(auto, unfolding(crate::specs::Texts::gap_line))]
+fn put_plan<K: Sink>(
+    sink: &mut K,
+    page: &mut Page,
+    mark: Mark,
+    cost: Cost,
+    bound: Cost,
+    above: Cost,
+) -> Result<(), WriteFault>
+    ensures { Prints K.taken K.faults sink.old sink.new page.old page.new result (gap_line (codes "plan ") mark cost bound above) }
+{
+    let word = match mark {
         Mark::Optimal => "plan optimal cost ",
         Mark::Open => "plan open cost ",
     };
-    let numbers = [
-        (mark, cost),
-        (" bound ", bound),
-        ("\ngap ", compared.cost - bound),
-    ];
+    let numbers = [(word, cost), (" bound ", bound), ("\ngap ", above)];
+    put_labelled(sink, page, &numbers, "\n")
+}
+
+#[tactic(auto, unfolding(crate::specs::Texts::gap_line))]
+fn put_solved<K: Sink>(
+    sink: &mut K,
+    page: &mut Page,
+    mark: Mark,
+    cost: Cost,
+    bound: Cost,
+    above: Cost,
+) -> Result<(), WriteFault>
+    ensures { Prints K.taken K.faults sink.old sink.new page.old page.new result (gap_line (codes "solved ") mark cost bound above) }
+{
+    let word = match mark {
+        Mark::Optimal => "solved optimal cost ",
+        Mark::Open => "solved open cost ",
+    };
+    let numbers = [(word, cost), (" bound ", bound), ("\ngap ", above)];
     put_labelled(sink, page, &numbers, "\n")
 }

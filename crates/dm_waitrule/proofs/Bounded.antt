@@ -14,9 +14,12 @@ use Rattle.dm_rows.specs.Rows.{RowsValue, IsSized, kept_at}
 use Rattle.dm_paths.specs.Decisions.{change_decision}
 use Rattle.dm_paths.proofs.Apart.{map_through}
 use Rattle.dm_paths.proofs.Naming.{change_decides}
-use Rattle.dm_tree.specs.declared.plans.Plan.{Plan}
-use Rattle.dm_tree.specs.Plans.{Task, whole_task, AreSomeOf, IsTruePlan}
-use Rattle.dm_search.specs.Laws.{IsTask}
+use Rattle.dm_tree.specs.Plans.{Task, whole_task, AreSomeOf}
+use Rattle.dm_parts.specs.declared.kinds.AnyPlan.{AnyPlan}
+use Rattle.dm_parts.specs.declared.kinds.AnyPlan.TheVariants.{Whole, ByParts}
+use Rattle.dm_waitrule.specs.Kinds.{bound_of, IsTrueAny}
+use Rattle.dm_part_bounds.proofs.Low.{bounds_by_parts_hold}
+use Rattle.dm_search.specs.Laws.{IsTask, CostsWithin}
 use Rattle.dm_search.proofs.Optimal.{chosen, bound_is_low, whole_is_task}
 use Rattle.dm_waitrule.specs.declared.rule.WaitRule.{WaitRule}
 use Rattle.dm_waitrule.specs.Rules.{limit_of, with_dropped, Follows, is_decided_otherwise, differences_to, AreRuled, AreRuleChoices}
@@ -57,6 +60,11 @@ module _ (item : ℕ → Choice) (wide narrow : ℕ → Bool) (wider : (a : ℕ)
             ])
       ]
 
+-- no choices allowed cost less than the bound of a true plan of either kind
+low : (task : Task) (plan : AnyPlan) (choices : List Decision) (c : ℕ) → IsTask task → IsTrueAny task plan → CostsWithin task choices c → bound_of plan ≤ c
+low task (Whole plan) choices c is_task is_true costs = bound_is_low task is_task plan choices c is_true costs
+low task (ByParts plan) choices c is_task is_true costs = bounds_by_parts_hold.plan task plan choices c is_task is_true costs
+
 module _ (net : Net) (network : IsNetwork net) (rows : RowsValue) where
   some_free : (ruled : RowsValue) → AreSomeOf (free_choices_of net rows) (map choice_of (differences_to net rows ruled))
   some_free ruled =
@@ -82,15 +90,15 @@ module _ (net : Net) (network : IsNetwork net) (rows : RowsValue) where
         subst (HasNoCycle net) (sym (ap (with_decisions net rows) is.differ ∙ rows_with sized rule is.ruled is.are_ruled))
         (open_ruled net (limit_of rule) rows is.ruled is.are_ruled.order none is.are_ruled.follows)
 
-    pub no_less : (penalty budget c : ℕ) (plan : Plan) → Costs net (with_decisions net rows choices) penalty c →
-        IsTruePlan (whole_task net rows penalty budget) plan → plan.bound ≤ c
+    pub no_less : (penalty budget c : ℕ) (plan : AnyPlan) → Costs net (with_decisions net rows choices) penalty c →
+        IsTrueAny (whole_task net rows penalty budget) plan → bound_of plan ≤ c
     no_less penalty budget c plan costs is_true =
         let task : Task = whole_task net rows penalty budget in
         let is_task : IsTask task = whole_is_task net rows penalty budget network sized in
         let some : AreSomeOf task.allowed (map choice_of choices) =
         subst (λ ds. AreSomeOf (free_choices_of net rows) (map choice_of ds)) (sym is.differ) (some_free is.ruled) in
         let list = chosen task is_task choices some in
-        bound_is_low task is_task plan choices c is_true
+        low task plan choices c is_task is_true
         (record { decides = list.0; allowed = list.1; cost = record { no_cycle = no_cycle_with; cost = costs } })
 
 -- ---- a comparison
@@ -102,7 +110,7 @@ are_choices net rows rule ruled other are same choices differ =
 
 pub compares : (net : Net) → IsNetwork net → (rows : RowsValue) → IsSized net rows → HasNoCycle net rows → (rule : WaitRule) (penalty budget : ℕ)
     (ruled : RowsValue) → AreRuled net rows rule ruled → (compared : Comparison) → compared.choices ≡ differences_to net rows ruled →
-    Costs net ruled penalty compared.cost → IsTruePlan (whole_task net rows penalty budget) compared.plan → Compares net rows penalty budget rule compared
+    Costs net ruled penalty compared.cost → IsTrueAny (whole_task net rows penalty budget) compared.plan → Compares net rows penalty budget rule compared
 compares net network rows sized none rule penalty budget ruled are compared differ costs plan =
     let is : AreRuleChoices net rows rule compared.choices = are_choices net rows rule ruled ruled are refl compared.choices differ in
     let set : with_decisions net rows compared.choices ≡ ruled = ap (with_decisions net rows) differ ∙ rows_with net network rows sized rule ruled are in

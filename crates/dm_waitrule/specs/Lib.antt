@@ -1,4 +1,5 @@
 -- What a waiting rule keeps: its order of the free changes, its rows and its choices.
+pub mod Kinds
 pub mod Rules
 pub mod Laws
 -- A rule set beside a plan.
