@@ -27,7 +27,7 @@ impl Gains {
     }
 }
 
-/// What a choice gained where it was tried, added up.
+/// What a choice gained where it was tried last, and how often it was tried.
 #[derive(Clone, Copy)]
 pub struct Tries {
     first: Cost,
@@ -45,18 +45,21 @@ impl Tries {
         }
     }
 
-    /// Adds gains, none of which counts for more than the cap.
-    pub fn add(&mut self, gains: Gains, cap: Cost) {
-        self.first = self.first.saturating_add(gains.first.min(cap));
-        self.second = self.second.saturating_add(gains.second.min(cap));
+    /// Notes what it gains where it is tried now.
+    pub fn note(&mut self, gains: Gains) {
+        self.first = gains.first;
+        self.second = gains.second;
         self.many = self.many.saturating_add(1);
     }
 
-    /// The mean of what it gained, if it was tried.
+    /// What it gained last, if it was tried.
     pub fn gains(&self) -> Option<Gains> {
+        if self.many == 0 {
+            return None;
+        }
         Some(Gains {
-            first: self.first.checked_div(self.many)?,
-            second: self.second.checked_div(self.many)?,
+            first: self.first,
+            second: self.second,
         })
     }
 }

@@ -1,8 +1,8 @@
-//! A part, and its tree that grows.
+//! A tree over the choices that move some terms of the cost.
 
 use crate::gaining::{Gains, Tries, try_both};
 use dm_base::Cost;
-use dm_probe::{Mover, Share, Side};
+use dm_probe::{Mover, Side};
 use std::alloc::{AllocError, Global};
 use std::collections::BinaryHeap;
 
@@ -46,12 +46,11 @@ pub struct Narrow {
     is_done: bool,
 }
 
-/// Some terms of the cost, and a tree over choices that move them.
-pub struct Part {
+/// A tree over choices that move some terms of the cost.
+pub struct Tree {
     pub(crate) alloc: Global,
-    pub(crate) share: Share,
 
-    /// The numbers of the choices on which the tree may branch, and what each gained when it was tried.
+    /// The numbers of the choices on which the tree may branch, and what each gained when it was tried last.
     pub(crate) candidates: Vec<usize>,
     tries: Vec<Tries>,
     pub(crate) nodes: Vec<Grown>,
@@ -73,11 +72,10 @@ pub struct Part {
     solved: Option<usize>,
 }
 
-impl Drop for Part {
+impl Drop for Tree {
     fn drop(self) {
-        let Part {
+        let Tree {
             alloc: _,
-            share: _,
             candidates: _,
             tries: _,
             nodes: _,
@@ -93,12 +91,11 @@ impl Drop for Part {
     }
 }
 
-impl Part {
-    /// The part of a share whose tree may branch on these choices. No tree stands yet, and no plan is known.
-    pub fn new(alloc: Global, share: Share, candidates: Vec<usize>) -> Result<Part, AllocError> {
-        Ok(Part {
+impl Tree {
+    /// A tree that may branch on these choices. No node stands yet, and no plan is known.
+    pub fn new(alloc: Global, candidates: Vec<usize>) -> Result<Tree, AllocError> {
+        Ok(Tree {
             alloc,
-            share,
             tries: vec![in alloc; Tries::none(); candidates.len()]?,
             candidates,
             nodes: Vec::new(alloc),
@@ -117,10 +114,6 @@ impl Part {
     pub fn plan_at(&mut self, cost: Cost) {
         self.planned = cost;
         self.best = self.best.min(cost);
-    }
-
-    pub fn share(&self) -> &Share {
-        &self.share
     }
 
     /// The numbers of the choices on which the tree may branch.
@@ -233,10 +226,9 @@ impl Part {
             .unwrap_or(Cost::MAX)
     }
 
-    /// Expands the cheapest leaf as long as the tree then has at most so many nodes. The mover stands at the root, with no share
+    /// Expands the cheapest leaf as long as the tree then has at most so many nodes. The mover stands at the root, with the share
     /// loaded, before and after.
     pub fn grow(&mut self, mover: &mut Mover<'_>, most: usize) -> Result<(), AllocError> {
-        mover.load(&self.share)?;
         self.begin(mover)?;
         for _ in 0..most.saturating_add(1) {
             if !self.step(mover, most)? {
@@ -244,7 +236,6 @@ impl Part {
             }
         }
         self.leave(mover);
-        mover.unload(&self.share);
         Ok(())
     }
 
@@ -338,7 +329,7 @@ impl Part {
         Ok(places)
     }
 
-    /// How much a choice promises by what it gained before. It is tried if it never was.
+    /// How much a choice promises by what it gained last. It is tried if it never was.
     fn promise(&mut self, mover: &mut Mover<'_>, place: usize, cost: Cost) -> Cost {
         let gains = self.tries.get(place).and_then(|tries| tries.gains());
         match gains {
@@ -353,11 +344,10 @@ impl Part {
             return 0;
         };
         let gains = try_both(mover, number, cost);
-        let cap = self.best;
         if let Some(tries) = self.tries.get_mut(place) {
-            tries.add(gains, cap);
+            tries.note(gains);
         }
-        gains.promise(cap.saturating_sub(cost))
+        gains.promise(self.best.saturating_sub(cost))
     }
 
     fn try_anew(&mut self, mover: &mut Mover<'_>, promises: &mut [Promise], cost: Cost) {
@@ -383,9 +373,8 @@ impl Part {
         }
         let first = self.child(mover, node, number, Side::First)?;
         let second = self.child(mover, node, number, Side::Second)?;
-        let cap = self.best;
         if let Some(tries) = self.tries.get_mut(place) {
-            tries.add(Gains::over(cost, first, second), cap);
+            tries.note(Gains::over(cost, first, second));
         }
         Ok(())
     }

@@ -6,7 +6,8 @@
 //!
 //! # What is promised
 //!
-//! All calls are safe and end. They answer `AllocError` for want of memory alone.
+//! All calls are safe and end. They answer `AllocError` for want of memory alone. The value of a part is its terms: no call
+//! changes them, also where memory is missing.
 //!
 //! - [`Part::new`] makes a part of a share and of the numbers of choices. No tree stands yet.
 //! - [`Part::plan_at`] says what a plan costs over the share. No leaf that costs as much is branched on.
@@ -19,8 +20,10 @@
 
 mod gaining;
 mod growing;
+mod parts;
 mod telling;
 mod walking;
 
-pub use growing::{Narrow, Part};
+pub use growing::Narrow;
+pub use parts::Part;
 pub use telling::{PartTree, TreeNode};

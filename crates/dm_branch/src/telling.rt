@@ -1,6 +1,6 @@
 //! What a part's tree says, over the terms that it moves.
 
-use crate::growing::Part;
+use crate::growing::Tree;
 use dm_base::{Cost, Secs};
 use dm_probe::{Arrival, Connection, Mover, Share};
 use dm_rows::Choice;
@@ -59,14 +59,19 @@ impl Drop for Moved {
     }
 }
 
-impl Part {
-    /// The tree, where it has more than one node. The mover stands at the root, with no share loaded, before and after.
-    pub fn tell(&mut self, mover: &mut Mover<'_>) -> Result<Option<PartTree>, AllocError> {
+impl Tree {
+    /// The tree over all these terms, where it has more than one node. The mover stands at the root, with no share loaded, before
+    /// and after.
+    pub fn tell(
+        &mut self,
+        all: &Share,
+        mover: &mut Mover<'_>,
+    ) -> Result<Option<PartTree>, AllocError> {
         if self.size() == 0 {
             return Ok(None);
         }
         let order = self.preorder()?;
-        let share = self.moved_share(mover, &order)?;
+        let share = self.moved_share(all, mover, &order)?;
         mover.load(&share)?;
         let mut tree = PartTree {
             share,
@@ -103,21 +108,26 @@ impl Part {
     }
 
     /// The terms that some leaf moves.
-    fn moved_share(&mut self, mover: &mut Mover<'_>, order: &[usize]) -> Result<Share, AllocError> {
+    fn moved_share(
+        &mut self,
+        all: &Share,
+        mover: &mut Mover<'_>,
+        order: &[usize],
+    ) -> Result<Share, AllocError> {
         mover.settle();
-        let mut moved = self.at_root(mover)?;
+        let mut moved = self.at_root(all, mover)?;
         for node in order {
             if self.is_leaf(*node) && self.go_to(mover, *node)? {
                 mover.settle();
-                self.note_arrivals(mover, &mut moved);
-                self.note_connections(mover, &mut moved);
+                note_arrivals(all, mover, &mut moved);
+                note_connections(all, mover, &mut moved);
             }
         }
         self.leave(mover);
-        self.note_branched(&mut moved);
+        self.note_branched(all, &mut moved);
         let mut share = Share::new(self.alloc);
-        add_arrivals(&self.share.arrivals, &moved, &mut share)?;
-        add_connections(&self.share.connections, &moved, &mut share)?;
+        add_arrivals(&all.arrivals, &moved, &mut share)?;
+        add_connections(&all.connections, &moved, &mut share)?;
         share.arrivals.sort_unstable_by_key(|arrival| arrival.event);
         share
             .connections
@@ -134,13 +144,13 @@ impl Part {
     }
 
     /// Nothing has moved: the times at the root.
-    fn at_root(&self, mover: &Mover<'_>) -> Result<Moved, AllocError> {
+    fn at_root(&self, all: &Share, mover: &Mover<'_>) -> Result<Moved, AllocError> {
         let mut times = Vec::new(self.alloc);
-        for arrival in &self.share.arrivals {
+        for arrival in &all.arrivals {
             times.push(mover.time(arrival.event).max(arrival.due))?;
         }
         let mut earliest = Vec::new(self.alloc);
-        for connection in &self.share.connections {
+        for connection in &all.connections {
             earliest.push(mover.earliest(connection.act))?;
         }
         Ok(Moved {
@@ -151,29 +161,9 @@ impl Part {
         })
     }
 
-    /// Notes the arrivals that are later where the mover stands.
-    fn note_arrivals(&self, mover: &Mover<'_>, moved: &mut Moved) {
-        for (k, arrival) in self.share.arrivals.iter().enumerate() {
-            let before = moved.times.get(k).copied().unwrap_or(0);
-            if mover.time(arrival.event) > before {
-                note(&mut moved.arrivals, k);
-            }
-        }
-    }
-
-    /// Notes the changes that may be missed and whose tail is later where the mover stands.
-    fn note_connections(&self, mover: &Mover<'_>, moved: &mut Moved) {
-        for (k, connection) in self.share.connections.iter().enumerate() {
-            let before = moved.earliest.get(k).copied().unwrap_or(0);
-            if connection.number.is_none() && mover.earliest(connection.act) > before {
-                note(&mut moved.connections, k);
-            }
-        }
-    }
-
     /// Notes the changes on which the tree branches.
-    fn note_branched(&self, moved: &mut Moved) {
-        for (k, connection) in self.share.connections.iter().enumerate() {
+    fn note_branched(&self, all: &Share, moved: &mut Moved) {
+        for (k, connection) in all.connections.iter().enumerate() {
             if connection.number.is_some() && self.branches_on(connection.number) {
                 note(&mut moved.connections, k);
             }
@@ -182,6 +172,26 @@ impl Part {
 
     fn branches_on(&self, number: Option<usize>) -> bool {
         self.nodes.iter().any(|grown| grown.choice == number)
+    }
+}
+
+/// Notes the arrivals that are later where the mover stands.
+fn note_arrivals(all: &Share, mover: &Mover<'_>, moved: &mut Moved) {
+    for (k, arrival) in all.arrivals.iter().enumerate() {
+        let before = moved.times.get(k).copied().unwrap_or(0);
+        if mover.time(arrival.event) > before {
+            note(&mut moved.arrivals, k);
+        }
+    }
+}
+
+/// Notes the changes that may be missed and whose tail is later where the mover stands.
+fn note_connections(all: &Share, mover: &Mover<'_>, moved: &mut Moved) {
+    for (k, connection) in all.connections.iter().enumerate() {
+        let before = moved.earliest.get(k).copied().unwrap_or(0);
+        if connection.number.is_none() && mover.earliest(connection.act) > before {
+            note(&mut moved.connections, k);
+        }
     }
 }
 

@@ -1,11 +1,11 @@
 //! Ways through a part's tree.
 ghost use Rattle.std.specs.Prelude.{◌≤◌, length};
 
-use crate::growing::Part;
+use crate::growing::Tree;
 use dm_probe::Mover;
 use std::alloc::AllocError;
 
-impl Part {
+impl Tree {
     /// Brings a mover from the root to a node of the tree, as far as no decision makes a cycle.
     pub fn stand_at(&mut self, mover: &mut Mover<'_>, node: usize) -> Result<(), AllocError> {
         let _there = self.go_to(mover, node)?;

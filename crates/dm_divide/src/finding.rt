@@ -5,6 +5,7 @@ ghost use Rattle.dm_evaluate.specs.Evaluator.{IsEvaluatorOf};
 ghost use Rattle.dm_guide.specs.Tasks.{IsPosedTask};
 
 use crate::growing::Growth;
+use crate::jobs::Job;
 use crate::standing::Standing;
 use dm_base::Cost;
 use dm_branch::PartTree;
@@ -42,35 +43,77 @@ const FEW: usize = 16;
 /// A bound is near where less than the cost by this part of it.
 const NEAR: Cost = 2_000;
 
+/// The choices of a task, and movers at its root: one that looks for parts, and others with which some may be solved at the same
+/// time.
+pub struct Roots<'a> {
+    pub choices: &'a Choices,
+    pub first: Mover<'a>,
+    pub others: Vec<Mover<'a>>,
+}
+
+impl Drop for Roots<'_> {
+    fn drop(self) {
+        let Roots {
+            choices: _,
+            first: _,
+            others: _,
+        } = self;
+    }
+}
+
+impl<'a> Roots<'a> {
+    fn into_movers(self) -> (Mover<'a>, Vec<Mover<'a>>) {
+        let Roots {
+            choices: _,
+            first,
+            others,
+        } = self;
+        (first, others)
+    }
+}
+
+/// The choices that an evaluator leaves open which has decided a task's base, and nothing else.
+pub fn choices_at_root(task: &Task<'_>, evaluator: &Evaluator) -> Result<Choices, AllocError>
+    requires { IsEvaluatorOf task.now.net.now evaluator.now }
+{
+    Choices::of(task.alloc, task.net, evaluator)
+}
+
 /// Parts for a task and a plan, whose trees have as many nodes together as the task's budget allows, at most. The plan's choices
-/// are those that differ from the rows. Three evaluators have decided the task's base, and nothing else.
-pub fn parts_for(
-    task: &Task<'_>,
+/// are those that differ from the rows. Two evaluators have decided the task's base, and nothing else. Parts are solved by having
+/// the first mover and each of the others solve some of the jobs, at once or one after the other: what is found is the same.
+pub fn parts_for<
+    't: 'a,
+    'a,
+    F: Fn(Vec<Job>, &mut Mover<'a>, &mut [Mover<'a>]) -> Result<Vec<Job>, AllocError>,
+>(
+    task: &Task<'t>,
     plan: &[Decision],
-    first: Evaluator,
+    roots: Roots<'a>,
+    run: &F,
     second: Evaluator,
     third: Evaluator,
 ) -> Result<Found, AllocError>
     requires posed { IsPosedTask task.now }
-    requires first { IsEvaluatorOf task.now.net.now first }
+    requires run { F.IsAlwaysCallable run.now }
     requires second { IsEvaluatorOf task.now.net.now second }
     requires third { IsEvaluatorOf task.now.net.now third }
 {
     let alloc = task.alloc;
-    let choices = Choices::of(alloc, task.net, &first)?;
-    let terms = Share::of_all(alloc, task.net, &first, &choices)?;
-    let relaxed = mover_at_root(alloc, task.net, task.penalty, &choices, first)?;
-    let whole = mover_at_root(alloc, task.net, task.penalty, &choices, second)?;
+    let choices = roots.choices;
+    let (first, others) = roots.into_movers();
+    let terms = Share::of_all(alloc, task.net, &second, choices)?;
+    let whole = mover_at_root(alloc, task.net, task.penalty, choices, second)?;
     let polisher = Polisher::new(task, third, plan)?;
-    let mut standing = Standing::new(alloc, relaxed, whole, polisher);
+    let mut standing = Standing::new(alloc, first, others, whole, polisher);
     go_to(&mut standing.whole, plan);
-    let trees = trees_for(&mut standing, &terms, task.budget as usize)?;
+    let trees = trees_for(&mut standing, &terms, run, task.budget as usize)?;
     let choices = choices_in(&mut standing)?;
     Ok(Found { trees, choices })
 }
 
 /// A mover with the priced timetable of an evaluator that has decided a task's base, and nothing else.
-fn mover_at_root<'a>(
+pub fn mover_at_root<'a>(
     alloc: Global,
     net: &'a Network,
     penalty: u64,
@@ -116,15 +159,21 @@ impl Best {
     }
 
     /// Divides the terms anew, and takes the parts if their bound is greater.
-    fn try_parts(
+    fn try_parts<
+        'a,
+        F: Fn(Vec<Job>, &mut Mover<'a>, &mut [Mover<'a>]) -> Result<Vec<Job>, AllocError>,
+    >(
         &mut self,
-        standing: &mut Standing<'_>,
+        standing: &mut Standing<'a>,
         terms: &Share,
+        run: &F,
         legs: Option<usize>,
         budget: usize,
-    ) -> Result<(), AllocError> {
+    ) -> Result<(), AllocError>
+        requires { F.IsAlwaysCallable run.now }
+    {
         standing.divide(terms, legs)?;
-        grow(standing, budget)?;
+        grow(standing, run, budget)?;
         let bound = standing.bound();
         if bound > self.bound {
             self.trees = trees_in(standing)?;
@@ -135,35 +184,44 @@ impl Best {
 }
 
 /// The trees of those parts of which the bound is greatest.
-fn trees_for(
-    standing: &mut Standing<'_>,
+fn trees_for<'a, F: Fn(Vec<Job>, &mut Mover<'a>, &mut [Mover<'a>]) -> Result<Vec<Job>, AllocError>>(
+    standing: &mut Standing<'a>,
     terms: &Share,
+    run: &F,
     budget: usize,
-) -> Result<Vec<PartTree>, AllocError> {
+) -> Result<Vec<PartTree>, AllocError>
+    requires { F.IsAlwaysCallable run.now }
+{
     let mut best = Best {
         trees: Vec::new(standing.alloc),
         bound: 0,
     };
     let begun = standing.whole.cost();
-    best.try_parts(standing, terms, None, budget)?;
+    best.try_parts(standing, terms, run, None, budget)?;
     let are_few = best.trees.len() <= FEW;
     for legs in LEGS {
         if are_few && !best.is_near(standing.cost) {
-            best.try_parts(standing, terms, Some(legs), budget)?;
+            best.try_parts(standing, terms, run, Some(legs), budget)?;
         }
     }
     // The plan may be better than that of which trains were divided at first.
     let has_room = are_few || best.nodes() <= budget / 4 * 3;
     if has_room && standing.cost < begun && best.bound < standing.cost {
-        best.try_parts(standing, terms, None, budget)?;
+        best.try_parts(standing, terms, run, None, budget)?;
     }
     Ok(best.into_trees())
 }
 
 /// Solves the parts, and has them grow into each other.
-fn grow(standing: &mut Standing<'_>, budget: usize) -> Result<(), AllocError> {
+fn grow<'a, F: Fn(Vec<Job>, &mut Mover<'a>, &mut [Mover<'a>]) -> Result<Vec<Job>, AllocError>>(
+    standing: &mut Standing<'a>,
+    run: &F,
+    budget: usize,
+) -> Result<(), AllocError>
+    requires { F.IsAlwaysCallable run.now }
+{
     let mut growth = Growth::new(standing, budget);
-    growth.solve_all(standing)?;
+    growth.solve_all(standing, run)?;
     growth.grow_all(standing)?;
     growth.widen_all(standing)?;
     growth.finish(standing)

@@ -1,10 +1,12 @@
 //! Parts that grow into each other.
 
 use crate::borders::{Border, Borders};
+use crate::jobs::Job;
 use crate::merging::Trial;
 use crate::standing::Standing;
 use dm_base::Cost;
 use dm_branch::Part;
+use dm_probe::Mover;
 use std::alloc::{AllocError, Global};
 
 /// How many nodes a tree has at first, and then at most until nothing else helps.
@@ -67,7 +69,7 @@ impl Growth {
             alloc: standing.alloc,
             allowed,
             limit: LIMIT.min(allowed),
-            tries: standing.relaxed.tried().saturating_add(TRIES),
+            tries: standing.tried().saturating_add(TRIES),
             is_held: false,
             refused: Vec::new(standing.alloc),
             busy: Vec::new(standing.alloc),
@@ -75,16 +77,39 @@ impl Growth {
     }
 
     /// Solves each part by itself: all a little, then more those that are open.
-    pub fn solve_all(&self, standing: &mut Standing<'_>) -> Result<(), AllocError> {
-        self.solve_each(standing, 1)?;
+    pub fn solve_all<
+        'a,
+        F: Fn(Vec<Job>, &mut Mover<'a>, &mut [Mover<'a>]) -> Result<Vec<Job>, AllocError>,
+    >(&self, standing: &mut Standing<'a>, run: &F) -> Result<(), AllocError>
+        requires { F.IsAlwaysCallable run.now }
+    {
+        self.solve_each(standing, run, 1)?;
         for most in FIRST {
-            self.solve_each(standing, most.min(self.limit))?;
+            self.solve_each(standing, run, most.min(self.limit).max(1))?;
         }
-        self.solve_each(standing, self.limit)
+        self.solve_each(standing, run, self.limit.max(1))
     }
 
-    /// Expands each open tree up to so many nodes, those of the largest gap first.
-    fn solve_each(&self, standing: &mut Standing<'_>, most: usize) -> Result<(), AllocError> {
+    /// Expands each open tree up to so many nodes: side by side where all find room, so that it makes no difference who solves
+    /// which, and else one after the other.
+    fn solve_each<
+        'a,
+        F: Fn(Vec<Job>, &mut Mover<'a>, &mut [Mover<'a>]) -> Result<Vec<Job>, AllocError>,
+    >(&self, standing: &mut Standing<'a>, run: &F, most: usize) -> Result<(), AllocError>
+        requires { F.IsAlwaysCallable run.now }
+    {
+        let order = self.open_by_gap(standing)?;
+        if self.wanted(standing, &order, most) > self.room(standing) {
+            return self.solve_in_turn(standing, &order, most);
+        }
+        let jobs = standing.take_jobs(&order, most)?;
+        let back = run(jobs, &mut standing.relaxed, &mut standing.others)?;
+        standing.put_back(back);
+        Ok(())
+    }
+
+    /// The open groups, those of the largest gap first.
+    fn open_by_gap(&self, standing: &Standing<'_>) -> Result<Vec<usize>, AllocError> {
         let mut order = Vec::new(self.alloc);
         for group in 0..standing.groups.list.len() {
             if standing.is_open(group) {
@@ -92,8 +117,27 @@ impl Growth {
             }
         }
         order.sort_unstable();
+        groups_of(self.alloc, &order)
+    }
+
+    /// How many nodes more there are if each of these trees has so many.
+    fn wanted(&self, standing: &Standing<'_>, groups: &[usize], most: usize) -> usize {
+        let mut wanted = 0_usize;
+        for group in groups {
+            wanted = wanted.saturating_add(most.saturating_sub(standing.size(*group)));
+        }
+        wanted
+    }
+
+    /// Expands trees up to so many nodes as long as there is room.
+    fn solve_in_turn(
+        &self,
+        standing: &mut Standing<'_>,
+        groups: &[usize],
+        most: usize,
+    ) -> Result<(), AllocError> {
         let mut nodes = standing.groups.nodes();
-        for (_gap, group) in &order {
+        for group in groups {
             let before = standing.size(*group);
             let room = before.saturating_add(self.allowed.saturating_sub(nodes));
             standing.grow(*group, most.min(room).max(1))?;
@@ -171,8 +215,7 @@ impl Growth {
 
     /// Whether no decisions or nodes are left.
     fn is_spent(&self, standing: &Standing<'_>) -> bool {
-        standing.relaxed.tried() > self.tries
-            || standing.groups.nodes().saturating_add(2) > self.allowed
+        standing.tried() > self.tries || standing.groups.nodes().saturating_add(2) > self.allowed
     }
 
     /// Tries each two groups with a border, those that gain most first, and each group once.
@@ -244,11 +287,7 @@ impl Growth {
             }
         }
         order.sort_unstable();
-        let mut groups = Vec::new(self.alloc);
-        for (_gap, group) in &order {
-            groups.push(*group)?;
-        }
-        Ok(groups)
+        groups_of(self.alloc, &order)
     }
 
     /// A group and the neighbours that are free and gain most with it, in ascending order.
@@ -327,6 +366,15 @@ impl Growth {
         }
         most.map(|found| found.1)
     }
+}
+
+/// Groups, without that by which they are in order.
+fn groups_of(alloc: Global, order: &[(Cost, usize)]) -> Result<Vec<usize>, AllocError> {
+    let mut groups = Vec::new(alloc);
+    for (_gap, group) in order {
+        groups.push(*group)?;
+    }
+    Ok(groups)
 }
 
 /// The group at the other end of a border.

@@ -13,13 +13,16 @@
 //! in the plan, and by putting its leaves into the plan. If that makes the plan cheaper, perhaps with windows around what was
 //! turned, the plan stays so. Groups are tried as one where they would gain most. They stay one where their bound rises. Then a
 //! group may branch on choices outside. Where the groups are few, and the bound stays far below the cost, all begins anew with
-//! legs of trains in place of trains. No map in which places change decides anything, so that all is found in one order.
+//! legs of trains in place of trains. Groups are solved side by side as long as all of their trees find room; then it makes no
+//! difference who solves which. No map in which places change decides anything, so that all is found in one order.
 //!
 //! # What is promised
 //!
 //! All calls are safe and end. They answer `AllocError` for want of memory alone.
 //!
-//! - [`parts_for`] gives trees of parts and choices for a task and a plan.
+//! - [`parts_for`] gives trees of parts and choices for a task and a plan. It hands parts that may be solved side by side to the
+//!   caller, as jobs, and puts each that comes back into its group.
+//! - [`Job::solved`] gives a job back with its group and its terms. [`in_turn`] gives back the same jobs, in order.
 #![tactic(auto)]
 
 mod atoms;
@@ -29,6 +32,7 @@ mod exploring;
 mod finding;
 mod groups;
 mod growing;
+mod jobs;
 mod merging;
 mod reliefs;
 mod rising;
@@ -36,4 +40,5 @@ mod standing;
 mod transplanting;
 mod widening;
 
-pub use finding::{Found, parts_for};
+pub use finding::{Found, Roots, choices_at_root, mover_at_root, parts_for};
+pub use jobs::{Job, in_turn};

@@ -3,6 +3,7 @@
 use crate::atoms::Atoms;
 use crate::borders::Borders;
 use crate::groups::{Groups, plan};
+use crate::jobs::Job;
 use crate::reliefs::{bonds, reliefs};
 use dm_base::{Cost, Secs};
 use dm_branch::Part;
@@ -15,8 +16,11 @@ pub struct Standing<'a> {
     pub alloc: Global,
     pub groups: Groups,
 
-    /// One at the root, and one at the plan.
+    /// One at the root, and others there with which parts may be solved at the same time.
     pub relaxed: Mover<'a>,
+    pub others: Vec<Mover<'a>>,
+
+    /// One at the plan.
     pub whole: Mover<'a>,
 
     /// One who stands at the plan too.
@@ -38,6 +42,7 @@ impl Drop for Standing<'_> {
             alloc: _,
             groups: _,
             relaxed: _,
+            others: _,
             whole: _,
             polisher: _,
             times: _,
@@ -50,10 +55,11 @@ impl Drop for Standing<'_> {
 }
 
 impl<'a> Standing<'a> {
-    /// Two movers, of which one stays at the root and one stands at a plan, as the polisher does, and no groups yet.
+    /// Movers, of which one stands at a plan, as the polisher does, and the others stay at the root, and no groups yet.
     pub fn new(
         alloc: Global,
         relaxed: Mover<'a>,
+        others: Vec<Mover<'a>>,
         whole: Mover<'a>,
         polisher: Polisher<'a>,
     ) -> Standing<'a> {
@@ -61,6 +67,7 @@ impl<'a> Standing<'a> {
             alloc,
             groups: Groups::none(alloc),
             relaxed,
+            others,
             whole,
             polisher,
             times: Vec::new(alloc),
@@ -124,6 +131,38 @@ impl<'a> Standing<'a> {
         part.grow(&mut self.relaxed, most)?;
         self.groups.put(group, part);
         Ok(())
+    }
+
+    /// How many decisions were made or tried at the root.
+    pub fn tried(&self) -> u64 {
+        let mut tried = self.relaxed.tried();
+        for other in &self.others {
+            tried = tried.saturating_add(other.tried());
+        }
+        tried
+    }
+
+    /// Takes the parts of groups out, as jobs of so many nodes each.
+    pub fn take_jobs(&mut self, groups: &[usize], most: usize) -> Result<Vec<Job>, AllocError> {
+        let mut jobs = Vec::new(self.alloc);
+        for group in groups {
+            if let Some(part) = self.groups.take(*group) {
+                jobs.push(Job {
+                    group: *group,
+                    most,
+                    part,
+                })?;
+            }
+        }
+        Ok(jobs)
+    }
+
+    /// Puts the parts of jobs back, in any order.
+    pub fn put_back(&mut self, jobs: Vec<Job>) {
+        for job in jobs {
+            let group = job.group;
+            self.groups.put(group, job.into_part());
+        }
     }
 
     /// The open groups that may be solved further, by what their tree should have at most.

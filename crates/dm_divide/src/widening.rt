@@ -20,10 +20,10 @@ impl Growth {
     /// Has parts that are done, and whose bound lies below the plan's cost, branch on the pairs at their border, and then on those
     /// farther out.
     pub fn widen_all(&self, standing: &mut Standing<'_>) -> Result<(), AllocError> {
-        let most = standing.relaxed.tried().saturating_add(TRIES);
+        let most = standing.tried().saturating_add(TRIES);
         for steps in 0..STEPS {
             for group in &self.by_gap(standing)? {
-                if standing.relaxed.tried() <= most && !standing.is_open(*group) {
+                if standing.tried() <= most && !standing.is_open(*group) {
                     self.widen_one(standing, *group, steps)?;
                 }
             }
