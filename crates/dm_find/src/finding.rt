@@ -6,21 +6,29 @@ ghost use Rattle.dm_rows.specs.Cost.{Costs};
 ghost use Rattle.dm_rows.specs.Decide.{free_choices_of};
 ghost use Rattle.dm_rows.specs.Rows.{IsSized};
 ghost use Rattle.dm_tree.specs.declared.forms.Mark.TheVariants.{Optimal};
-ghost use Rattle.dm_parts.specs.Sizes.{most_ids};
+ghost use Rattle.dm_tree.specs.Plans.{IsTruePlan};
+ghost use Rattle.dm_guide.specs.Tasks.{IsPosedTask, task_of};
+ghost use Rattle.dm_parts.specs.Parts.{IsTruePlanByParts};
+ghost use Rattle.dm_parts.specs.Sizes.{ids_of, most_ids};
+ghost use Rattle.std.specs.Thread.{IsSync};
 ghost use Rattle.dm_solve.specs.Terms.{terms_of};
 ghost use Rattle.dm_desk.specs.Planning.{budget_of, SolvesFor, FindsFor};
 ghost use Rattle.dm_find.specs.Found.{cost_of, mark_of};
 
 use dm_desk::{HoldPoint, Search};
+use dm_divide::{Job, Roots, choices_at_root, mover_at_root};
 use dm_network::Network;
+use dm_part_workers::solve_all;
 use dm_parts::{AnyPlan, PlanByParts};
+use dm_probe::{Choices, Mover};
 use dm_rows::Snapshot;
-use dm_search::whole;
-use dm_solve::plan_by_parts;
+use dm_search::{Task, evaluator_at_base, whole};
+use dm_solve::plan_by_workers;
+use dm_tree::Plan;
 use dm_workers::search;
 use std::alloc::{AllocError, Global};
 use std::sync::Wait;
-use std::thread::Threads;
+use std::thread::{Threads, map_indices};
 
 /// A true plan of the kind that was asked for, of the rows of a snapshot, which have no cycle. It has the snapshot's entry and at
 /// most as many nodes as was asked for, of which there are 1 to 16,384, and is searched by 1 to 16 workers in threads of their own.
@@ -91,5 +99,81 @@ fn solve<R: Threads + Wait + Sync, H: HoldPoint + Sync>(
     };
     let rows = &snapshot.rows;
     let task = whole(alloc, net, rows, penalty, budget);
-    plan_by_parts(&task, &plan)
+    solve_task(rt, &task, &plan, workers)
+}
+
+/// A true plan by parts of a task and a plan, whose parts several workers solve.
+fn solve_task<R: Threads + Wait + Sync>(
+    rt: &R,
+    task: &Task<'_>,
+    plan: &Plan,
+    workers: u32,
+) -> Result<PlanByParts, AllocError>
+    requires posed { IsPosedTask task.now }
+    requires plan { IsTruePlan (task_of task.now) plan.now }
+    ensures parts { IfOk result (IsTruePlanByParts (task_of task.now)) }
+    ensures entry { IfOk result (λ found. found.entry ≡ plan.now.entry) }
+    ensures no_dearer { IfOk result (λ found. found.cost ≤ plan.now.cost) }
+    ensures few_ids { IfOk result (λ found. ids_of found.parts ≤ most_ids) }
+    ensures enough { terms_of task.now.net.now ≤ most_ids → 2 ^ (length (task_of task.now).allowed + 1) ≤ task.now.budget + 1 →
+        IfOk result (λ found. found.mark ≡ Optimal) }
+{
+    let alloc = task.alloc;
+    let evaluator = evaluator_at_base(task)?;
+    let choices = choices_at_root(task, &evaluator)?;
+    let root = Root {
+        net: task.net,
+        choices: &choices,
+    };
+    let first = mover_at_root(alloc, task.net, task.penalty, &choices, evaluator)?;
+    let roots = Roots {
+        choices: &choices,
+        first,
+        others: root.movers(rt, task, workers)?,
+    };
+    let run = |jobs: Vec<Job>, first: &mut Mover<'_>, others: &mut [Mover<'_>]| -> Result<
+        Vec<Job>,
+        AllocError,
+    >
+        requires { IsSync R.row }
+    { solve_all(rt, alloc, jobs, first, others) };
+    plan_by_workers(task, plan, roots, &run)
+}
+
+/// What movers at the root stand on.
+#[derive(Clone, Copy)]
+struct Root<'a> {
+    net: &'a Network,
+    choices: &'a Choices,
+}
+
+impl<'a> Root<'a> {
+    /// A mover for each worker but the first, each made in a thread of its own where one can be made.
+    fn movers<R: Threads + Sync>(
+        &self,
+        rt: &R,
+        task: &Task<'_>,
+        workers: u32,
+    ) -> Result<Vec<Mover<'a>>, AllocError>
+        requires posed { IsPosedTask task.now }
+        requires net { self.now.net.now ≡ task.now.net.now }
+    {
+        let others = workers.saturating_sub(1) as usize;
+        let make = |_other: usize|
+            requires { IsPosedTask task.now × (self.now.net.now ≡ task.now.net.now) }
+        { self.mover(task) };
+        let mut movers = Vec::with_capacity(task.alloc, others)?;
+        for made in map_indices(rt, task.alloc, others, &make)? {
+            movers.push(made?)?;
+        }
+        Ok(movers)
+    }
+
+    fn mover(&self, task: &Task<'_>) -> Result<Mover<'a>, AllocError>
+        requires posed { IsPosedTask task.now }
+        requires net { self.now.net.now ≡ task.now.net.now }
+    {
+        let evaluator = evaluator_at_base(task)?;
+        mover_at_root(task.alloc, self.net, task.penalty, self.choices, evaluator)
+    }
 }

@@ -1,6 +1,7 @@
 //! Plans of either kind for the rows of a snapshot.
 //!
-//! It stands on dm_workers, which searches plans by several workers, and on dm_solve, which makes a plan by parts of one. Which kind
+//! It stands on dm_workers, which searches plans by several workers, on dm_solve, which makes a plan by parts of one, and on
+//! dm_part_workers, by which several workers solve parts. Which kind
 //! is asked for, and what is then found, dm_desk says (`Search`, `specs/Planning`).
 //!
 //! # What is promised

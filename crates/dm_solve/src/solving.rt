@@ -14,11 +14,12 @@ use crate::alone::{one_part, terms_in};
 use crate::choosing::{Chosen, cheaper};
 use crate::gathering::{Gathered, MOST_IDS, cost_of_shares, gather};
 use dm_base::{Cost, Items};
-use dm_divide::{Found, parts_for};
+use dm_divide::{Found, Job, Roots, choices_at_root, in_turn, mover_at_root, parts_for};
 use dm_evaluate::Evaluator;
 use dm_guide::Task;
 use dm_network::Network;
 use dm_parts::{Part, PlanByParts};
+use dm_probe::Mover;
 use dm_rows::Decision;
 use dm_search::{evaluator_at_base, walk};
 use dm_tree::{Mark, Plan};
@@ -38,20 +39,54 @@ pub fn plan_by_parts(task: &Task<'_>, plan: &Plan) -> Result<PlanByParts, AllocE
     ensures enough { terms_of task.now.net.now ≤ most_ids → 2 ^ (length (task_of task.now).allowed + 1) ≤ task.now.budget + 1 →
         IfOk result (λ found. found.mark ≡ Optimal) }
 {
+    let first = evaluator_at_base(task)?;
+    let choices = choices_at_root(task, &first)?;
+    let roots = Roots {
+        choices: &choices,
+        first: mover_at_root(task.alloc, task.net, task.penalty, &choices, first)?,
+        others: Vec::new(task.alloc),
+    };
+    let run = |jobs: Vec<Job>, first: &mut Mover<'_>, _others: &mut [Mover<'_>]| {
+        in_turn(jobs, first, &mut [])
+    };
+    plan_by_workers(task, plan, roots, &run)
+}
+
+/// The same, where parts that may be solved side by side are handed to the caller, with movers at the root.
+pub fn plan_by_workers<
+    't: 'a,
+    'a,
+    F: Fn(Vec<Job>, &mut Mover<'a>, &mut [Mover<'a>]) -> Result<Vec<Job>, AllocError>,
+>(task: &Task<'t>, plan: &Plan, roots: Roots<'a>, run: &F) -> Result<PlanByParts, AllocError>
+    requires run { F.IsAlwaysCallable run.now }
+    requires posed { IsPosedTask task.now }
+    requires plan { IsTruePlan (task_of task.now) plan.now }
+    ensures parts { IfOk result (IsTruePlanByParts (task_of task.now)) }
+    ensures entry { IfOk result (λ found. found.entry ≡ plan.now.entry) }
+    ensures no_dearer { IfOk result (λ found. found.cost ≤ plan.now.cost) }
+    ensures few_ids { IfOk result (λ found. ids_of found.parts ≤ most_ids) }
+    ensures no_lower { terms_of task.now.net.now ≤ most_ids → IfOk result (λ found. plan.now.bound ≤ found.bound) }
+    ensures enough { terms_of task.now.net.now ≤ most_ids → 2 ^ (length (task_of task.now).allowed + 1) ≤ task.now.budget + 1 →
+        IfOk result (λ found. found.mark ≡ Optimal) }
+{
     task.net.reveal();
-    let found = found_for(task, plan)?;
+    let found = found_for(task, plan, roots, run)?;
     let mut evaluator = evaluator_at_base(task)?;
     made_of(task, &mut evaluator, plan, &found)
 }
 
 /// Trees and choices that are good, perhaps.
-fn found_for(task: &Task<'_>, plan: &Plan) -> Result<Found, AllocError>
+fn found_for<
+    't: 'a,
+    'a,
+    F: Fn(Vec<Job>, &mut Mover<'a>, &mut [Mover<'a>]) -> Result<Vec<Job>, AllocError>,
+>(task: &Task<'t>, plan: &Plan, roots: Roots<'a>, run: &F) -> Result<Found, AllocError>
     requires posed { IsPosedTask task.now }
+    requires run { F.IsAlwaysCallable run.now }
 {
-    let first = evaluator_at_base(task)?;
     let second = evaluator_at_base(task)?;
     let third = evaluator_at_base(task)?;
-    parts_for(task, plan.choices.as_slice(), first, second, third)
+    parts_for(task, plan.choices.as_slice(), roots, run, second, third)
 }
 
 /// The plan by parts of a plan and of what was found.

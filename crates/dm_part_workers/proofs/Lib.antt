@@ -1,0 +1,4 @@
+pub mod Putting
+pub mod Settling
+pub mod Emptying
+pub mod Back
