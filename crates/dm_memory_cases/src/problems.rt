@@ -109,7 +109,7 @@ fn carries_over(alloc: Global, net: &Network, day: &Snapshot) -> Result<(), Fail
     net.reveal();
     let _times = times_of(alloc, net, &day.rows)?;
     let plan = window_plan(alloc, net, PENALTY, day, &with_both(alloc), NODES)?;
-    match rebase(alloc, net, PENALTY, day, &plan) {
+    match rebase(alloc, net, PENALTY, day, plan.choices.as_slice()) {
         Ok(rebased) => is_due(rebased.cost == BEST && rebased.choices == plan.choices, 0),
         Err(RebaseFault::OutOfMemory) => Err(Failure::OutOfMemory),
         Err(_) => Err(Failure::NoDay),

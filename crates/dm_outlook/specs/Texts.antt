@@ -8,6 +8,9 @@ use Rattle.dm_rows.specs.declared.messages.Decision.{Decision}
 use Rattle.dm_feed.specs.Lines.{spelling_of_decision}
 use Rattle.dm_cert.specs.PlanTexts.{choice_text, line_end, spelling_of_plan}
 use Rattle.dm_cert.specs.RunTexts.{spaced_id}
+use Rattle.dm_cert.specs.SolvedTexts.{spelling_of_solved}
+use Rattle.dm_parts.specs.declared.kinds.AnyPlan.{AnyPlan}
+use Rattle.dm_parts.specs.declared.kinds.AnyPlan.TheVariants.{Whole, ByParts}
 use Rattle.dm_window.specs.declared.thinning.KeptChoice.{KeptChoice}
 use Rattle.dm_window.specs.declared.thinning.Minimal.{Minimal}
 use Rattle.dm_window.specs.declared.thinning.Worth.{Worth}
@@ -77,8 +80,13 @@ carried_text last (Some carried) = joined (codes "rebased " ∷ decimal last ∷
 abbrev pub told_text : ℕ → Outlook → List ℕ
 told_text last outlook = minimal_text outlook.minimal ++ carried_text last outlook.carried
 
+-- a plan of either kind
+abbrev pub plan_text : AnyPlan → List ℕ
+plan_text (Whole plan) = spelling_of_plan 2 plan
+plan_text (ByParts plan) = spelling_of_solved plan
+
 -- a plan of the window, which of its choices are kept where others are given back, and what becomes of it after so many entries
 unfoldable pub outlook_text : Window → ℕ → Outlook → List ℕ
 outlook_text window last outlook =
     window_line window.from window.to outlook.entry
-    ++ (held_text (length window.held) ++ (spelling_of_plan 2 outlook.plan ++ told_text last outlook))
+    ++ (held_text (length window.held) ++ (plan_text outlook.plan ++ told_text last outlook))

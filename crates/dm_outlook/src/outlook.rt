@@ -1,20 +1,24 @@
 //! A plan at an entry, and what becomes of it.
-ghost use Rattle.std.specs.Prelude.{◌≡◌, ◌≤◌, length, IfOk, IfSome};
+ghost use Rattle.std.specs.Prelude.{◌≡◌, ◌≤◌, length, Some, IfOk, IfSome};
 ghost use Rattle.dm_base.specs.declared.limits.TheConstants.{BUDGET, PENALTY};
 ghost use Rattle.dm_rows.specs.Active.{HasNoCycle};
 ghost use Rattle.dm_rows.specs.History.{rows_at};
 ghost use Rattle.dm_rows.specs.Rows.{IsSized};
-ghost use Rattle.dm_window.specs.Minimal.{IsPlanOver};
+ghost use Rattle.dm_desk.specs.Planning.{budget_of};
+ghost use Rattle.dm_parts.specs.Kinds.{chosen_of};
 ghost use Rattle.dm_window.specs.Rebasing.{DecideOnce};
-ghost use Rattle.dm_outlook.specs.Outlooks.{IsCarried, IsMinimalFor, IsOutlook};
+ghost use Rattle.dm_outlook.specs.Outlooks.{IsCarried, IsMinimalFor, IsOutlook, IsOver, PlansWindow};
 
 use dm_base::{ActId, Items};
+use dm_desk::Search;
 use dm_network::Network;
+use dm_parts::AnyPlan;
 use dm_rows::{Decision, Entry, Rows, Snapshot, admit};
 use dm_table::Table;
 use dm_times::least;
-use dm_tree::Plan;
-use dm_window::{Minimal, RebaseFault, Rebased, Window, rebase, thin, window_plan};
+use dm_window::{
+    Minimal, RebaseFault, Rebased, Window, rebase, thin, window_plan, window_solution,
+};
 use std::alloc::{AllocError, Global};
 
 /// What becomes of a plan's choices in newer rows.
@@ -34,7 +38,7 @@ pub enum Carried {
 pub struct Outlook {
     /// How many entries the history has for whose rows the plan is.
     pub entry: u32,
-    pub plan: Plan,
+    pub plan: AnyPlan,
 
     /// The plan's choices that are kept where others are given back, where that was asked.
     pub minimal: Option<Minimal>,
@@ -55,23 +59,23 @@ impl Drop for Outlook {
 }
 
 /// A plan for a window of the rows after so many entries of a table, at most all, or after all where no number is given; and,
-/// where one is, what becomes of the plan after all. The plan's tree has at most `budget` nodes; the budget is 1 to 16,384. With
-/// `most` it is also told which of its choices are kept where the others are given back, for at most so much more than it costs.
+/// where one is, what becomes of the plan after all. It is of the kind that is asked for, with at most so many nodes, 1 to 16,384.
+/// With `most` it is also told which of its choices are kept where the others are given back, for at most so much more than it costs.
 pub fn outlook_of(
     alloc: Global,
     table: &Table<'_>,
     window: &Window,
-    budget: u64,
+    asked: Search,
     at: Option<u32>,
     most: Option<u64>,
 ) -> Result<Outlook, AllocError>
-    requires budget { (1 ≤ budget) × (budget ≤ BUDGET) }
+    requires budget { (1 ≤ budget_of asked) × (budget_of asked ≤ BUDGET) }
     requires at { IfSome at (λ n. n ≤ length table.now.history) }
-    ensures { IfOk result (IsOutlook table.now.network table.now.start table.now.penalty table.now.history window.now budget at most) }
+    ensures { IfOk result (IsOutlook table.now.network table.now.start table.now.penalty table.now.history window.now asked at most) }
 {
     match at {
-        None => outlook_now(alloc, table, window, budget, most),
-        Some(at) => outlook_then(alloc, table, window, budget, at, most),
+        None => outlook_now(alloc, table, window, asked, most),
+        Some(at) => outlook_then(alloc, table, window, asked, at, most),
     }
 }
 
@@ -80,18 +84,18 @@ fn outlook_now(
     alloc: Global,
     table: &Table<'_>,
     window: &Window,
-    budget: u64,
+    asked: Search,
     most: Option<u64>,
 ) -> Result<Outlook, AllocError>
-    requires budget { (1 ≤ budget) × (budget ≤ BUDGET) }
-    ensures { IfOk result (IsOutlook table.now.network table.now.start table.now.penalty table.now.history window.now budget None most) }
+    requires budget { (1 ≤ budget_of asked) × (budget_of asked ≤ BUDGET) }
+    ensures { IfOk result (IsOutlook table.now.network table.now.start table.now.penalty table.now.history window.now asked None most) }
 {
     table.reveal();
     let net = table.network();
     let penalty = table.penalty();
     net.reveal();
     let now = table.copy()?;
-    let plan = window_plan(alloc, net, penalty, &now, window, budget)?;
+    let plan = planned(alloc, net, penalty, &now, window, asked)?;
     let minimal = thinned(alloc, net, penalty, &now.rows, &plan, most)?;
     Ok(Outlook {
         entry: now.entry,
@@ -106,13 +110,13 @@ fn outlook_then(
     alloc: Global,
     table: &Table<'_>,
     window: &Window,
-    budget: u64,
+    asked: Search,
     at: u32,
     most: Option<u64>,
 ) -> Result<Outlook, AllocError>
-    requires budget { (1 ≤ budget) × (budget ≤ BUDGET) }
+    requires budget { (1 ≤ budget_of asked) × (budget_of asked ≤ BUDGET) }
     requires at { at ≤ length table.now.history }
-    ensures { IfOk result (IsOutlook table.now.network table.now.start table.now.penalty table.now.history window.now budget (Some at)
+    ensures { IfOk result (IsOutlook table.now.network table.now.start table.now.penalty table.now.history window.now asked (Some at)
         most) }
 {
     table.reveal();
@@ -120,7 +124,7 @@ fn outlook_then(
     let penalty = table.penalty();
     net.reveal();
     let then = rows_then(alloc, table, at)?;
-    let plan = window_plan(alloc, net, penalty, &then, window, budget)?;
+    let plan = planned(alloc, net, penalty, &then, window, asked)?;
     let minimal = thinned(alloc, net, penalty, &then.rows, &plan, most)?;
     let now = table.copy()?;
     let carried = carried_to(alloc, net, penalty, &now, &plan)?;
@@ -132,26 +136,90 @@ fn outlook_then(
     })
 }
 
+/// A plan of a window, of the kind that is asked for.
+fn planned(
+    alloc: Global,
+    net: &Network,
+    penalty: u64,
+    snapshot: &Snapshot,
+    window: &Window,
+    asked: Search,
+) -> Result<AnyPlan, AllocError>
+    requires sized { IsSized net.now snapshot.now.rows }
+    requires no_cycle { HasNoCycle net.now snapshot.now.rows }
+    requires penalty { penalty ≤ PENALTY }
+    requires budget { (1 ≤ budget_of asked) × (budget_of asked ≤ BUDGET) }
+    ensures { IfOk result (PlansWindow net.now snapshot.now.rows penalty window.now asked) }
+{
+    match asked {
+        Search::Plan(budget) => match window_plan(alloc, net, penalty, snapshot, window, budget) {
+            Ok(plan) => Ok(AnyPlan::Whole(plan)),
+            Err(AllocError) => Err(AllocError),
+        },
+        Search::Solve(budget) => {
+            match window_solution(alloc, net, penalty, snapshot, window, budget) {
+                Ok(plan) => Ok(AnyPlan::ByParts(plan)),
+                Err(AllocError) => Err(AllocError),
+            }
+        }
+    }
+}
+
 /// Which choices of a plan are kept where others are given back, if that is asked.
 fn thinned(
     alloc: Global,
     net: &Network,
     penalty: u64,
     rows: &Rows,
-    plan: &Plan,
+    plan: &AnyPlan,
     most: Option<u64>,
 ) -> Result<Option<Minimal>, AllocError>
     requires sized { IsSized net.now rows.now }
     requires penalty { penalty ≤ PENALTY }
-    requires plan { IsPlanOver net.now rows.now penalty plan.now }
+    requires plan { IsOver net.now rows.now penalty plan.now }
     ensures { IfOk result (IsMinimalFor net.now rows.now penalty plan.now most) }
 {
-    match most {
-        None => Ok(None),
-        Some(most) => match thin(alloc, net, penalty, rows, plan, most) {
-            Ok(minimal) => Ok(Some(minimal)),
-            Err(AllocError) => Err(AllocError),
-        },
+    let Some(most) = most else {
+        return Ok(None);
+    };
+    match thinned_to(alloc, net, penalty, rows, plan, most) {
+        Ok(minimal) => Ok(Some(minimal)),
+        Err(AllocError) => Err(AllocError),
+    }
+}
+
+fn thinned_to(
+    alloc: Global,
+    net: &Network,
+    penalty: u64,
+    rows: &Rows,
+    plan: &AnyPlan,
+    most: u64,
+) -> Result<Minimal, AllocError>
+    requires sized { IsSized net.now rows.now }
+    requires penalty { penalty ≤ PENALTY }
+    requires plan { IsOver net.now rows.now penalty plan.now }
+    ensures { IfOk result (λ minimal. IsMinimalFor net.now rows.now penalty plan.now (Some most) (Some minimal)) }
+{
+    match plan {
+        AnyPlan::Whole(plan) => thin(
+            alloc,
+            net,
+            penalty,
+            rows,
+            plan.choices.as_slice(),
+            plan.cost,
+            most,
+        ),
+        AnyPlan::ByParts(plan) => thin(
+            alloc,
+            net,
+            penalty,
+            rows,
+            plan.choices.as_slice(),
+            plan.cost,
+            most,
+        ),
     }
 }
 
@@ -203,14 +271,14 @@ fn carried_to(
     net: &Network,
     penalty: u64,
     newer: &Snapshot,
-    plan: &Plan,
+    plan: &AnyPlan,
 ) -> Result<Carried, AllocError>
     requires sized { IsSized net.now newer.now.rows }
     requires penalty { penalty ≤ PENALTY }
-    requires once { DecideOnce plan.now.choices }
-    ensures { IfOk result (IsCarried net.now newer.now penalty plan.now.choices) }
+    requires once { DecideOnce (chosen_of plan.now).choices }
+    ensures { IfOk result (IsCarried net.now newer.now penalty (chosen_of plan.now).choices) }
 {
-    match rebase(alloc, net, penalty, newer, plan) {
+    match rebase(alloc, net, penalty, newer, plan.choices()) {
         Ok(rebased) => Ok(Carried::Rebased(rebased)),
         Err(RebaseFault::NotFree(decision)) => Ok(Carried::NotFree(decision)),
         Err(RebaseFault::Cycle(ids)) => Ok(Carried::Cycle(ids)),

@@ -3,12 +3,13 @@ ghost use Rattle.std.specs.Prelude.{length};
 ghost use Rattle.dm_outside.specs.Printing.{Prints, Puts};
 ghost use Rattle.std.specs.List.{flat_map};
 ghost use Rattle.dm_feed.specs.Lines.{spelling_of_decision};
-ghost use Rattle.dm_outlook.specs.Texts.{barred_text, carried_text, cycle_text, end_text, held_text, kept_text, minimal_text, outlook_text, rebased_text, thinned_text, told_text, worth_text};
+ghost use Rattle.dm_outlook.specs.Texts.{barred_text, carried_text, cycle_text, end_text, held_text, kept_text, minimal_text, outlook_text, rebased_text, thinned_text, plan_text, told_text, worth_text};
 
 use crate::outlook::{Carried, Outlook};
 use dm_base::ActId;
-use dm_cert::{put_choices, put_number, put_numbers, put_plan};
+use dm_cert::{put_choices, put_number, put_numbers, put_plan, put_solved};
 use dm_outside::{Page, Sink, WriteFault};
+use dm_parts::AnyPlan;
 use dm_report::{put_ids, put_labelled};
 use dm_rows::Decision;
 use dm_window::{KeptChoice, Minimal, Rebased, Window, Worth};
@@ -50,10 +51,19 @@ fn put_outlook<K: Sink>(
     let Ok(()) = put_held(sink, page, window) else {
         return Err(WriteFault);
     };
-    let Ok(()) = put_plan(sink, page, &outlook.plan) else {
+    let Ok(()) = put_planned(sink, page, &outlook.plan) else {
         return Err(WriteFault);
     };
     put_told(sink, page, last, outlook)
+}
+
+fn put_planned<K: Sink>(sink: &mut K, page: &mut Page, plan: &AnyPlan) -> Result<(), WriteFault>
+    ensures { Prints K.taken K.faults sink.old sink.new page.old page.new result (plan_text plan.now) }
+{
+    match plan {
+        AnyPlan::Whole(plan) => put_plan(sink, page, plan),
+        AnyPlan::ByParts(plan) => put_solved(sink, page, plan),
+    }
 }
 
 // Prints what is told of a plan behind it.

@@ -195,7 +195,7 @@ fn carried_over(
     let _times = least(alloc, net, &older.rows)?;
     let open = opened(alloc, window);
     let plan = window_plan(alloc, net, penalty, older, &open, 100)?;
-    Ok(rebase(alloc, net, penalty, newer, &plan))
+    Ok(rebase(alloc, net, penalty, newer, plan.choices.as_slice()))
 }
 
 /// Which choices of a window's plan are kept where others are given back.
@@ -215,7 +215,15 @@ fn minimal_in(
     let _times = least(alloc, net, rows)?;
     let open = opened(alloc, window);
     let plan = window_plan(alloc, net, penalty, snapshot, &open, 100)?;
-    Ok(thin(alloc, net, penalty, rows, &plan, most)?)
+    Ok(thin(
+        alloc,
+        net,
+        penalty,
+        rows,
+        plan.choices.as_slice(),
+        plan.cost,
+        most,
+    )?)
 }
 
 /// A plan of a window that is searched for from nothing.

@@ -30,7 +30,9 @@ use Rattle.dm_search.specs.Laws.{IsTask}
 use Rattle.dm_search.proofs.Beside.{base_makes_task}
 use Rattle.dm_search.proofs.Optimal.{some_among, some_apart}
 use Rattle.dm_window.specs.declared.windows.Window.{Window}
-use Rattle.dm_window.specs.Windows.{is_change_within, is_pair_within, is_change_in, is_change_outside, is_pair_outside, choices_in, window_base, window_task, IsTrueWindowPlan}
+use Rattle.dm_parts.specs.declared.parts.PlanByParts.{PlanByParts}
+use Rattle.dm_parts.specs.Parts.{IsTruePlanByParts}
+use Rattle.dm_window.specs.Windows.{IsTrueWindowSolution, is_change_within, is_pair_within, is_change_in, is_change_outside, is_pair_outside, choices_in, window_base, window_task, IsTrueWindowPlan}
 use Rattle.dm_window.specs.Inside.Standing.{standing_changes, standing_pairs}
 use Rattle.dm_window.proofs.Places.{gathered, kept_of_map, some_places, some_of_both}
 
@@ -230,3 +232,9 @@ module _ (net : Net) (network : IsNetwork net) (rows : RowsValue) (window : Wind
   plan_within penalty budget base plan e is =
       subst (λ (t : Task). IsTruePlan t plan) (window_beside penalty budget)
       (subst (λ (b : List Decision). IsTruePlan (task_beside net rows penalty b budget) plan) e is)
+
+  pub solution_within : (penalty budget : ℕ) (base : List Decision) (plan : PlanByParts) → base ≡ window_base net rows window →
+      IsTruePlanByParts (task_beside net rows penalty base budget) plan → IsTrueWindowSolution net rows penalty window budget plan
+  solution_within penalty budget base plan e is =
+      subst (λ (t : Task). IsTruePlanByParts t plan) (window_beside penalty budget)
+      (subst (λ (b : List Decision). IsTruePlanByParts (task_beside net rows penalty b budget) plan) e is)

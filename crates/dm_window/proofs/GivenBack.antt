@@ -14,7 +14,6 @@ use Rattle.dm_rows.specs.Cost.{cost_of}
 use Rattle.dm_tree.proofs.Shown.{one_least}
 use Rattle.dm_rows.specs.Rows.{RowsValue}
 use Rattle.dm_tree.specs.Plans.{AreSomeOf}
-use Rattle.dm_tree.specs.declared.plans.Plan.{Plan}
 use Rattle.dm_paths.proofs.Apart.{Apart, choice_list_from}
 use Rattle.dm_paths.proofs.Lists.{apart_from_once}
 use Rattle.dm_paths.proofs.Setting.{in_front}
@@ -71,7 +70,7 @@ module _ (net : Net) (rows : RowsValue) where
       (apart_from_once ds list.once)))
       (λ d h. All-contains (λ e. Contains (free_choices_of net rows) (choice_of e)) ds d list.free (in_removed ds place d h))
 
-  module _ (penalty : ℕ) (plan : Plan) (most : ℕ) where
+  module _ (penalty : ℕ) (planned : List Decision) (spent most : ℕ) where
     -- rows have one cost
     one_set_cost : (ds : List Decision) (a b : ℕ) → CostsSet net rows penalty ds a → CostsSet net rows penalty ds b → a ≡ b
     one_set_cost ds a b p q =
@@ -93,28 +92,28 @@ module _ (net : Net) (rows : RowsValue) where
           | inr past ↦ absurd (let size = judged.size in omega (arith, size, below, past.0))
         ]
 
-    pub thinned_none : IsPlanOver net rows penalty plan → IsThinned net rows penalty plan most plan.choices plan.cost
+    pub thinned_none : IsPlanOver net rows penalty planned spent → IsThinned net rows penalty planned spent most planned spent
     thinned_none is =
         record {
           many = 0;
           given_back = refl;
-          among = All-contains_itself plan.choices;
-          in_order = all_some (map choice_of plan.choices);
+          among = All-contains_itself planned;
+          in_order = all_some (map choice_of planned);
           cost = is.cost;
           near = omega arith;
         }
 
-    pub thinned_list : (kept : List Decision) (cost : ℕ) → IsPlanOver net rows penalty plan → IsThinned net rows penalty plan most kept cost → IsChoiceList net rows kept
+    pub thinned_list : (kept : List Decision) (cost : ℕ) → IsPlanOver net rows penalty planned spent → IsThinned net rows penalty planned spent most kept cost → IsChoiceList net rows kept
     thinned_list kept cost is thinned =
         choice_list_from net rows kept
-        (some_apart (map choice_of plan.choices) (map choice_of kept) thinned.in_order (apart_from_once plan.choices is.list.once))
+        (some_apart (map choice_of planned) (map choice_of kept) thinned.in_order (apart_from_once planned is.list.once))
         (λ d h.
-        All-contains (λ e. Contains (free_choices_of net rows) (choice_of e)) plan.choices d is.list.free
-        (All-contains (Contains plan.choices) kept d thinned.among h))
+        All-contains (λ e. Contains (free_choices_of net rows) (choice_of e)) planned d is.list.free
+        (All-contains (Contains planned) kept d thinned.among h))
 
-    pub thinned_more : (kept : List Decision) (cost place c : ℕ) (costs : List (Option ℕ)) → IsThinned net rows penalty plan most kept cost →
-        AreJudged net rows penalty kept (length kept) costs → IsNearAt (plan.cost + most) costs place c →
-        IsThinned net rows penalty plan most (remove kept place) c
+    pub thinned_more : (kept : List Decision) (cost place c : ℕ) (costs : List (Option ℕ)) → IsThinned net rows penalty planned spent most kept cost →
+        AreJudged net rows penalty kept (length kept) costs → IsNearAt (spent + most) costs place c →
+        IsThinned net rows penalty planned spent most (remove kept place) c
     thinned_more kept cost place c costs thinned judged near =
         let at = near.0 in
         let within = slice_get_within costs place (Some c) at in
@@ -133,8 +132,8 @@ module _ (net : Net) (rows : RowsValue) where
               cheapest = λ other d below set. no_less_than kept costs c judged near.2 other d below set;
             },
           );
-          among = all_from (Contains plan.choices) (remove kept place) (λ d h. All-contains (Contains plan.choices) kept d thinned.among (in_removed kept place d h));
-          in_order = subst (AreSomeOf (map choice_of plan.choices)) (sym (map_removed choice_of kept place)) (some_removed (map choice_of plan.choices) (map choice_of kept) place thinned.in_order);
+          among = all_from (Contains planned) (remove kept place) (λ d h. All-contains (Contains planned) kept d thinned.among (in_removed kept place d h));
+          in_order = subst (AreSomeOf (map choice_of planned)) (sym (map_removed choice_of kept place)) (some_removed (map choice_of planned) (map choice_of kept) place thinned.in_order);
           cost = judged.each place (Some c) at;
           near = near.1;
         }
@@ -157,32 +156,32 @@ worth_at cost (d ∷ ds) [] place kept at = absurd cc
 worth_at cost (d ∷ ds) (c ∷ costs) zero kept at = (c, refl, cc)
 worth_at cost (d ∷ ds) (c ∷ costs) (suc place) kept at = worth_at cost ds costs place kept at
 
-module _ (net : Net) (rows : RowsValue) (penalty : ℕ) (plan : Plan) (most : ℕ) (kept : List Decision) (cost : ℕ) (costs : List (Option ℕ)) where
-  is_worth : (others : List Decision) (o : Option ℕ) → cost ≤ plan.cost + most → IsJudged net rows penalty others o →
-      ((c : ℕ) → o ≡ Some c → plan.cost + most < c) → IsWorth net rows penalty cost (plan.cost + most) others (worth_of cost o)
+module _ (net : Net) (rows : RowsValue) (penalty : ℕ) (planned : List Decision) (spent most : ℕ) (kept : List Decision) (cost : ℕ) (costs : List (Option ℕ)) where
+  is_worth : (others : List Decision) (o : Option ℕ) → cost ≤ spent + most → IsJudged net rows penalty others o →
+      ((c : ℕ) → o ≡ Some c → spent + most < c) → IsWorth net rows penalty cost (spent + most) others (worth_of cost o)
   is_worth others None near judged above = judged
   is_worth others (Some c) near judged above =
       let limit = above c refl in
       let sum : c ≡ cost + (c - cost) = omega (arith, limit, near) in (
         subst (CostsSet net rows penalty others) sum judged,
-        subst (λ (k : ℕ). plan.cost + most < k) sum limit,
+        subst (λ (k : ℕ). spent + most < k) sum limit,
       )
 
-  pub minimal_is : (choices : List KeptChoice) → IsThinned net rows penalty plan most kept cost → AreJudged net rows penalty kept (length kept) costs →
-      ExceedEach (plan.cost + most) costs → choices ≡ with_worths cost kept costs → IsMinimal net rows penalty plan most (record { choices = choices; cost = cost })
+  pub minimal_is : (choices : List KeptChoice) → IsThinned net rows penalty planned spent most kept cost → AreJudged net rows penalty kept (length kept) costs →
+      ExceedEach (spent + most) costs → choices ≡ with_worths cost kept costs → IsMinimal net rows penalty planned spent most (record { choices = choices; cost = cost })
   minimal_is choices thinned judged above is =
       let same : map (λ (k : KeptChoice). k.decision) choices ≡ kept = ap (map (λ (k : KeptChoice). k.decision)) is ∙ worths_kept cost kept costs judged.size in
       record {
         many = thinned.many;
-        given_back = subst (GivesBack net rows penalty (plan.cost + most) thinned.many plan.choices) (sym same) thinned.given_back;
-        among = subst (All (Contains plan.choices)) (sym same) thinned.among;
-        in_order = subst (λ (ds : List Decision). AreSomeOf (map choice_of plan.choices) (map choice_of ds)) (sym same) thinned.in_order;
+        given_back = subst (GivesBack net rows penalty (spent + most) thinned.many planned) (sym same) thinned.given_back;
+        among = subst (All (Contains planned)) (sym same) thinned.among;
+        in_order = subst (λ (ds : List Decision). AreSomeOf (map choice_of planned) (map choice_of ds)) (sym same) thinned.in_order;
         cost = subst (λ (ds : List Decision). CostsSet net rows penalty ds cost) (sym same) thinned.cost;
         near = thinned.near;
         worth = λ place k at.
             let there = worth_at cost kept costs place k (subst (λ (ks : List KeptChoice). slice_get ks place ≡ Some k) is at) in
-            subst (λ (ds : List Decision). IsWorth net rows penalty cost (plan.cost + most) (remove ds place) k.worth) (sym same)
-            (subst (IsWorth net rows penalty cost (plan.cost + most) (remove kept place)) (sym there.2)
+            subst (λ (ds : List Decision). IsWorth net rows penalty cost (spent + most) (remove ds place) k.worth) (sym same)
+            (subst (IsWorth net rows penalty cost (spent + most) (remove kept place)) (sym there.2)
             (is_worth (remove kept place) there.0 thinned.near (judged.each place there.0 there.1)
             (λ c e. above place c (there.1 ∙ ap Some e))));
       }

@@ -10,7 +10,8 @@ use Rattle.dm_tree.specs.declared.plans.Plan.{Plan}
 use Rattle.dm_tree.specs.Plans.{IsOptimal}
 use Rattle.dm_search.specs.Laws.{CostsWithin}
 use Rattle.dm_window.specs.declared.windows.Window.{Window}
-use Rattle.dm_window.specs.Windows.{is_held, choices_in, window_task, IsTrueWindowPlan}
+use Rattle.dm_parts.specs.declared.parts.PlanByParts.{PlanByParts}
+use Rattle.dm_window.specs.Windows.{is_held, choices_in, window_task, IsTrueWindowPlan, IsTrueWindowSolution}
 use Rattle.dm_window.specs.Rebasing.{DecideOnce}
 
 -- a true plan of a window over the rows of a network
@@ -35,6 +36,23 @@ pub record WindowPlansAreOptimal : Type 0 where
       2 ^ (length (choices_in net rows window) + 1) ≤ budget + 1 →
       plan.mark ≡ Optimal
 
+-- a true plan by parts of a window over the rows of a network
+pub record IsWindowSolutionOver (net : Net) (rows : RowsValue) (penalty : ℕ) (window : Window) (budget : ℕ) (plan : PlanByParts) : Type 0 where
+  pub network : IsNetwork net
+  pub sized : IsSized net rows
+  pub is : IsTrueWindowSolution net rows penalty window budget plan
+
+-- No list of decisions of choices in the window costs less than the bound of a true plan by parts of the window. Where one is marked
+-- Optimal, none costs less than it.
+pub record WindowSolutionsAreOptimal : Type 0 where
+  pub optimal : (net : Net) (rows : RowsValue) (penalty : ℕ) (window : Window) (budget : ℕ) (plan : PlanByParts) →
+      IsWindowSolutionOver net rows penalty window budget plan → plan.mark ≡ Optimal →
+      IsOptimal (window_task net rows penalty window budget) plan.choices plan.cost
+  pub bound : (net : Net) (rows : RowsValue) (penalty : ℕ) (window : Window) (budget : ℕ) (plan : PlanByParts)
+      (decisions : List Decision) (c : ℕ) →
+      IsWindowSolutionOver net rows penalty window budget plan →
+      CostsWithin (window_task net rows penalty window budget) decisions c → plan.bound ≤ c
+
 -- the windows are of one stretch of time, and what is held in the one is held in the other
 pub record HoldsMore (one other : Window) : Type 0 where
   pub from : other.from ≡ one.from
@@ -48,8 +66,9 @@ HoldingMoreCostsNoLess =
     IsWindowPlanOver net rows penalty window budget plan → plan.mark ≡ Optimal →
     IsWindowPlanOver net rows penalty tighter other one → HoldsMore window tighter → plan.cost ≤ one.cost
 
--- a true plan of a window decides no choice twice
-abbrev pub WindowPlansDecideOnce : Type 0
-WindowPlansDecideOnce =
-    (net : Net) (rows : RowsValue) (penalty : ℕ) (window : Window) (budget : ℕ) (plan : Plan) →
-    IsWindowPlanOver net rows penalty window budget plan → DecideOnce plan.choices
+-- a true plan of a window, of either kind, decides no choice twice
+pub record WindowPlansDecideOnce : Type 0 where
+  pub plans : (net : Net) (rows : RowsValue) (penalty : ℕ) (window : Window) (budget : ℕ) (plan : Plan) →
+      IsWindowPlanOver net rows penalty window budget plan → DecideOnce plan.choices
+  pub solutions : (net : Net) (rows : RowsValue) (penalty : ℕ) (window : Window) (budget : ℕ) (plan : PlanByParts) →
+      IsWindowSolutionOver net rows penalty window budget plan → DecideOnce plan.choices

@@ -8,7 +8,6 @@ use Rattle.dm_rows.specs.Cost.{Costs}
 use Rattle.dm_rows.specs.Decide.{IsChoiceList, choice_of, with_decisions}
 use Rattle.dm_rows.specs.Rows.{RowsValue}
 use Rattle.dm_tree.specs.Plans.{AreSomeOf}
-use Rattle.dm_tree.specs.declared.plans.Plan.{Plan}
 use Rattle.dm_window.specs.declared.thinning.KeptChoice.{KeptChoice}
 use Rattle.dm_window.specs.declared.thinning.Minimal.{Minimal}
 use Rattle.dm_window.specs.declared.thinning.Worth.{Worth}
@@ -20,9 +19,9 @@ pub record CostsSet (net : Net) (rows : RowsValue) (penalty : ℕ) (decisions : 
   pub cost : Costs net (with_decisions net rows decisions) penalty c
 
 -- the decisions of choices of the rows, and what these cost with them
-pub record IsPlanOver (net : Net) (rows : RowsValue) (penalty : ℕ) (plan : Plan) : Type 0 where
-  pub list : IsChoiceList net rows plan.choices
-  pub cost : CostsSet net rows penalty plan.choices plan.cost
+pub record IsPlanOver (net : Net) (rows : RowsValue) (penalty : ℕ) (planned : List Decision) (spent : ℕ) : Type 0 where
+  pub list : IsChoiceList net rows planned
+  pub cost : CostsSet net rows penalty planned spent
 
 -- What a decision of a list that costs c is worth, where the others are these: they make a cycle, or cost so much more than the list
 -- does, and more than a limit.
@@ -53,12 +52,13 @@ GivesBack net rows penalty limit (suc many) before after =
 -- Kept are some of the plan's choices, in its order: those that are left where one after another is given back whose loss costs
 -- least. With them the rows have no cycle, and cost what is told, at most so much more than the plan. To leave out any one of them
 -- makes a cycle, or costs more than that.
-pub record IsMinimal (net : Net) (rows : RowsValue) (penalty : ℕ) (plan : Plan) (most : ℕ) (minimal : Minimal) : Type 0 where
-  pub among : All (Contains plan.choices) (kept_of minimal)
-  pub in_order : AreSomeOf (map choice_of plan.choices) (map choice_of (kept_of minimal))
+pub record IsMinimal (net : Net) (rows : RowsValue) (penalty : ℕ) (planned : List Decision) (spent most : ℕ)
+    (minimal : Minimal) : Type 0 where
+  pub among : All (Contains planned) (kept_of minimal)
+  pub in_order : AreSomeOf (map choice_of planned) (map choice_of (kept_of minimal))
   pub cost : CostsSet net rows penalty (kept_of minimal) minimal.cost
-  pub near : minimal.cost ≤ plan.cost + most
+  pub near : minimal.cost ≤ spent + most
   pub worth : (place : ℕ) (kept : KeptChoice) → slice_get minimal.choices place ≡ Some kept →
-      IsWorth net rows penalty minimal.cost (plan.cost + most) (remove (kept_of minimal) place) kept.worth
+      IsWorth net rows penalty minimal.cost (spent + most) (remove (kept_of minimal) place) kept.worth
   pub many : ℕ
-  pub given_back : GivesBack net rows penalty (plan.cost + most) many plan.choices (kept_of minimal)
+  pub given_back : GivesBack net rows penalty (spent + most) many planned (kept_of minimal)

@@ -9,6 +9,8 @@ use Rattle.dm_rows.specs.Relax.{is_same_choice}
 use Rattle.dm_rows.specs.Decide.{is_free_change, is_free_pair, change_choice, pair_choice}
 use Rattle.dm_tree.specs.declared.plans.Plan.{Plan}
 use Rattle.dm_tree.specs.Plans.{Task, IsTruePlan}
+use Rattle.dm_parts.specs.declared.parts.PlanByParts.{PlanByParts}
+use Rattle.dm_parts.specs.Parts.{IsTruePlanByParts}
 use Rattle.dm_paths.specs.Decisions.{change_decision, pair_decision}
 use Rattle.dm_window.specs.declared.windows.Window.{Window}
 
@@ -73,3 +75,7 @@ window_task net rows penalty window budget =
 -- a true plan of the rows, the window and the budget
 abbrev pub IsTrueWindowPlan : Net → RowsValue → ℕ → Window → ℕ → Plan → Type 0
 IsTrueWindowPlan net rows penalty window budget plan = IsTruePlan (window_task net rows penalty window budget) plan
+
+-- a true plan by parts of the rows, the window and the budget
+abbrev pub IsTrueWindowSolution : Net → RowsValue → ℕ → Window → ℕ → PlanByParts → Type 0
+IsTrueWindowSolution net rows penalty window budget plan = IsTruePlanByParts (window_task net rows penalty window budget) plan

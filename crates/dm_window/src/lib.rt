@@ -18,6 +18,9 @@
 //! - Every path begins with the base: the decisions that keep every other free choice as the rows have it.
 //! - All else is as in a true plan of a whole network.
 //!
+//! `window_solution` makes a true plan by parts of the window of such a plan, with the same entry and budget, and no more ids than a
+//! text has room for.
+//!
 //! `thin` gives those of a plan's choices that stay where choices that are worth little are given back (`IsMinimal`), in the
 //! plan's order. One after another is given back, each time one whose loss costs least. With those that stay the rows have no
 //! cycle, and cost at most a given amount more than the plan. Each comes with what it is worth: to leave out any one of them makes
@@ -36,9 +39,10 @@
 //! - `window_plans_are_optimal`: where a plan of a window is marked optimal, no list of decisions in the window costs less, and
 //!   the plan's bound is its cost. No list of decisions in the window costs less than the bound of a plan of the window. With k
 //!   choices in the window, a budget of 2^(k+1) - 1 nodes makes the plan optimal.
+//! - `window_solutions_are_optimal`: the same of the bound and the mark of a plan by parts of a window.
 //! - `holding_more_costs_no_less`: no plan costs less than one of the same stretch that is marked optimal and in which less is
 //!   held.
-//! - `window_plans_decide_once`: no choice is decided twice, so each plan of a window may be rebased.
+//! - `window_plans_decide_once`: no choice is decided twice, so each plan of a window, of either kind, may be rebased.
 #![tactic(auto)]
 
 mod held;
@@ -51,4 +55,4 @@ mod windows;
 pub use held::{HeldFault, held_choices};
 pub use rebasing::{RebaseFault, Rebased, rebase};
 pub use thinning::{KeptChoice, Minimal, Worth, thin};
-pub use windows::{Window, window_plan};
+pub use windows::{Window, window_plan, window_solution};

@@ -13,7 +13,6 @@ use dm_network::Network;
 use dm_paths::{ChoicePlace, differs_from, place_of_choice, with_decisions};
 use dm_rows::{Choice, Decision, Rows, Snapshot, is_free_change, is_free_pair};
 use dm_times::{NoTimes, cost, least};
-use dm_tree::Plan;
 use std::alloc::{AllocError, Global};
 
 /// A plan's choices over newer rows.
@@ -49,15 +48,14 @@ pub fn rebase(
     net: &Network,
     penalty: u64,
     newer: &Snapshot,
-    plan: &Plan,
+    choices: &[Decision],
 ) -> Result<Rebased, RebaseFault>
     requires sized { IsSized net.now newer.now.rows }
     requires penalty { penalty ≤ PENALTY }
-    requires once { DecideOnce plan.now.choices }
-    ensures rebased { IfOk result (IsRebased net.now newer.now penalty plan.now.choices) }
-    ensures refused { IfErr result (RefusesRebase net.now newer.now.rows plan.now.choices) }
+    requires once { DecideOnce choices.now }
+    ensures rebased { IfOk result (IsRebased net.now newer.now penalty choices.now) }
+    ensures refused { IfErr result (RefusesRebase net.now newer.now.rows choices.now) }
 {
-    let choices = plan.choices.as_slice();
     match first_not_free(net, &newer.rows, choices) {
         Some(decision) => Err(RebaseFault::NotFree(decision)),
         None => rebase_free(alloc, net, penalty, newer, choices),

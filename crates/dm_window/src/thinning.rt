@@ -12,7 +12,6 @@ use dm_network::Network;
 use dm_paths::with_decisions;
 use dm_rows::{Decision, Rows};
 use dm_times::{NoTimes, cost, least};
-use dm_tree::Plan;
 use std::alloc::{AllocError, Global};
 
 /// What a choice is worth beside others.
@@ -50,27 +49,28 @@ impl Drop for Minimal {
     }
 }
 
-/// A plan's choices without those that are worth little: while some choice can be left out so that the others have no cycle and cost
-/// at most `most` more than the plan, the one that costs least to leave out is given back. Each choice that is kept comes with what it
-/// is worth beside the others. The penalty is in seconds for each passenger, at most 1,000,000. Err is want of memory alone.
+/// The choices of a plan, which cost so much, without those that are worth little: while some choice can be left out so that the
+/// others have no cycle and cost at most `most` more than the plan, the one that costs least to leave out is given back. Each choice
+/// that is kept comes with what it is worth beside the others. The penalty is in seconds for each passenger, at most 1,000,000. Err is
+/// want of memory alone.
 pub fn thin(
     alloc: Global,
     net: &Network,
     penalty: u64,
     rows: &Rows,
-    plan: &Plan,
+    planned: &[Decision],
+    spent: Cost,
     most: u64,
 ) -> Result<Minimal, AllocError>
     requires sized { IsSized net.now rows.now }
     requires penalty { penalty ≤ PENALTY }
-    requires plan { IsPlanOver net.now rows.now penalty plan.now }
-    ensures { IfOk result (IsMinimal net.now rows.now penalty plan.now most) }
+    requires plan { IsPlanOver net.now rows.now penalty planned.now spent }
+    ensures { IfOk result (IsMinimal net.now rows.now penalty planned.now spent most) }
 {
-    let planned = plan.cost;
-    let mut kept = Vec::from_slice(alloc, plan.choices.as_slice())?;
-    let mut cost = planned;
+    let mut kept = Vec::from_slice(alloc, planned)?;
+    let mut cost = spent;
     let mut costs = judge_each(alloc, net, penalty, rows, kept.as_slice())?;
-    while let Some((place, left)) = cheapest(costs.as_slice(), planned, most) {
+    while let Some((place, left)) = cheapest(costs.as_slice(), spent, most) {
         kept.remove(place);
         cost = left;
         costs = judge_each(alloc, net, penalty, rows, kept.as_slice())?;

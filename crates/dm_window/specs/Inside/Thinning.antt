@@ -7,7 +7,6 @@ use Rattle.dm_rows.specs.Active.{HasNoCycle}
 use Rattle.dm_rows.specs.Decide.{choice_of, with_decisions}
 use Rattle.dm_rows.specs.Rows.{RowsValue}
 use Rattle.dm_tree.specs.Plans.{AreSomeOf}
-use Rattle.dm_tree.specs.declared.plans.Plan.{Plan}
 use Rattle.dm_window.specs.Minimal.{CostsSet, GivesBack}
 use Rattle.dm_window.specs.declared.thinning.KeptChoice.{KeptChoice}
 use Rattle.dm_window.specs.declared.thinning.Worth.{Worth}
@@ -47,13 +46,14 @@ FindsNext limit before place c (Some found) =
     ⊎ ((found ≡ (place, c)) × (c ≤ limit) × ((b : ℕ × ℕ) → before ≡ Some b → c ≤ b.1))
 
 -- some of the plan's choices, which cost this, once so many were given back
-pub record IsThinned (net : Net) (rows : RowsValue) (penalty : ℕ) (plan : Plan) (most : ℕ) (kept : List Decision) (c : ℕ) : Type 0 where
+pub record IsThinned (net : Net) (rows : RowsValue) (penalty : ℕ) (planned : List Decision) (spent most : ℕ) (kept : List Decision)
+    (c : ℕ) : Type 0 where
   pub many : ℕ
-  pub given_back : GivesBack net rows penalty (plan.cost + most) many plan.choices kept
-  pub among : All (Contains plan.choices) kept
-  pub in_order : AreSomeOf (map choice_of plan.choices) (map choice_of kept)
+  pub given_back : GivesBack net rows penalty (spent + most) many planned kept
+  pub among : All (Contains planned) kept
+  pub in_order : AreSomeOf (map choice_of planned) (map choice_of kept)
   pub cost : CostsSet net rows penalty kept c
-  pub near : c ≤ plan.cost + most
+  pub near : c ≤ spent + most
 
 -- what a decision is worth in a list that costs this, by what the others cost
 abbrev pub worth_of : ℕ → Option ℕ → Worth

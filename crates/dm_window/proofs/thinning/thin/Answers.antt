@@ -8,9 +8,9 @@ use Rattle.dm_window.proofs.thinning.thin.Goals as goal
 
 pub loop-place-init : goal.loop-place-init
 loop-place-init c = (
-  subst (λ (ds : List Decision). IsThinned c.args.net.now c.args.rows.now c.args.penalty c.args.plan.now c.args.most ds c.args.plan.now.cost)
-      (sym (c.in_ok-kept.ensures.items ∙ c.as_slice.ensures)) (thinned_none c.args.net.now c.args.rows.now c.args.penalty c.args.plan.now c.args.most c.requires.plan),
-  subst (λ (ds : List Decision). AreJudged c.args.net.now c.args.rows.now c.args.penalty ds (length ds) c.in_ok-costs.costs.items) c.as_slice-2.ensures.value
+  subst (λ (ds : List Decision). IsThinned c.args.net.now c.args.rows.now c.args.penalty c.args.planned.now c.args.spent c.args.most ds c.args.spent)
+      (sym c.in_ok-kept.ensures.items) (thinned_none c.args.net.now c.args.rows.now c.args.penalty c.args.planned.now c.args.spent c.args.most c.requires.plan),
+  subst (λ (ds : List Decision). AreJudged c.args.net.now c.args.rows.now c.args.penalty ds (length ds) c.in_ok-costs.costs.items) c.as_slice.ensures.value
       c.in_ok-costs.ensures,
 )
 
@@ -25,14 +25,14 @@ pub judge_each-requires-in-Some-clause-list : goal.judge_each-requires-in-Some-c
 judge_each-requires-in-Some-clause-list c =
     subst (IsChoiceList c.args.net.now c.args.rows.now) (sym (c.as_slice-in-Some.ensures.value ∙ c.remove.ensures.items))
     (list_removed c.args.net.now c.args.rows.now c.loop-place.kept.items c.in-Some.place
-    (thinned_list c.args.net.now c.args.rows.now c.args.penalty c.args.plan.now c.args.most c.loop-place.kept.items c.loop-place.cost c.requires.plan c.loop-place.invariant.0))
+    (thinned_list c.args.net.now c.args.rows.now c.args.penalty c.args.planned.now c.args.spent c.args.most c.loop-place.kept.items c.loop-place.cost c.requires.plan c.loop-place.invariant.0))
 
 pub loop-place-preserved : goal.loop-place-preserved
 loop-place-preserved c =
-    let near = subst (λ (costs : List (Option ℕ)). IsNearAt (c.args.plan.now.cost + c.args.most) costs c.in-Some.place c.in-Some.left) c.as_slice-in-loop-place.ensures.value
+    let near = subst (λ (costs : List (Option ℕ)). IsNearAt (c.args.spent + c.args.most) costs c.in-Some.place c.in-Some.left) c.as_slice-in-loop-place.ensures.value
     c.in-Some.ensures in (
-      subst (λ (ds : List Decision). IsThinned c.args.net.now c.args.rows.now c.args.penalty c.args.plan.now c.args.most ds c.in-Some.left) (sym c.remove.ensures.items)
-          (thinned_more c.args.net.now c.args.rows.now c.args.penalty c.args.plan.now c.args.most c.loop-place.kept.items c.loop-place.cost c.in-Some.place c.in-Some.left
+      subst (λ (ds : List Decision). IsThinned c.args.net.now c.args.rows.now c.args.penalty c.args.planned.now c.args.spent c.args.most ds c.in-Some.left) (sym c.remove.ensures.items)
+          (thinned_more c.args.net.now c.args.rows.now c.args.penalty c.args.planned.now c.args.spent c.args.most c.loop-place.kept.items c.loop-place.cost c.in-Some.place c.in-Some.left
           c.loop-place.costs.items c.loop-place.invariant.0 c.loop-place.invariant.1 near),
       subst (λ (ds : List Decision). AreJudged c.args.net.now c.args.rows.now c.args.penalty ds (length ds) c.in_ok-costs-2.costs.items) c.as_slice-in-Some.ensures.value
           c.in_ok-costs-2.ensures,
@@ -40,9 +40,9 @@ loop-place-preserved c =
 
 pub returns : goal.returns
 returns c =
-    minimal_is c.args.net.now c.args.rows.now c.args.penalty c.args.plan.now c.args.most c.loop-place.kept.items c.loop-place.cost c.loop-place.costs.items c.from_vec.result
+    minimal_is c.args.net.now c.args.rows.now c.args.penalty c.args.planned.now c.args.spent c.args.most c.loop-place.kept.items c.loop-place.cost c.loop-place.costs.items c.from_vec.result
     c.loop-place.invariant.0 c.loop-place.invariant.1
-    (subst (ExceedEach (c.args.plan.now.cost + c.args.most)) c.as_slice-in-loop-place.ensures.value c.in_default.ensures)
+    (subst (ExceedEach (c.args.spent + c.args.most)) c.as_slice-in-loop-place.ensures.value c.in_default.ensures)
     (c.from_vec.ensures ∙ (c.in_ok-choices.ensures
-    ∙ (ap (λ (ds : List Decision). with_worths c.loop-place.cost ds c.as_slice-4.result.now) c.as_slice-3.ensures.value
-    ∙ ap (with_worths c.loop-place.cost c.loop-place.kept.items) c.as_slice-4.ensures.value)))
+    ∙ (ap (λ (ds : List Decision). with_worths c.loop-place.cost ds c.as_slice-3.result.now) c.as_slice-2.ensures.value
+    ∙ ap (with_worths c.loop-place.cost c.loop-place.kept.items) c.as_slice-3.ensures.value)))

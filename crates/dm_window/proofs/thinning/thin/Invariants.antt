@@ -4,7 +4,7 @@ use Rattle.dm_window.proofs.thinning.thin.Given as goal
 
 abbrev pub invariant-loop-place : goal.invariant-loop-place
 invariant-loop-place l =
-    IsThinned l.net l.rows l.penalty l.plan l.most l.kept.items l.cost
+    IsThinned l.net l.rows l.penalty l.planned l.spent l.most l.kept.items l.cost
     × AreJudged l.net l.rows l.penalty l.kept.items (length l.kept.items) l.costs.items
 
 abbrev pub decreases-loop-place : goal.decreases-loop-place
