@@ -26,13 +26,13 @@ use Rattle.dm_words.specs.Words.{QueryAsked}
 use Rattle.dm_words.specs.declared.queries.Query.{Query}
 use Rattle.dm_words.specs.declared.queries.Query.TheVariants.{Follow, Window, Rules, Journey}
 use Rattle.dm_words.specs.declared.queries.JourneyWords.{JourneyWords}
+use Rattle.dm_commands.specs.Searching.{search_for}
 use Rattle.dm_window.specs.declared.windows.Window.{Window as AWindow}
 use Rattle.dm_window.specs.Held.{IsFirstWithout}
 use Rattle.dm_words.specs.declared.queries.WindowWords.{WindowWords}
 use Rattle.dm_outlook.specs.Outlooks.{IsOutlook}
 use Rattle.dm_outlook.specs.declared.outlook.Outlook.{Outlook}
 use Rattle.dm_words.specs.declared.queries.RulesWords.{RulesWords}
-use Rattle.dm_waitrule.specs.Compared.{Compares}
 use Rattle.dm_waitrule.specs.declared.comparing.Comparison.{Comparison}
 use Rattle.dm_commands.specs.declared.status.Status.{Status}
 use Rattle.dm_commands.specs.declared.status.Status.TheVariants.{Ok as Well, Bad, Refused}
@@ -40,7 +40,7 @@ use Rattle.dm_commands.specs.Answers.{WantsAll}
 use Rattle.dm_commands.specs.Ends.{EndsAs}
 use Rattle.dm_commands.specs.Followed.{IsStateOf, state_text}
 use Rattle.dm_ruling.specs.Texts.{comparison_text}
-use Rattle.dm_commands.specs.Ruled.{IsComparisonOf, rule_named}
+use Rattle.dm_commands.specs.Ruled.{IsComparisonOf, rule_named, ComparesFor}
 use Rattle.dm_commands.specs.Travelled.{AreJourneysOf, journeys_text, stop_numbered}
 use Rattle.dm_commands.specs.Verdicts.{verdict_line}
 use Rattle.dm_commands.specs.Windowed.{HoldsNoChoice, IsUnknownEntry, IsWindowAsked, IsWindowOf, no_choice_line, unknown_entry_line}
@@ -92,7 +92,7 @@ module _ (net : Net) (rows : RowsValue) (penalty : ℕ) (bytes : List ℕ) (f : 
 
   -- a plan of a window at one of its entries is one at an entry of the bytes, and so is a number that is above them
   pub window_told : (asked : WindowWords) (window : AWindow) (outlook : Outlook) → IsWhole net rows penalty bytes → IfSome asked.at (λ n. n ≤ length f.table.history) →
-      IsWindowAsked f.table.network asked window → IsOutlook f.table.network f.table.start f.table.penalty f.table.history window asked.budget asked.at asked.minimal outlook →
+      IsWindowAsked f.table.network asked window → IsOutlook f.table.network f.table.start f.table.penalty f.table.history window (search_for asked.solve asked.budget) asked.at asked.minimal outlook →
       IsWindowOf asked net rows penalty bytes (outlook_text window (length f.table.history) outlook)
   window_told asked window outlook whole among is_asked answer =
       on_day (λ n r p. IsWhole n r p bytes → IsWindowOf asked n r p bytes (outlook_text window (length f.table.history) outlook))
@@ -122,7 +122,7 @@ module _ (net : Net) (rows : RowsValue) (penalty : ℕ) (bytes : List ℕ) (f : 
 
   -- a comparison over its rows is one over those of the bytes
   pub comparison_told : (asked : RulesWords) (compared : Comparison) → IsWhole net rows penalty bytes →
-      Compares f.table.network f.table.rows f.table.penalty asked.budget (rule_named asked.rule) compared →
+      ComparesFor asked f.table.network f.table.rows f.table.penalty compared →
       IsComparisonOf asked net rows penalty bytes (comparison_text (rule_named asked.rule) compared)
   comparison_told asked compared whole answer =
       let table : IsTable f.table = is.follows.table in
@@ -132,7 +132,7 @@ module _ (net : Net) (rows : RowsValue) (penalty : ℕ) (bytes : List ℕ) (f : 
         history = f.table.history;
         followed = is.follows.history;
         compared = compared;
-        answer = subst (λ (x : RowsValue). Compares f.table.network x f.table.penalty asked.budget (rule_named asked.rule) compared) table.replayed answer;
+        answer = subst (λ (x : RowsValue). ComparesFor asked f.table.network x f.table.penalty compared) table.replayed answer;
         is_text = refl;
       }) whole
 

@@ -1,5 +1,5 @@
 -- What is asked of what searches for plans, and what it gives.
-use Rattle.std.specs.Prelude.{ℕ, ◌≤◌, Result, IfOk}
+use Rattle.std.specs.Prelude.{ℕ, ◌≤◌, Bool, if◌then◌else◌, Result, IfOk}
 use Rattle.std.specs.Borrow.{Bor}
 use Rattle.std.specs.declared.alloc.AllocError.{AllocError}
 use Rattle.dm_base.specs.declared.limits.TheConstants.{BUDGET, PENALTY, WORKERS}
@@ -9,7 +9,12 @@ use Rattle.dm_rows.specs.Rows.{IsSized}
 use Rattle.dm_rows.specs.declared.rows.Snapshot.{Snapshot}
 use Rattle.dm_parts.specs.declared.kinds.AnyPlan.{AnyPlan}
 use Rattle.dm_desk.specs.declared.searches.Search.{Search}
+use Rattle.dm_desk.specs.declared.searches.Search.TheVariants.{Plan as ForPlan, Solve as ForParts}
 use Rattle.dm_desk.specs.Planning.{FindsFor, budget_of}
+
+-- a plan of so many nodes, or one by parts
+abbrev pub search_for : Bool → ℕ → Search
+search_for solve budget = if solve then ForParts budget else ForPlan budget
 
 -- what is searched is within the limits
 pub record MaySearch (net : Net) (penalty : ℕ) (snapshot : Snapshot) (asked : Search) (workers : ℕ) : Type 0 where

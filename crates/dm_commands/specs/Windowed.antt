@@ -10,6 +10,7 @@ use Rattle.dm_input.specs.Lines.{line_end}
 use Rattle.dm_outlook.specs.declared.outlook.Outlook.{Outlook}
 use Rattle.dm_outlook.specs.Outlooks.{IsOutlook}
 use Rattle.dm_outlook.specs.Texts.{outlook_text}
+use Rattle.dm_commands.specs.Searching.{search_for}
 use Rattle.dm_window.specs.declared.windows.Window.{Window}
 use Rattle.dm_window.specs.Held.{choice_named, IsFirstWithout}
 use Rattle.dm_words.specs.declared.queries.WindowWords.{WindowWords}
@@ -31,7 +32,7 @@ pub record IsWindowOf (asked : WindowWords) (net : Net) (start : RowsValue) (pen
   pub window : Window
   pub is_asked : IsWindowAsked net asked window
   pub outlook : Outlook
-  pub answer : IsOutlook net start penalty history window asked.budget asked.at asked.minimal outlook
+  pub answer : IsOutlook net start penalty history window (search_for asked.solve asked.budget) asked.at asked.minimal outlook
   pub is_text : text ≡ outlook_text window (length history) outlook
 
 unfoldable pub unknown_entry_line : ℕ → List ℕ

@@ -42,6 +42,7 @@ mod print;
 mod queries;
 mod ruling;
 mod run;
+mod searching;
 mod status;
 mod top;
 mod verdicts;

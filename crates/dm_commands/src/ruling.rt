@@ -1,13 +1,14 @@
 //! A waiting rule set beside a plan, in print.
 ghost use Rattle.std.specs.Prelude.{◌≡◌, ◌≤◌, IfOk};
 ghost use Rattle.dm_ruling.specs.Texts.{comparison_text};
-ghost use Rattle.dm_waitrule.specs.Compared.{Compares};
+ghost use Rattle.dm_waitrule.specs.Kinds.{bound_of};
 ghost use Rattle.dm_commands.specs.Ends.{EndsAs};
-ghost use Rattle.dm_commands.specs.Ruled.{rule_named};
+ghost use Rattle.dm_commands.specs.Ruled.{rule_named, ComparesFor};
 ghost use Rattle.dm_commands.specs.Searching.{Searches};
 ghost use Rattle.dm_commands.specs.Inside.Asking.{EndsCompared};
 ghost use Rattle.dm_commands.specs.Inside.Stages.{AreRulesWithin};
 
+use crate::searching::search_for;
 use crate::status::Status;
 use dm_desk::Search;
 use dm_network::Network;
@@ -46,7 +47,7 @@ fn comparison_of<F: Fn(&Network, u64, &Snapshot, Search, u32) -> Result<AnyPlan,
 ) -> Result<Comparison, AllocError>
     requires searches { Searches (F.pre search.now) (F.post search.now) }
     requires within { AreRulesWithin asked }
-    ensures { IfOk result (Compares table.now.network table.now.rows table.now.penalty asked.budget (rule_named asked.rule)) }
+    ensures { IfOk result (ComparesFor asked table.now.network table.now.rows table.now.penalty) }
 {
     table.reveal();
     let (net, penalty) = (table.network(), table.penalty());
@@ -55,14 +56,10 @@ fn comparison_of<F: Fn(&Network, u64, &Snapshot, Search, u32) -> Result<AnyPlan,
         net,
         penalty,
         &snapshot,
-        Search::Plan(asked.budget),
+        search_for(asked.solve, asked.budget),
         asked.workers,
     )?;
-    let rule = rule_named(asked.rule);
-    match plan {
-        AnyPlan::Whole(plan) => compare(alloc, net, penalty, &snapshot, rule, plan),
-        AnyPlan::ByParts(_) => unreachable!(),
-    }
+    compare(alloc, net, penalty, &snapshot, rule_named(asked.rule), plan)
 }
 
 fn rule_named(word: RuleWord) -> WaitRule
@@ -77,7 +74,7 @@ fn rule_named(word: RuleWord) -> WaitRule
 
 /// Prints a comparison.
 fn end_compared<K: Sink>(rule: WaitRule, compared: &Comparison, out: &mut K) -> Status
-    requires { compared.now.plan.bound ≤ compared.now.cost }
+    requires { bound_of compared.now.plan ≤ compared.now.cost }
     ensures ends { EndsAs K.taken K.faults out.old out.new (comparison_text rule compared.now) Status.Ok result }
     ensures later { K.faults out.old ≤ K.faults out.new }
 {

@@ -8,6 +8,7 @@ ghost use Rattle.dm_commands.specs.Windowed.{IsWindowAsked, no_choice_line, unkn
 ghost use Rattle.dm_commands.specs.Inside.Asking.{EndsOutlook};
 ghost use Rattle.dm_commands.specs.Inside.Stages.{IsWindowWithin};
 
+use crate::searching::search_for;
 use crate::status::Status;
 use crate::verdicts::put_number;
 use dm_network::Network;
@@ -41,7 +42,8 @@ pub fn end_window<K: Sink>(
         Err(HeldFault::NoChoice(id)) => return end_no_choice(id, out),
         Err(HeldFault::OutOfMemory) => return Status::NoMemory,
     };
-    match outlook_of(alloc, table, &window, asked.budget, asked.at, asked.minimal) {
+    let search = search_for(asked.solve, asked.budget);
+    match outlook_of(alloc, table, &window, search, asked.at, asked.minimal) {
         Ok(outlook) => end_outlook(&window, table.len(), &outlook, out),
         Err(AllocError) => Status::NoMemory,
     }

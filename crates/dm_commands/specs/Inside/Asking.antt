@@ -22,7 +22,6 @@ use Rattle.dm_words.specs.declared.queries.WindowWords.{WindowWords}
 use Rattle.dm_outlook.specs.Outlooks.{IsOutlook}
 use Rattle.dm_outlook.specs.declared.outlook.Outlook.{Outlook}
 use Rattle.dm_words.specs.declared.queries.RulesWords.{RulesWords}
-use Rattle.dm_waitrule.specs.Compared.{Compares}
 use Rattle.dm_waitrule.specs.declared.comparing.Comparison.{Comparison}
 use Rattle.dm_commands.specs.declared.status.Status.{Status}
 use Rattle.dm_commands.specs.declared.status.Status.TheVariants.{Ok as Well, Refused, ReadFault, NoMemory}
@@ -30,9 +29,10 @@ use Rattle.dm_commands.specs.Answers.{IsAnswerAt}
 use Rattle.dm_commands.specs.Ends.{EndsAs}
 use Rattle.dm_commands.specs.Followed.{state_text}
 use Rattle.dm_ruling.specs.Texts.{comparison_text}
-use Rattle.dm_commands.specs.Ruled.{rule_named}
+use Rattle.dm_commands.specs.Ruled.{rule_named, ComparesFor}
 use Rattle.dm_commands.specs.Travelled.{journeys_text, stop_numbered}
 use Rattle.dm_commands.specs.Verdicts.{long_text_line, unread_text_line}
+use Rattle.dm_commands.specs.Searching.{search_for}
 use Rattle.dm_window.specs.declared.windows.Window.{Window}
 use Rattle.dm_window.specs.Held.{IsFirstWithout}
 use Rattle.dm_commands.specs.Windowed.{IsWindowAsked, no_choice_line, unknown_entry_line}
@@ -83,7 +83,7 @@ pub record PrintsOutlook {K : Type 0} (taken : K → Option (List ℕ)) (faults 
   pub window : Window
   pub is_asked : IsWindowAsked table.network asked window
   pub outlook : Outlook
-  pub answer : IsOutlook table.network table.start table.penalty table.history window asked.budget asked.at asked.minimal outlook
+  pub answer : IsOutlook table.network table.start table.penalty table.history window (search_for asked.solve asked.budget) asked.at asked.minimal outlook
   pub ends : EndsAs taken faults before now (outlook_text window (length table.history) outlook) Well result
 
 pub record PrintsUnknown {K : Type 0} (taken : K → Option (List ℕ)) (faults : K → ℕ) (asked : WindowWords) (table : TableValue)
@@ -111,7 +111,7 @@ pub record PrintsComparison {K : Type 0} (taken : K → Option (List ℕ)) (faul
     (table : TableValue) (before now : K) (result : Status) : Type 0 where
   pub is_table : IsTable table
   pub compared : Comparison
-  pub answer : Compares table.network table.rows table.penalty asked.budget (rule_named asked.rule) compared
+  pub answer : ComparesFor asked table.network table.rows table.penalty compared
   pub ends : EndsAs taken faults before now (comparison_text (rule_named asked.rule) compared) Well result
 
 abbrev pub EndsCompared : {K : Type 0} → (K → Option (List ℕ)) → (K → ℕ) → RulesWords → TableValue → K → K → Status → Type 0
