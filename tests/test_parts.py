@@ -304,22 +304,22 @@ class Laws(unittest.TestCase):
             part = drawn_part(WithoutEnd(number), net, rows, 7, share)
             self.assertEqual(part.bound, min(cost for cost in costs if cost is not None))
             self.assertLessEqual(len(part.nodes), 2 ** (len(free) + 1) - 1)
-            self.assertTrue(is_true_part(net, rows, 7, part))
+            self.assertTrue(is_true_part(Problem(net, rows, 7), part))
 
     def test_changed_parts_are_wrong(self) -> None:
         for number in range(20):
             draws, net, rows, _ = self.drawn(number)
             part = drawn_part(draws, net, rows, 7, drawn_shares(draws, net, 1)[0])
-            self.assertTrue(is_true_part(net, rows, 7, part))
-            self.assertFalse(is_true_part(net, rows, 7, part._replace(bound=part.bound + 1)))
-            self.assertFalse(is_true_part(net, rows, 7, part._replace(nodes=part.nodes + (PartLeaf(0),))))
-            self.assertFalse(is_true_part(net, rows, 7, part._replace(nodes=part.nodes[:-1])))
+            self.assertTrue(is_true_part(Problem(net, rows, 7), part))
+            self.assertFalse(is_true_part(Problem(net, rows, 7), part._replace(bound=part.bound + 1)))
+            self.assertFalse(is_true_part(Problem(net, rows, 7), part._replace(nodes=part.nodes + (PartLeaf(0),))))
+            self.assertFalse(is_true_part(Problem(net, rows, 7), part._replace(nodes=part.nodes[:-1])))
             for place, node in enumerate(part.nodes):
                 other: PartNode = PartLeaf(0) if isinstance(node, CycleLeaf) else CycleLeaf()
                 if isinstance(node, PartLeaf):
                     other = PartLeaf(node.cost + 1)
                 nodes = part.nodes[:place] + (other,) + part.nodes[place + 1:]
-                self.assertFalse(is_true_part(net, rows, 7, part._replace(nodes=nodes)))
+                self.assertFalse(is_true_part(Problem(net, rows, 7), part._replace(nodes=nodes)))
 
 
 class WithoutEnd(Random):

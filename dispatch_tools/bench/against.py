@@ -7,7 +7,7 @@ A DAY is one of these:
     SHAPE:NUMBER             a network of dispatch-tools shapes with delays of dispatch-tools scenarios
 
 By default there are days of 20 to 2,000 trains with the numbers 1 to 9, windows of 10, 20 and 40 minutes on days of 2,000 trains,
-and a day of each shape. The penalty is 3600, and a plan has 16,384 nodes. A whole day has a plan by parts of as many nodes, too.
+and a day of each shape. The penalty is 3600, and a plan has 16,384 nodes. Each has a plan by parts of as many nodes, too.
 CBC, GLPK and HiGHS (Debian's coinor-cbc, glpk-utils and python3-scipy) solve the programme of dispatch-tools to_mps. Each gets at
 most --limit seconds (60): CBC of processor, the others by the clock. GLPK uses all of its cuts, and HiGHS is called by
 dispatch-tools by_highs. If a solver is not installed, its column says so. --solvers=CBC asks only that one, and --solvers= none.
@@ -39,7 +39,6 @@ from dispatch_tools.formats.giv import read_network
 from dispatch_tools.formats.solution import decisions_of, read_solution, Solution
 from dispatch_tools.here import TOP
 from dispatch_tools.model.decide import in_turn
-from dispatch_tools.model.network import Network
 from dispatch_tools.model.programme import mps_text, Posed, Programme, programme_of, Window
 from dispatch_tools.model.railway import Rows
 from dispatch_tools.pictures.scene import read_text, rows_of
@@ -135,13 +134,13 @@ def planned(server: Server, delays: Sequence[str], word: str) -> Found:
     return Found(cost, bound, mark == 'optimal', max(0, done.seconds - without.seconds), done.megabytes)
 
 
-def windowed(server: Server, delays: Sequence[str], window: Window, network: Network, rows: Rows) -> Found:
-    """The plan of a window. Its cost is that of a run in which its choices are entered."""
-    words = [server.program, 'window', server.net, server.path('text'), str(window.start), str(window.end), str(BUDGET)]
+def windowed(server: Server, delays: Sequence[str], posed: Posed, window: Window, options: Sequence[str]) -> Found:
+    """The plan of a window, of the kind that the options ask for. Its cost is that of a run in which its choices are entered."""
+    words = [server.program, 'window', server.net, server.path('text'), str(window.start), str(window.end), str(BUDGET), *options]
     done = measured([*words, f'--penalty={PENALTY}'])
     mark, cost, bound = plan_of(done.printed)
     choices = choices_in(done.printed.encode(), None)
-    if server.cost([*delays, *map(str, in_turn(network, rows, choices))]) != cost:
+    if server.cost([*delays, *map(str, in_turn(posed.network, posed.rows, choices))]) != cost:
         raise Fault('the choices of a window do not cost what its plan says')
     return Found(cost, bound, mark == 'optimal', done.seconds, done.megabytes)
 
@@ -246,8 +245,8 @@ def compared(program: str, day: str, limit: int, solvers: Sequence[str]) -> dict
         posed = Posed(network, rows, PENALTY, window)
         programme = programme_of(posed)
         server.written('programme.mps', mps_text(programme).splitlines())
-        ours = planned(server, delays, 'plan') if window is None else windowed(server, delays, window, network, rows)
-        by_parts = planned(server, delays, 'solve') if window is None else None
+        ours = planned(server, delays, 'plan') if window is None else windowed(server, delays, posed, window, [])
+        by_parts = planned(server, delays, 'solve') if window is None else windowed(server, delays, posed, window, ['--solve'])
         return {'Server': ours, 'By parts': by_parts} | {solver: solved(server, delays, solver, limit, posed, programme) for solver in solvers}
 
 

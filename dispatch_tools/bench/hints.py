@@ -141,6 +141,9 @@ USAGE = [
          ['window takes two times, FROM and TO, of 0 to 1000000000 seconds, TO no earlier than FROM, and a BUDGET of 1 to 16384 nodes; '
           '--held takes 1 to 4096 different numbers of activities, as --held=5,6', LIST]),
     Case('minimal', ['window', 'net', 'f', '0', '9', '1', '--minimal=-1'], 2, ['word 7: --minimal takes 0 to 18446744073709551615', LIST]),
+    Case('value of an option that takes none', ['window', 'net', 'f', '0', '9', '1', '--solve=1'], 2, ['word 7: --solve takes no value', LIST]),
+    Case('plan by parts twice', ['rules', 'net', 'f', 'always', '1', '--solve', '--solve'], 2, ['word 7: --solve is given twice', LIST]),
+    Case('plan by parts of a run', [*RUN, '--solve'], 2, ['word 4: `run` has no option --solve', LIST]),
     Case('boards', [*RUN, '--boards=2,2'], 2, ['--boards takes 1 to 64 different numbers of stops, as --boards=4,2', LIST]),
     Case('server without a feed', ['serve', 'net', 'store'], 2, ['names are missing: serve [--new] DIR STORE FEED..', LIST]),
     Case('too many feeds of a server', ['serve', 'net', 'store', *['f'] * 65], 2, ['65 feeds, at most 64', LIST]),

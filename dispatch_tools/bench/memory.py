@@ -73,7 +73,9 @@ CASES = {
     'gen': (['gen', '7', '9', '--penalty=10'], b''),
     'follow': (['follow', 'net', 'text', '--penalty=10'], b''),
     'window': (['window', 'net', 'text', '200', '235', '100', '--penalty=10'], b''),
+    'window-parts': (['window', 'net', 'text', '200', '235', '100', '--solve', '--minimal=0', '--at=0', '--penalty=10'], b''),
     'rules': (['rules', 'net', 'text', 'always', '100', '--penalty=10'], b''),
+    'rules-parts': (['rules', 'net', 'text', 'always', '100', '--solve', '--penalty=10'], b''),
     'journey': (['journey', 'net', 'text', '1', '4', '150', '--penalty=10'], b''),
 }
 

@@ -11,11 +11,12 @@ from typing import NamedTuple, Optional, Sequence
 from dispatch_tools.days.playing import Program
 from dispatch_tools.formats.files import BadFile
 from dispatch_tools.formats.lines import Bad, NUMBER, Text
-from dispatch_tools.formats.plan_text import read_plan, read_plan_head
+from dispatch_tools.formats.plan_text import read_solved, read_solved_head
 from dispatch_tools.formats.runtext import Entry, read_message, read_time
 from dispatch_tools.model.messages import Adopt, Decision
 from dispatch_tools.model.network import Network
-from dispatch_tools.model.railway import apply, cost_of, Plan, Rows, sound_times
+from dispatch_tools.model.parts import PlanByParts
+from dispatch_tools.model.railway import apply, cost_of, Rows, sound_times
 from dispatch_tools.pictures.figures import BOUND, Curve, LEVEL, picture, Scale, Study
 
 # The seconds of the waiting rules that are compared, and the budget of the plan beside them.
@@ -73,9 +74,9 @@ class Asking:
         except (Bad, KeyError) as bad:
             raise BadFile(self.program.name, None, 'it answers `follow` in another form') from bad
 
-    def window(self, entries: Sequence[str], start: int, end: int, budget: int, held: Sequence[int]) -> Plan:
-        """The plan of a window after entries, with the choices of some activities held."""
-        options = [f'--held={",".join(map(str, held))}'] if held else []
+    def window(self, entries: Sequence[str], start: int, end: int, budget: int, held: Sequence[int]) -> PlanByParts:
+        """The plan by parts of a window after entries, with the choices of some activities held."""
+        options = ['--solve', *([f'--held={",".join(map(str, held))}'] if held else [])]
         with self.one:
             told = self.program.call('window', self.program.net, self.written(entries), str(start), str(end), str(budget), *options)
         text = Text(told.encode())
@@ -84,7 +85,7 @@ class Asking:
             words = text.words()
             if words[0] == 'held':
                 words = text.words()
-            return read_plan(text, 2, len(entries), text.sure(read_plan_head(words, 2)))
+            return read_solved(text, len(entries), text.sure(read_solved_head(words)))
         except Bad as bad:
             raise BadFile(self.program.name, None, 'it answers `window` in another form') from bad
 
@@ -93,10 +94,10 @@ class Asking:
         with self.one:
             path = self.written(entries)
             study = Study(self.program.name, self.program.net, path, [f'--penalty={self.program.penalty}', *self.program.options])
-            never, always = study.ruled('never', BUDGET), study.ruled('always', 1)
+            never, always = study.ruled('never', BUDGET, True), study.ruled('always', 1)
             waits = [(wait, tenths(study.ruled(wait, 1).cost)) for wait in WAITS]
         ends = WAITS[0], WAITS[-1]
-        levels = [('never', never.cost, LEVEL), ('always', always.cost, LEVEL), ('plan', never.plan_cost, LEVEL),
+        levels = [('never', never.cost, LEVEL), ('always', always.cost, LEVEL), ('plan by parts', never.plan_cost, LEVEL),
                   ('proved bound', never.bound, BOUND)]
         curves = [Curve('wait at most', waits), *(Curve(name, [(end, tenths(cost)) for end in ends], style) for name, cost, style in levels)]
         title = f'Waiting rules after {len(entries)} entries'
@@ -135,7 +136,7 @@ class SecondReading:
         times = sound_times(self.network, rows)
         return Followed(len(entries), times, cost_of(self.network, rows, times, self.penalty))
 
-    def window(self, entries: Sequence[str], start: int, end: int, budget: int, held: Sequence[int]) -> Plan:
+    def window(self, entries: Sequence[str], start: int, end: int, budget: int, held: Sequence[int]) -> PlanByParts:
         raise BadFile('window', None, 'this needs the built program: --program=DISPATCHER')
 
     def rules(self, entries: Sequence[str]) -> str:

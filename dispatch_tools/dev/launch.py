@@ -35,7 +35,7 @@ ABOUT = {
     'journey': 'prints how a passenger travels from stop FROM to stop TO',
 }
 
-# The options, each with a value that may stand.
+# The options, each with a value that may stand, and those that take none.
 OPTIONS = {
     '--penalty': '3600',
     '--plans': '400',
@@ -51,6 +51,7 @@ OPTIONS = {
     '--event-delays': 'Delays-Events.giv',
     '--activity-delays': 'Delays-Activities.giv',
 }
+FLAGS = ['--solve']
 
 
 def usage() -> str:
@@ -66,7 +67,7 @@ def help_page() -> str:
     lines += [f'  {"test":{widest}}  tests the tools, the stored runs and the examples, without a proof',
               f'  {"--version":{widest}}  says which commit and which toolchain this is, and whether the program is proved', '',
               'Options, anywhere behind the command, with = or as two words:', '']
-    lines += [f'  {option}={value}' for option, value in OPTIONS.items()]
+    lines += [f'  {option}={value}' for option, value in OPTIONS.items()] + [f'  {flag}' for flag in FLAGS]
     lines += ['', 'docs/COMMANDS.md has their values, the statuses and the limits.']
     return '\n'.join(lines)
 

@@ -120,12 +120,12 @@ def is_true_part_node(problem: Problem, free: set[Choice], path: Path, node: Par
     return relaxed.cost == node.cost
 
 
-def is_true_part(network: Network, rows: Rows, penalty: int, part: Part) -> bool:
-    """Whether a part is true of rows: its share, its tree, each of its nodes, and its bound."""
+def is_true_part(whole: Problem, part: Part) -> bool:
+    """Whether a part is true of a problem: its share, its tree, each of its nodes, and its bound."""
     paths = paths_of(part.nodes)
-    if paths is None or not is_share(network, part.share):
+    if paths is None or not is_share(whole.network, part.share):
         return False
-    problem = Problem(within(network, part.share), rows, penalty)
+    problem = Problem(within(whole.network, part.share), whole.rows, whole.penalty, whole.free)
     free = set(problem.free)
     if not all(is_true_part_node(problem, free, path, node) for path, node in zip(paths, part.nodes)):
         return False
@@ -133,17 +133,21 @@ def is_true_part(network: Network, rows: Rows, penalty: int, part: Part) -> bool
     return bool(leaves) and min(leaves) == part.bound
 
 
-def is_true_rest(network: Network, rows: Rows, penalty: int, plan: PlanByParts) -> bool:
+def is_true_rest(whole: Problem, plan: PlanByParts) -> bool:
     """Whether the rest is what the terms of no part cost where nothing is decided."""
-    relaxed = Problem(beside(network, (part.share for part in plan.parts)), rows, penalty).relaxed(())
+    others = beside(whole.network, (part.share for part in plan.parts))
+    relaxed = Problem(others, whole.rows, whole.penalty, whole.free).relaxed(())
     return relaxed is not None and relaxed.cost == plan.rest
 
 
-def is_true_plan_by_parts(network: Network, rows: Rows, penalty: int, budget: int, plan: PlanByParts) -> bool:
-    """Whether a plan by parts is true of rows at a penalty, for a budget of nodes."""
+def is_true_plan_by_parts(
+    network: Network, rows: Rows, penalty: int, budget: int, plan: PlanByParts, allowed: Optional[list[Choice]] = None,
+) -> bool:
+    """Whether a plan by parts is true of rows at a penalty, for a budget of nodes, with these choices alone where some are given."""
     if sum(len(part.nodes) for part in plan.parts) > budget or not are_apart([part.share for part in plan.parts]):
         return False
     if plan.bound != sum(part.bound for part in plan.parts) + plan.rest or (plan.mark == 'optimal') != (plan.bound == plan.cost):
         return False
-    return (are_true_choices(Problem(network, rows, penalty), plan.choices, plan.cost) and is_true_rest(network, rows, penalty, plan)
-            and all(is_true_part(network, rows, penalty, part) for part in plan.parts))
+    problem = Problem(network, rows, penalty, allowed)
+    return (are_true_choices(problem, plan.choices, plan.cost) and is_true_rest(problem, plan)
+            and all(is_true_part(problem, part) for part in plan.parts))

@@ -2,15 +2,16 @@
 
     dispatch-tools queries DISPATCHER FROM TO [--plain]
 
-For each number from FROM to below TO it draws a network and feeds as fuzz does (with --plain, too), and runs the program. It asks about the text,
+For each number from FROM to below TO it draws a network and feeds as fuzz does (with --plain, too, and then never with --solve),
+and runs the program. It asks about the text,
 a beginning of it, and texts made from it by small changes. Each command of the program's usage line is asked with drawn words:
 
     follow     answers as the second reading does, to the byte
     journey    each journey is a walk, and no walk beats its arrival and its changes
-    rules      the rule's choices and cost, to the byte; the gap is that to the plan's bound; with at most eight choices none cost
-               less than the bound, nor than a plan that is marked optimal
-    window     the plan is true of the window without what is held; the choices of --minimal are some of the plan's, cost what is
-               said, and none of them can be left out; what is carried over is right to the byte
+    rules      the rule's choices and cost, to the byte; the gap is that to the plan's bound, one by parts with --solve; with at most
+               eight choices none cost less than the bound, nor than a plan that is marked optimal
+    window     the plan, one by parts with --solve, is true of the window without what is held; the choices of --minimal are some of
+               the plan's, cost what is said, and none of them can be left out; what is carried over is right to the byte
 
 The second reading shares no code with the program. The script prints each number in which something differs, with what differs
 and the folder of its files. The status is then 1.
@@ -27,18 +28,14 @@ import shutil
 import subprocess
 import tempfile
 from collections import Counter
-from typing import Callable, NamedTuple, Optional, Sequence, Union
+from typing import Callable, NamedTuple, Optional, Sequence
 
 from dispatch_tools.formats.lines import Bad, Text
-from dispatch_tools.formats.plan_text import read_decision, read_plan, read_plan_head
-from dispatch_tools.model.messages import Decision
-from dispatch_tools.model.network import Change, Choice, Network
-from dispatch_tools.model.railway import (
-    choice_of, cost_of, free_choices, is_cycle, is_met, is_true_plan, Plan, Rows, sound_times, span_of, times_of,
-    ways_of, with_decisions,
-)
+from dispatch_tools.model.network import Change, Network
+from dispatch_tools.model.railway import cost_of, free_choices, is_met, Rows, sound_times, span_of, times_of, ways_of, with_decisions
 from dispatch_tools.oracle.drawing import changed, drawn_feed, drawn_network, front, write_network
 from dispatch_tools.oracle.judging import Judge
+from dispatch_tools.oracle.windows import choice_named, fault_of_window, Window
 from dispatch_tools.words import add_program, command_line
 
 # Changed texts of each number, and the most choices that are all tried.
@@ -217,155 +214,35 @@ def least_cost(network: Network, penalty: int, rows: Rows) -> Optional[int]:
     return min(costs)
 
 
-def fault_of_rule(network: Network, penalty: int, rows: Rows, rule: str, text: str) -> Optional[str]:
-    """What is wrong with the text of a rule, or None."""
+def fault_of_rule(network: Network, penalty: int, rows: Rows, rule: str, kind: str, text: str) -> Optional[str]:
+    """What is wrong with the text of a rule beside a plan of a kind, or None."""
     due, cost = rule_lines(network, penalty, rows, rule)
     *lines, plan, gap = text.splitlines()
     if lines != due:
         return f'due {due}'
     word, mark, _, costs, _, bounds = plan.split()
     plan_cost, bound = int(costs), int(bounds)
-    if word != 'plan' or gap != f'gap {cost - bound}' or bound > min(cost, plan_cost) or (mark == 'optimal') != (bound == plan_cost):
+    if word != kind or gap != f'gap {cost - bound}' or bound > min(cost, plan_cost) or (mark == 'optimal') != (bound == plan_cost):
         return 'the plan or the gap'
     least = least_cost(network, penalty, rows)
     return None if least is None or bound <= least <= plan_cost else f'the least cost is {least}'
 
 
-# ---- window
-
-
-class Window(NamedTuple):
-    """A question for the plan of a window, of the rows after `at` entries, or after all where it is None, without the choices of the
-    activities that are held; and for those that are kept where others are given back for at most `most` more, if it is given."""
-    begin: int
-    end: int
-    budget: int
-    at: Optional[int]
-    held: tuple[int, ...]
-    most: Optional[int]
-
-    def words(self) -> list[Union[str, int]]:
-        """The words of the command."""
-        held, at = ','.join(map(str, self.held)), [] if self.at is None else [f'--at={self.at}']
-        options = [*at, *([f'--held={held}'] if held else []), *([] if self.most is None else [f'--minimal={self.most}'])]
-        return ['window', 'net', 'text', self.begin, self.end, self.budget, *options]
-
-    def without_choice(self, network: Network) -> Optional[int]:
-        """The first activity that is held but makes no choice, or None."""
-        return next((held for held in self.held if choice_named(network, held) is None), None)
-
-    def holds(self, network: Network, choice: Choice) -> bool:
-        """Whether a choice's change has its head, or its pair both events, in the window, and it is not held."""
-        if choice in [choice_named(network, held) for held in self.held]:
-            return False
-        if isinstance(choice, Change):
-            events = [network.activities[network.activity_place[choice.activity]].head]
-        else:
-            events = [choice.first, choice.second]
-        return all(self.begin <= network.events[network.event_place[event]].time <= self.end for event in events)
-
-
-def choice_named(network: Network, activity: int) -> Optional[Choice]:
-    """The choice of an activity, or None."""
-    return network.choice_of_activity(network.activity_place[activity]) if activity in network.activity_place else None
-
-
-def cost_with(network: Network, penalty: int, rows: Rows, choices: Sequence[Decision]) -> Optional[int]:
-    """What rows cost with choices, or None if these make a cycle."""
-    decided = with_decisions(network, rows, choices)
-    times = times_of(network, decided)
-    return None if times is None else cost_of(network, decided, times, penalty)
-
-
-def read_kept(lines: Sequence[str]) -> Optional[list[tuple[Decision, Optional[int]]]]:
-    """The choices in lines `choice DECISION saves S` or `.. needed`, with what each saves, or None."""
-    kept: list[tuple[Decision, Optional[int]]] = []
-    for line in lines:
-        word, *words = line.split()
-        worth = None if words[-1] == 'needed' else int(words.pop())
-        is_choice = word == 'choice' and words.pop() == ('needed' if worth is None else 'saves')
-        decision = read_decision(words) if is_choice else None
-        if decision is None:
-            return None
-        kept.append((decision, worth))
-    return kept
-
-
-def fault_of_minimal(network: Network, penalty: int, rows: Rows, plan: Plan, most: int, lines: Sequence[str]) -> Optional[str]:
-    """What is wrong with the lines of the choices that are kept where others are given back, or None."""
-    kept = read_kept(lines[1:])
-    if kept is None:
-        return 'the lines of choices'
-    choices = [choice for choice, _ in kept]
-    if choices != [choice for choice in plan.choices if choice in choices]:
-        return 'the choices that are kept are not some of the plan'
-    cost = cost_with(network, penalty, rows, choices)
-    if cost is None or cost > plan.cost + most or lines[0] != f'minimal cost {cost} choices {len(kept)}':
-        return f'what the choices that are kept cost, {cost}'
-    for choice, worth in kept:
-        without = cost_with(network, penalty, rows, [other for other in choices if other != choice])
-        saved = None if without is None else without - cost
-        if worth != saved or (without is not None and without <= plan.cost + most):
-            return f'{choice} can be left out, or saves something else'
-    return None
-
-
-def fault_of_carried(network: Network, penalty: int, rows: Rows, entries: int, choices: Sequence[Decision],
-                     lines: list[str]) -> Optional[str]:
-    """What is wrong with the lines of a plan that is carried over to rows, or None."""
-    free = set(free_choices(network, rows))
-    barred = next((choice for choice in choices if choice_of(choice) not in free), None)
-    if barred is not None:
-        due = [f'rebased {entries} refused not-free {barred}']
-        return None if lines == due else f'due {due}'
-    kept = [choice for choice in choices if with_decisions(network, rows, [choice]).__dict__ != rows.__dict__]
-    decided = with_decisions(network, rows, kept)
-    times = times_of(network, decided)
-    if times is None:
-        words = lines[0].split()
-        is_shown = words[:4] == ['rebased', str(entries), 'refused', 'cycle'] and is_cycle(network, decided, tuple(map(int, words[4:])))
-        return None if is_shown and len(lines) == 1 else 'the cycle'
-    cost = cost_of(network, decided, times, penalty)
-    due = [f'rebased {entries} cost {cost} choices {len(kept)}', *(f'choice {choice}' for choice in kept)]
-    return None if lines == due else f'due {due}'
-
-
-def fault_of_window(network: Network, penalty: int, journal: Journal, window: Window, text: str) -> Optional[str]:
-    """What is wrong with the text of a window, or None."""
-    last = len(journal.rows) - 1
-    at = last if window.at is None else window.at
-    rows, lines = journal.rows[at], Text(text.encode())
-    if lines.words() != ['window', str(window.begin), str(window.end), 'entry', str(at)]:
-        return 'the first line'
-    if window.held and lines.words() != ['held', str(len(window.held))]:
-        return 'the line of what is held'
-    head = read_plan_head(lines.words(), 2)
-    if head is None:
-        return 'no plan'
-    plan = read_plan(lines, 2, at, head)
-    allowed = [choice for choice in free_choices(network, rows) if window.holds(network, choice)]
-    if not is_true_plan(network, rows, penalty, window.budget, plan, allowed):
-        return 'the plan is not true'
-    rest = text.splitlines()[lines.number:]
-    if window.most is not None:
-        count = next((place for place, line in enumerate(rest) if line.startswith('rebased')), len(rest))
-        fault = fault_of_minimal(network, penalty, rows, plan, window.most, rest[:count]) if count else 'no choices that are kept'
-        if fault is not None:
-            return fault
-        rest = rest[count:]
-    if window.at is None:
-        return f'more lines {rest}' if rest else None
-    return fault_of_carried(network, penalty, journal.rows[-1], last, plan.choices, rest)
-
-
 # ---- One number after the other
+
+
+class Draws(NamedTuple):
+    """What is asked of each number: a program, its commands, and whether no feed asks for a plan by parts."""
+    program: str
+    commands: list[str]
+    is_plain: bool
 
 
 class Asking:
     """Asks a program about the texts of a network's runs at a penalty."""
 
-    def __init__(self, program: str, counts: Counter[str], network: Network, penalty: int, folder: str) -> None:
-        self.program, self.counts = program, counts
+    def __init__(self, asked: Draws, counts: Counter[str], network: Network, penalty: int, folder: str) -> None:
+        self.program, self.is_plain, self.counts = asked.program, asked.is_plain, counts
         self.network, self.penalty, self.folder = network, penalty, folder
 
     def call(self, *words: object) -> Answered:
@@ -398,10 +275,19 @@ class Asking:
         words = ['journey', 'net', 'text', start, end, after, *([] if most == 4 else [f'--changes={most}'])]
         return self.wanting_all(journal, words, lambda text: fault_of_journeys(travel, text))
 
+    def asks_by_parts(self, draws: random.Random) -> bool:
+        """Whether a plan is to be one by parts."""
+        by_parts = not self.is_plain and draws.random() < 0.5
+        self.counts['by parts'] += by_parts
+        return by_parts
+
     def rules(self, draws: random.Random, journal: Journal) -> Optional[str]:
         rule = draws.choice(['never', 'always', '0', '1', str(draws.randint(2, 40)), '1000000'])
         words = ['rules', 'net', 'text', rule, draws.choice([1, 2, 3, 7, 50, 1000])]
-        return self.wanting_all(journal, words, lambda text: fault_of_rule(self.network, self.penalty, journal.rows[-1], rule, text))
+        by_parts = self.asks_by_parts(draws)
+        words += ['--solve'] if by_parts else []
+        kind = 'solved' if by_parts else 'plan'
+        return self.wanting_all(journal, words, lambda text: fault_of_rule(self.network, self.penalty, journal.rows[-1], rule, kind, text))
 
     def window(self, draws: random.Random, journal: Journal) -> Optional[str]:
         begin, last = draws.randint(0, 60), len(journal.rows) - 1
@@ -412,7 +298,8 @@ class Asking:
         held = tuple(draws.sample(named, draws.randint(0, min(len(named), 4))))
         most = draws.choice([None, None, 0, 1000, draws.randint(0, 400) * 1000, 10 ** 6 * draws.randint(0, 9), 2 ** 64 - 1])
         at = draws.choice([None, draws.randint(0, last + 1)])
-        window = Window(begin, begin + draws.randint(0, 60), draws.choice([1, 2, 3, 7, 50, 1000]), at, held, most)
+        end, budget = begin + draws.randint(0, 60), draws.choice([1, 2, 3, 7, 50, 1000])
+        window = Window(begin, end, budget, at, held, most, self.asks_by_parts(draws))
         words, barred = window.words(), window.without_choice(self.network)
         if text_without_times(journal) is None and window.at is not None and window.at > last:
             told = self.call(*words)
@@ -420,7 +307,7 @@ class Asking:
         if text_without_times(journal) is None and barred is not None:
             told = self.call(*words)
             return None if told == (3, lines_of(f'refused window held {barred}')) else f'{words}: printed {told}'
-        return self.wanting_all(journal, words, lambda text: fault_of_window(self.network, self.penalty, journal, window, text))
+        return self.wanting_all(journal, words, lambda text: fault_of_window(self.network, self.penalty, journal.rows, window, text))
 
     def fault_of(self, draws: random.Random, commands: Sequence[str], text: bytes) -> Optional[str]:
         """What differs in what a text is asked, or None."""
@@ -435,19 +322,12 @@ class Asking:
         return None
 
 
-class Draws(NamedTuple):
-    """What is asked of each number: a program, its commands, and whether no feed asks for a plan by parts."""
-    program: str
-    commands: list[str]
-    is_plain: bool
-
-
 def fault_of_number(asked: Draws, counts: Counter[str], number: int, folder: str) -> Optional[str]:
     """What differs in the network, the feeds and the texts of a number, or None."""
     draws = random.Random(number)
     network = drawn_network(draws)
     write_network(draws, network, os.path.join(folder, 'net'))
-    asking = Asking(asked.program, counts, network, draws.choice([0, 1, 10, 10, 1000, 3600]), folder)
+    asking = Asking(asked, counts, network, draws.choice([0, 1, 10, 10, 1000, 3600]), folder)
     names = [f'feed{place}' for place in range(draws.choice([1, 1, 2]))]
     for name in names:
         with open(os.path.join(folder, name), 'w', newline='') as file:

@@ -86,13 +86,13 @@ class Study:
             raise BadFile(shlex.join(command), None, f'it ends with status {done.returncode}: {said}')
         return shlex.join(command), done.stdout
 
-    def ruled(self, rule: object, budget: int) -> Ruled:
-        """What a rule comes to, and a plan of this budget."""
-        command, told = self.call('rules', self.net, self.text, str(rule), str(budget))
+    def ruled(self, rule: object, budget: int, by_parts: bool = False) -> Ruled:
+        """What a rule comes to, and a plan of this budget, by parts or not."""
+        command, told = self.call('rules', self.net, self.text, str(rule), str(budget), *(['--solve'] if by_parts else []))
         lines = {words[0]: words for words in map(str.split, told.splitlines())}
         try:
             cost, choices = (int(lines['rule'][place]) for place in (3, 5))
-            plan_cost, bound = (int(lines['plan'][place]) for place in (3, 5))
+            plan_cost, bound = (int(lines['solved' if by_parts else 'plan'][place]) for place in (3, 5))
             return Ruled(cost, choices, plan_cost, bound, int(lines['gap'][1]), command)
         except (KeyError, IndexError, ValueError) as error:
             raise BadFile(command, None, 'what it prints is no answer to `rules`') from error
