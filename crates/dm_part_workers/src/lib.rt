@@ -10,9 +10,9 @@
 //!
 //! # How it goes
 //!
-//! The calling thread puts all jobs on one deque, and lends each worker a tally of it. A worker steals one job after the other,
-//! and stops where it has tried in vain some times more than there are jobs. What is left then, the calling thread solves. So no
-//! worker waits for another. In which order jobs come back depends on who was faster. Nothing else does.
+//! The calling thread puts all jobs on one deque, and lends each worker a tally of it. A worker tries to steal a job some times
+//! more often than there are jobs, whether it gets one or not. What is left then, the calling thread solves. So no worker waits
+//! for another. How far a tree grows, no clause says. In which order jobs come back depends on who was faster. Nothing else does.
 #![tactic(auto)]
 
 mod handing;

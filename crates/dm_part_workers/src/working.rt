@@ -10,7 +10,7 @@ use dm_probe::Mover;
 use std::alloc::{AllocError, Global};
 use std::marker::Brand;
 
-/// How often a worker tries in vain beyond the number of jobs.
+/// How often a worker tries to steal beyond the number of jobs.
 const SPARE: usize = 64;
 
 /// Steals jobs, of which there are at most so many, and solves them.
