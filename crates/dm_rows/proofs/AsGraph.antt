@@ -12,6 +12,7 @@ use Rattle.dm_rows.specs.Decide.{with_decisions}
 use Rattle.dm_rows.specs.Relax.{is_of_undecided}
 use Rattle.dm_rows.specs.Timetable.{time_at, planned_time, floor_of, span_of, MeetsHolding, IsLeastHolding, graph_holding}
 use Rattle.dm_rows.specs.Laws.{KeepsPassed, EntersNoPassed, ActiveEnterNoPassed, RelaxedEnterNoPassed, MeetsHoldingAsGraph, LeastHoldingAsGraph, MeetsAsGraph, LeastAsGraph}
+use Rattle.dm_rows.proofs.Running.{active_is_open}
 
 -- a floor is the passed time, or else the larger of planned time and clock
 pub floor_passed : (o : Option ℕ) (planned t : ℕ) → o ≡ Some t → unwrap_or o planned ≡ t
@@ -63,14 +64,14 @@ from_graph net rows held x known size keeps m =
       });
     }
 
-none_if_free : (o : Option ℕ) (b : Bool) → IsTrue (if is_some o then false else b) → o ≡ None
-none_if_free None b h = refl
-none_if_free (Some t) b h = cc
+none_if_free : (o : Option ℕ) → is_some o ≡ false → o ≡ None
+none_if_free None h = refl
+none_if_free (Some t) h = cc
 
 -- the head of an active activity has not passed
 pub head_is_free : (net : Net) (rows : RowsValue) (a : ℕ) → IsTrue (is_active net rows a) →
     passed_at rows (activity_at net a).head ≡ None
-head_is_free net rows a h = none_if_free (passed_at rows (activity_at net a).head) _ h
+head_is_free net rows a h = none_if_free (passed_at rows (activity_at net a).head) (active_is_open net rows a h).0
 
 pub active_enter_no_passed : ActiveEnterNoPassed
 active_enter_no_passed net rows a below h = head_is_free net rows a h

@@ -1,4 +1,4 @@
--- What binds at the start is what is active under the start rows.
+-- What binds at the start is what is active under the start rows, and with cancelled events nothing more is.
 use Rattle.std.proofs.Common.{◌≡◌, ℕ, length, get_or, Option, Some, None, Bool, true, false, refl, sym, ap, ◌∙◌, arith, cond, inl, inr}
 use Rattle.std.specs.Prelude.{replicate, is_some, ◌==◌}
 use Rattle.std.proofs.lemmas.List.{get_or-replicate, length-replicate}
@@ -11,16 +11,21 @@ use Rattle.dm_base.specs.declared.rows.ActKind.TheVariants.{Drive, Wait, Turnaro
 use Rattle.dm_network.specs.Net.{Net, activity_at, is_headway, no_pair}
 use Rattle.dm_network.specs.Pairs.{pair_place, joins}
 use Rattle.dm_network.specs.Start.{binds_at_start, starts_small_first, first_event}
-use Rattle.dm_rows.specs.Rows.{RowsValue, kept_at, small_first_at, start_rows_of}
+use Rattle.dm_rows.specs.Rows.{RowsValue, kept_at, small_first_at, start_rows_of, start_rows_without}
 use Rattle.dm_rows.specs.Active.{has_passed, binds}
-use Rattle.dm_rows.specs.Laws.{StartActivityAgrees}
+use Rattle.dm_rows.specs.Laws.{StartActivityAgrees, ActiveAtStartBinds}
+use Rattle.dm_rows.proofs.Running.{active_runs, both_run, was_active}
 
-same_everywhere : {A : Type 0} (n i : ℕ) (a : A) → get_or (replicate n a) i a ≡ a
+pub same_everywhere : {A : Type 0} (n i : ℕ) (a : A) → get_or (replicate n a) i a ≡ a
 same_everywhere n i a =
     elim (cases_lt i n) [
       | inl below ↦ get_or-replicate n i a a below
       | inr past ↦ get_or-eq_default (replicate n a) a {n = i} (let size = length-replicate n a in omega arith)
     ]
+
+-- no event is cancelled
+none_cancelled : (net : Net) (i : ℕ) → get_or (replicate (length net.events) false) i false ≡ false
+none_cancelled net i = same_everywhere (length net.events) i false
 
 -- what the start rows say of each activity
 record SaysStart (net : Net) (rows : RowsValue) (pair : Option ℕ) (a : ℕ) : Type 0 where
@@ -66,3 +71,10 @@ start_activity_agrees net events activities a formed below =
     binds_alike net rows (activity_at net a).kind (activity_at net a).pair (activity_at net a).tail a says
     (none_of_other (is_headway (activity_at net a).kind) _ _ (formed.is_paired.belongs a below))
     ∙ sym (ap (λ b. cond b false (binds net rows (activity_at net a).kind (activity_at net a).pair (activity_at net a).tail a)) (free (activity_at net a).head))
+    ∙ sym (active_runs net rows a (both_run _ _ (none_cancelled net (activity_at net a).tail) (none_cancelled net (activity_at net a).head)))
+
+pub active_at_start_binds : ActiveAtStartBinds
+active_at_start_binds net events activities ids a formed below active =
+    start_activity_agrees net events activities a formed below
+    ∙ was_active net (start_rows_of net events activities) (start_rows_without net events activities ids) a active (λ h. h)
+    (none_cancelled net (activity_at net a).tail) (none_cancelled net (activity_at net a).head) (λ h. h)

@@ -1,5 +1,5 @@
--- A delay, a passed event, a dropped change and a clock never make a cycle.
-use Rattle.std.proofs.Common.{◌≡◌, ℕ, List, [], ◌∷◌, length, get_or, set, Option, Some, None, Bool, IsTrue, true, false, cond, refl, sym, ap, subst, ◌∙◌, arith, inl, inr}
+-- A delay, a passed event, a dropped change, a clock, a cancelled event and a lock never make a cycle.
+use Rattle.std.proofs.Common.{◌≡◌, ℕ, List, [], ◌∷◌, length, get_or, set, Option, Some, None, Bool, IsTrue, true, false, cond, refl, sym, ap, subst, ◌∙◌, arith, inl, inr, ◌≤◌}
 use Rattle.std.specs.Prelude.{is_some, option_map}
 use Rattle.std.proofs.Math.ListN.{get_or-eq_default}
 use Rattle.std.proofs.lemmas.Bool.{cases_eq, cases_lt}
@@ -10,21 +10,20 @@ use Rattle.dm_base.specs.declared.rows.ActKind.TheVariants.{Drive, Wait, Turnaro
 use Rattle.dm_graph.specs.Arcs.{Chain}
 use Rattle.dm_network.specs.Net.{Net, activity_at, event_place, activity_place}
 use Rattle.dm_network.specs.Held.{arcs_of, HasNoCycleOf}
-use Rattle.dm_rows.specs.declared.messages.Change.TheVariants.{EventDelay, ActDelay, Passed, Flipped}
+use Rattle.dm_rows.specs.declared.messages.Change.TheVariants.{EventDelay, ActDelay, Passed, Flipped, Cancelled, Locked, Unlocked}
 use Rattle.dm_rows.specs.declared.messages.Flip.TheVariants.{Drop as DropFlip}
-use Rattle.dm_rows.specs.declared.messages.Message.TheVariants.{DelayEvent, DelayActivity, Pass, Recall, Keep, Drop, First, Adopt, Now}
+use Rattle.dm_rows.specs.declared.messages.Spot.{Spot}
+use Rattle.dm_rows.specs.declared.messages.Spot.TheVariants.{Change as AtChange, Pair as AtPair}
+use Rattle.dm_rows.specs.declared.messages.Message.TheVariants.{DelayEvent, DelayActivity, Pass, Recall, Keep, Drop, First, Adopt, Now, Cancel, Restore, Lock, Unlock}
 use Rattle.dm_rows.specs.Active.{is_active, active_arcs, binds, has_passed, HasNoCycle}
-use Rattle.dm_rows.specs.Resolve.{after, after_named}
-use Rattle.dm_rows.specs.Rows.{RowsValue}
+use Rattle.dm_rows.specs.Resolve.{after, after_named, spot_named}
+use Rattle.dm_rows.specs.Rows.{RowsValue, IsSized}
 use Rattle.dm_rows.specs.Harmless.{NeverMakeCycles}
+use Rattle.dm_rows.proofs.Running.{active_is_open, was_active}
 
 -- the head of an active activity has not passed
-pub open_if_active : (passed b : Bool) → IsTrue (cond passed false b) → passed ≡ false
-open_if_active true b h = cc
-open_if_active false b h = refl
-
 pub head_is_open : (net : Net) (rows : RowsValue) (a : ℕ) → IsTrue (is_active net rows a) → has_passed rows (activity_at net a).head ≡ false
-head_is_open net rows a h = open_if_active (has_passed rows (activity_at net a).head) _ h
+head_is_open net rows a h = (active_is_open net rows a h).0
 
 -- where each active activity out of an event that has not passed is held, and what is held has no cycle, the rows have none
 module _ (net : Net) (rows : RowsValue) (held : ℕ → Bool)
@@ -74,18 +73,16 @@ binds_kept net rows kept Change pair tail x same h = same h
 binds_kept net rows kept Headway None tail x same h = h
 binds_kept net rows kept Headway (Some p) tail x same h = h
 
-pub unless : (passed b c : Bool) → (IsTrue b → IsTrue c) → IsTrue (cond passed false b) → IsTrue (cond passed false c)
-unless true b c to h = h
-unless false b c to h = to h
-
 pub dropped : (net : Net) (rows : RowsValue) (o : Option ℕ) → HasNoCycle net rows →
     HasNoCycle net (after_named rows (option_map (λ flip. Flipped flip) (option_map (λ a. DropFlip a) o)))
 dropped net rows None none = none
 dropped net rows (Some a) none =
     let kept : List Bool = set rows.kept a false in
     none_of_rows net (record rows { kept = kept }) (is_active net rows)
-    (λ x active unpassed. unless (has_passed rows (activity_at net x).head) _ _
-    (binds_kept net rows kept (activity_at net x).kind (activity_at net x).pair (activity_at net x).tail x (kept_before rows.kept a x)) active)
+    (λ x active unpassed.
+    let parts = active_is_open net (record rows { kept = kept }) x active in
+    was_active net rows (record rows { kept = kept }) x active (λ h. h) parts.1 parts.2
+    (binds_kept net rows kept (activity_at net x).kind (activity_at net x).pair (activity_at net x).tail x (kept_before rows.kept a x)))
     none
 
 -- a passed event: what has not passed had not
@@ -115,23 +112,71 @@ binds_open net rows passed Change pair tail x p q h = h
 binds_open net rows passed Headway None tail x p q h = h
 binds_open net rows passed Headway (Some n) tail x p q h = first_goes (has_passed rows tail) (is_some (get_or passed tail None)) _ p q h
 
-pub active_before : (before after b c : Bool) → (after ≡ false → before ≡ false) → (IsTrue b → IsTrue c) → IsTrue (cond after false b) →
-    IsTrue (cond before false c)
-active_before before true b c same to h = cc
-active_before before false b c same to h = let e = same refl in rw e (to h)
+-- an event that has neither passed nor is cancelled after a pass was not cancelled before it
+pub runs_before : (passed : List (Option ℕ)) (cancelled : List Bool) (i t j : ℕ) → length cancelled ≡ length passed →
+    is_some (get_or (set passed i (Some t)) j None) ≡ false → get_or (set cancelled i false) j false ≡ false → get_or cancelled j false ≡ false
+runs_before passed cancelled i t j size unpassed off =
+    elim (cases_eq j i) [
+      | inl same ↦ elim (cases_lt j (length passed)) [
+        | inl below ↦ let on = ap is_some (get_or-set_at passed i j (Some t) None same (omega arith)) in cc
+        | inr past ↦ let beyond : length cancelled ≤ j = omega arith in get_or-eq_default cancelled false {n = j} beyond
+      ]
+      | inr other ↦ sym (get_or-set_other cancelled i j false false other) ∙ off
+    ]
 
-pub passed : (net : Net) (rows : RowsValue) (t : ℕ) (o : Option ℕ) → HasNoCycle net rows →
+pub passed : (net : Net) (rows : RowsValue) (t : ℕ) (o : Option ℕ) → IsSized net rows → HasNoCycle net rows →
     HasNoCycle net (after_named rows (option_map (λ i. Passed i t) o))
-passed net rows t None none = none
-passed net rows t (Some i) none =
+passed net rows t None sized none = none
+passed net rows t (Some i) sized none =
     let later : List (Option ℕ) = set rows.passed i (Some t) in
-    none_of_rows net (record rows { passed = later }) (is_active net rows)
-    (λ x active unpassed. active_before (has_passed rows (activity_at net x).head) (is_some (get_or later (activity_at net x).head None)) _ _
-    (open_before rows.passed i t (activity_at net x).head)
+    let running : List Bool = set rows.cancelled i false in
+    let after : RowsValue = record rows { passed = later; cancelled = running } in
+    let size : length rows.cancelled ≡ length rows.passed = sized.cancelled ∙ sym sized.passed in
+    none_of_rows net after (is_active net rows)
+    (λ x active unpassed.
+    let parts = active_is_open net after x active in
+    was_active net rows after x active (open_before rows.passed i t (activity_at net x).head)
+    (runs_before rows.passed rows.cancelled i t (activity_at net x).tail size unpassed parts.1)
+    (runs_before rows.passed rows.cancelled i t (activity_at net x).head size parts.0 parts.2)
     (binds_open net rows later (activity_at net x).kind (activity_at net x).pair (activity_at net x).tail x
-    (open_before rows.passed i t (activity_at net x).tail unpassed) unpassed)
-    active)
+    (open_before rows.passed i t (activity_at net x).tail unpassed) unpassed))
     none
+
+-- a cancelled event: what runs after it ran before
+pub ran_before : (cancelled : List Bool) (i j : ℕ) → get_or (set cancelled i true) j false ≡ false → get_or cancelled j false ≡ false
+ran_before cancelled i j h =
+    elim (cases_eq j i) [
+      | inl same ↦ elim (cases_lt j (length cancelled)) [
+        | inl below ↦ let on = get_or-set_at cancelled i j true false same (omega arith) in cc
+        | inr past ↦ get_or-eq_default cancelled false {n = j} past
+      ]
+      | inr other ↦ sym (get_or-set_other cancelled i j true false other) ∙ h
+    ]
+
+pub event_cancelled : (net : Net) (rows : RowsValue) (o : Option ℕ) → HasNoCycle net rows →
+    HasNoCycle net (after_named rows (option_map (λ i. Cancelled i) o))
+event_cancelled net rows None none = none
+event_cancelled net rows (Some i) none =
+    let after : RowsValue = record rows { cancelled = set rows.cancelled i true } in
+    none_of_rows net after (is_active net rows)
+    (λ x active unpassed.
+    let parts = active_is_open net after x active in
+    was_active net rows after x active (λ h. h) (ran_before rows.cancelled i (activity_at net x).tail parts.1)
+    (ran_before rows.cancelled i (activity_at net x).head parts.2) (λ h. h))
+    none
+
+-- locks change nothing that binds
+pub choice_locked : (net : Net) (rows : RowsValue) (o : Option Spot) → HasNoCycle net rows →
+    HasNoCycle net (after_named rows (option_map (λ spot. Locked spot) o))
+choice_locked net rows None none = none
+choice_locked net rows (Some (AtChange a)) none = none
+choice_locked net rows (Some (AtPair p)) none = none
+
+pub choice_unlocked : (net : Net) (rows : RowsValue) (o : Option Spot) → HasNoCycle net rows →
+    HasNoCycle net (after_named rows (option_map (λ spot. Unlocked spot) o))
+choice_unlocked net rows None none = none
+choice_unlocked net rows (Some (AtChange a)) none = none
+choice_unlocked net rows (Some (AtPair p)) none = none
 
 -- delays and the clock change nothing that binds
 pub event_delayed : (net : Net) (rows : RowsValue) (d : ℕ) (o : Option ℕ) → HasNoCycle net rows →
@@ -145,12 +190,16 @@ activity_delayed net rows d None none = none
 activity_delayed net rows d (Some a) none = none
 
 pub never_make_cycles : NeverMakeCycles
-never_make_cycles net rows (DelayEvent e d) harmless none = event_delayed net rows d (event_place net e) none
-never_make_cycles net rows (DelayActivity a d) harmless none = activity_delayed net rows d (activity_place net a) none
-never_make_cycles net rows (Pass e t) harmless none = passed net rows t (event_place net e) none
-never_make_cycles net rows (Drop a) harmless none = dropped net rows (activity_place net a) none
-never_make_cycles net rows (Now t) harmless none = none
-never_make_cycles net rows (Recall e) harmless none = absurd harmless
-never_make_cycles net rows (Keep a) harmless none = absurd harmless
-never_make_cycles net rows (First i j) harmless none = absurd harmless
-never_make_cycles net rows (Adopt ds) harmless none = absurd harmless
+never_make_cycles net rows (DelayEvent e d) sized harmless none = event_delayed net rows d (event_place net e) none
+never_make_cycles net rows (DelayActivity a d) sized harmless none = activity_delayed net rows d (activity_place net a) none
+never_make_cycles net rows (Pass e t) sized harmless none = passed net rows t (event_place net e) sized none
+never_make_cycles net rows (Drop a) sized harmless none = dropped net rows (activity_place net a) none
+never_make_cycles net rows (Now t) sized harmless none = none
+never_make_cycles net rows (Cancel e) sized harmless none = event_cancelled net rows (event_place net e) none
+never_make_cycles net rows (Lock choice) sized harmless none = choice_locked net rows (spot_named net choice) none
+never_make_cycles net rows (Unlock choice) sized harmless none = choice_unlocked net rows (spot_named net choice) none
+never_make_cycles net rows (Recall e) sized harmless none = absurd harmless
+never_make_cycles net rows (Keep a) sized harmless none = absurd harmless
+never_make_cycles net rows (First i j) sized harmless none = absurd harmless
+never_make_cycles net rows (Adopt ds) sized harmless none = absurd harmless
+never_make_cycles net rows (Restore e) sized harmless none = absurd harmless

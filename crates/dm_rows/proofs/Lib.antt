@@ -5,8 +5,12 @@ pub mod Choosing
 pub mod FlipLemmas
 pub mod Holding
 pub mod PairEnds
+pub mod Freeness
+pub mod Running
 pub mod Setting
 pub mod Sides
+pub mod Standings
+pub mod StartCancelled
 pub mod StartDelays
 pub mod StartSizes
 pub mod Worked

@@ -1,6 +1,6 @@
 -- Decisions set one after another, and the sizes that a change leaves.
 use Rattle.std.proofs.Common.{◌≡◌, List, [], ◌∷◌, ◌++◌, length, fold, Option, Some, None, refl, sym, ap, ◌∙◌, subst}
-use Rattle.std.specs.Prelude.{All, IsSome, true, false, option_map}
+use Rattle.std.specs.Prelude.{All, IsSome, Bool, true, false, option_map}
 use Rattle.std.proofs.lemmas.List.{length-set}
 use Rattle.std.proofs.lemmas.List.Elements.{All-head, All-tail}
 use Rattle.std.proofs.lemmas.List.Sums.{fold-append}
@@ -8,10 +8,12 @@ use Rattle.dm_network.specs.Net.{Net}
 use Rattle.dm_rows.specs.declared.messages.Decision.{Decision}
 use Rattle.dm_rows.specs.declared.messages.Flip.{Flip}
 use Rattle.dm_rows.specs.declared.messages.Flip.TheVariants.{Keep, Drop, First}
+use Rattle.dm_rows.specs.declared.messages.Spot.{Spot}
+use Rattle.dm_rows.specs.declared.messages.Spot.TheVariants.{Change as AtChange, Pair as AtPair}
 use Rattle.dm_rows.specs.declared.messages.Change.{Change}
-use Rattle.dm_rows.specs.declared.messages.Change.TheVariants.{EventDelay, ActDelay, Passed, Recalled, Flipped, Adopted, Clock}
+use Rattle.dm_rows.specs.declared.messages.Change.TheVariants.{EventDelay, ActDelay, Passed, Recalled, Flipped, Adopted, Clock, Cancelled, Restored, Locked, Unlocked}
 use Rattle.dm_rows.specs.Rows.{RowsValue, IsSized}
-use Rattle.dm_rows.specs.Resolve.{flip_named, flips_named, with_next, after_flip, after_change, after_named}
+use Rattle.dm_rows.specs.Resolve.{flip_named, flips_named, with_next, after_flip, after_lock, after_change, after_named}
 use Rattle.dm_rows.specs.Decide.{with_flip, with_decisions}
 use Rattle.dm_rows.specs.Laws.{AdoptSetsDecisions}
 
@@ -54,20 +56,31 @@ adopt_sets_decisions net rows ds named =
 -- lists of these lengths are as long as the network's where others of those lengths are
 same_sizes : (net : Net) (rows after : RowsValue) → IsSized net rows → length after.event_delays ≡ length rows.event_delays →
     length after.act_delays ≡ length rows.act_delays → length after.passed ≡ length rows.passed →
-    length after.kept ≡ length rows.kept → length after.small_first ≡ length rows.small_first → IsSized net after
-same_sizes net rows after sized events acts passed kept first =
+    length after.cancelled ≡ length rows.cancelled → length after.kept ≡ length rows.kept →
+    length after.locked_changes ≡ length rows.locked_changes → length after.small_first ≡ length rows.small_first →
+    length after.locked_pairs ≡ length rows.locked_pairs → IsSized net after
+same_sizes net rows after sized events acts passed cancelled kept changes first pairs =
     record {
       event_delays = events ∙ sized.event_delays;
       act_delays = acts ∙ sized.act_delays;
       passed = passed ∙ sized.passed;
+      cancelled = cancelled ∙ sized.cancelled;
       kept = kept ∙ sized.kept;
+      locked_changes = changes ∙ sized.locked_changes;
       small_first = first ∙ sized.small_first;
+      locked_pairs = pairs ∙ sized.locked_pairs;
     }
 
 flip_keeps_sizes : (net : Net) (rows : RowsValue) (flip : Flip) → IsSized net rows → IsSized net (after_flip rows flip)
-flip_keeps_sizes net rows (Keep a) sized = same_sizes net rows _ sized refl refl refl (length-set rows.kept a true) refl
-flip_keeps_sizes net rows (Drop a) sized = same_sizes net rows _ sized refl refl refl (length-set rows.kept a false) refl
-flip_keeps_sizes net rows (First p small) sized = same_sizes net rows _ sized refl refl refl refl (length-set rows.small_first p small)
+flip_keeps_sizes net rows (Keep a) sized = same_sizes net rows _ sized refl refl refl refl (length-set rows.kept a true) refl refl refl
+flip_keeps_sizes net rows (Drop a) sized = same_sizes net rows _ sized refl refl refl refl (length-set rows.kept a false) refl refl refl
+flip_keeps_sizes net rows (First p small) sized = same_sizes net rows _ sized refl refl refl refl refl refl (length-set rows.small_first p small) refl
+
+lock_keeps_sizes : (net : Net) (rows : RowsValue) (spot : Spot) (locked : Bool) → IsSized net rows → IsSized net (after_lock rows spot locked)
+lock_keeps_sizes net rows (AtChange a) locked sized =
+    same_sizes net rows _ sized refl refl refl refl refl (length-set rows.locked_changes a locked) refl refl
+lock_keeps_sizes net rows (AtPair p) locked sized =
+    same_sizes net rows _ sized refl refl refl refl refl refl refl (length-set rows.locked_pairs p locked)
 
 flips_keep_sizes : (net : Net) (rows : RowsValue) (flips : List Flip) → IsSized net rows → IsSized net (fold after_flip rows flips)
 flips_keep_sizes net rows [] sized = sized
@@ -75,13 +88,18 @@ flips_keep_sizes net rows (flip ∷ flips) sized = flips_keep_sizes net (after_f
 
 -- a change leaves the sizes as they were
 pub change_keeps_sizes : (net : Net) (rows : RowsValue) (change : Change) → IsSized net rows → IsSized net (after_change rows change)
-change_keeps_sizes net rows (EventDelay i d) sized = same_sizes net rows _ sized (length-set rows.event_delays i d) refl refl refl refl
-change_keeps_sizes net rows (ActDelay a d) sized = same_sizes net rows _ sized refl (length-set rows.act_delays a d) refl refl refl
-change_keeps_sizes net rows (Passed i t) sized = same_sizes net rows _ sized refl refl (length-set rows.passed i (Some t)) refl refl
-change_keeps_sizes net rows (Recalled i) sized = same_sizes net rows _ sized refl refl (length-set rows.passed i None) refl refl
+change_keeps_sizes net rows (EventDelay i d) sized = same_sizes net rows _ sized (length-set rows.event_delays i d) refl refl refl refl refl refl refl
+change_keeps_sizes net rows (ActDelay a d) sized = same_sizes net rows _ sized refl (length-set rows.act_delays a d) refl refl refl refl refl refl
+change_keeps_sizes net rows (Passed i t) sized =
+    same_sizes net rows _ sized refl refl (length-set rows.passed i (Some t)) (length-set rows.cancelled i false) refl refl refl refl
+change_keeps_sizes net rows (Recalled i) sized = same_sizes net rows _ sized refl refl (length-set rows.passed i None) refl refl refl refl refl
 change_keeps_sizes net rows (Flipped flip) sized = flip_keeps_sizes net rows flip sized
 change_keeps_sizes net rows (Adopted flips) sized = flips_keep_sizes net rows flips sized
-change_keeps_sizes net rows (Clock t) sized = same_sizes net rows _ sized refl refl refl refl refl
+change_keeps_sizes net rows (Clock t) sized = same_sizes net rows _ sized refl refl refl refl refl refl refl refl
+change_keeps_sizes net rows (Cancelled i) sized = same_sizes net rows _ sized refl refl refl (length-set rows.cancelled i true) refl refl refl refl
+change_keeps_sizes net rows (Restored i) sized = same_sizes net rows _ sized refl refl refl (length-set rows.cancelled i false) refl refl refl refl
+change_keeps_sizes net rows (Locked spot) sized = lock_keeps_sizes net rows spot true sized
+change_keeps_sizes net rows (Unlocked spot) sized = lock_keeps_sizes net rows spot false sized
 
 -- the rows after a list of decisions too
 pub adopting_keeps_sizes : (rows after : RowsValue) (flips : List Flip) → after ≡ fold after_flip rows flips → (net : Net) → IsSized net rows →

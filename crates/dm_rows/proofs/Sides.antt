@@ -12,10 +12,10 @@ use Rattle.dm_rows.specs.Relax.{is_same_choice}
 use Rattle.dm_rows.specs.Sides.{first_decision, second_decision, is_first_decision, other_decision, is_ordered, IsOrdered}
 
 -- ids are equal where their numbers are
-act_id : (a b : ActId) → a.0 ≡ b.0 → a ≡ b
+pub act_id : (a b : ActId) → a.0 ≡ b.0 → a ≡ b
 act_id a b e = let f : ℕ → ActId = λ n. record { 0 = n } in ap f e
 
-event_id : (a b : EventId) → a.0 ≡ b.0 → a ≡ b
+pub event_id : (a b : EventId) → a.0 ≡ b.0 → a ≡ b
 event_id a b e = let f : ℕ → EventId = λ n. record { 0 = n } in ap f e
 
 -- two choices that the test takes for one are one

@@ -1,5 +1,5 @@
 -- Delays set by one record after another.
-use Rattle.std.proofs.Common.{◌≡◌, ℕ, ◌+◌, ◌<◌, ◌≤◌, List, [], ◌∷◌, ◌++◌, length, map, take, get_or, set, Option, Some, None, Bool, true, false, eqb, cond, arith, refl, sym, ap, ◌∙◌, subst, inl, inr, position}
+use Rattle.std.proofs.Common.{◌≡◌, ℕ, ◌+◌, ◌<◌, ◌≤◌, List, [], ◌∷◌, ◌++◌, length, map, take, get_or, set, Option, Some, None, true, false, eqb, cond, arith, refl, sym, ap, ◌∙◌, subst, inl, inr, position}
 use Rattle.std.specs.Prelude.{slice_get, IsSome}
 use Rattle.std.specs.List.{range_with_len}
 use Rattle.std.specs.List.Sorted.{IsStrictlyIncreasing}
@@ -160,7 +160,7 @@ first_unknown net delayed records n row below is none known =
     })
 
 -- one more item of a list made place by place
-pub one_more_item : (f : ℕ → Bool) (items : List Bool) (p : ℕ) (item : Bool) → items ≡ map f (range_with_len 0 p) → item ≡ f p →
+pub one_more_item : {A : Type 0} (f : ℕ → A) (items : List A) (p : ℕ) (item : A) → items ≡ map f (range_with_len 0 p) → item ≡ f p →
     items ++ item ∷ [] ≡ map f (range_with_len 0 (p + 1))
 one_more_item f items p item so_far is =
     rw (map-range_with_len_more f 0 p p (omega arith)) (let e : items ≡ map f (range_with_len 0 p) = so_far in cc)

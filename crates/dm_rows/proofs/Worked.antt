@@ -1,5 +1,5 @@
 -- Timetables of held activities shown least by computing: each time is at the event's floor, or is pushed by an activity out
--- of an earlier one.
+-- of an event with an earlier time.
 use Rattle.std.proofs.Common.{◌≡◌, ℕ, ◌+◌, ◌<◌, ◌≤◌, List, length, Bool, true, false, IsTrue, arith, refl, sym, ap, subst, inl, inr}
 use Rattle.std.specs.Prelude.{◌&&◌, ◌⊎◌, ◌==◌, nat_lt, nat_le, slice_index_or, if◌then◌else◌, zero, suc}
 use Rattle.std.specs.List.{range_with_len, list_all}
@@ -37,10 +37,10 @@ abbrev is_met_at : Net → RowsValue → (ℕ → Bool) → List ℕ → ℕ →
 is_met_at net rows held x a =
     if held a then nat_le (time_at x (activity_at net a).tail + span_of net rows a) (time_at x (activity_at net a).head) else true
 
--- the event is no later than a held activity out of an earlier place makes it
+-- the event is no later than a held activity out of an event with an earlier time makes it
 abbrev is_pushed_by : Net → RowsValue → (ℕ → Bool) → List ℕ → ℕ → ℕ → Bool
 is_pushed_by net rows held x i a =
-    nat_lt a (length net.activities) && (held a && ((activity_at net a).head == i && (nat_lt (activity_at net a).tail i
+    nat_lt a (length net.activities) && (held a && ((activity_at net a).head == i && (nat_lt (time_at x (activity_at net a).tail) (time_at x i)
     && nat_le (time_at x i) (time_at x (activity_at net a).tail + span_of net rows a))))
 
 -- the event is no later than its floor, or than the activity that is given for it makes it
@@ -48,12 +48,12 @@ abbrev is_tight_at : Net → RowsValue → (ℕ → Bool) → List ℕ → List 
 is_tight_at net rows held x why i =
     if nat_le (time_at x i) (floor_of net rows i) then true else is_pushed_by net rows held x i (slice_index_or why i 0)
 
--- a held activity out of an earlier place makes the event at least as late
+-- a held activity out of an event with an earlier time makes the event at least as late
 record IsPushed (net : Net) (rows : RowsValue) (held : ℕ → Bool) (x : List ℕ) (i a : ℕ) : Type 0 where
   is_activity : a < length net.activities
   holds : IsTrue (held a)
   enters : (activity_at net a).head ≡ i
-  earlier : (activity_at net a).tail < i
+  earlier : time_at x (activity_at net a).tail < time_at x i
   late : time_at x i ≤ time_at x (activity_at net a).tail + span_of net rows a
 
 is_pushed : (net : Net) (rows : RowsValue) (held : ℕ → Bool) (x : List ℕ) (i a : ℕ) → is_pushed_by net rows held x i a ≡ true → IsPushed net rows held x i a
@@ -81,7 +81,7 @@ met_if false kept h active = cc
 
 earliest : (net : Net) (rows : RowsValue) (held : ℕ → Bool) (x why : List ℕ) → EndsAreKnown net →
     ((i : ℕ) → i < length net.events → is_tight_at net rows held x why i ≡ true) →
-    (y : ℕ → ℕ) → MeetsGraph (graph_holding net rows held) y → (n e : ℕ) → e < n → e < length net.events → time_at x e ≤ y e
+    (y : ℕ → ℕ) → MeetsGraph (graph_holding net rows held) y → (n e : ℕ) → time_at x e < n → e < length net.events → time_at x e ≤ y e
 earliest net rows held x why known tight y m zero e low below = absurd (omega arith)
 earliest net rows held x why known tight y m (suc n) e low below =
     let a : ℕ = slice_index_or why e 0 in
@@ -104,6 +104,9 @@ earliest net rows held x why known tight y m (suc n) e low below =
           omega arith
     ]
 
+below_next : (n : ℕ) → n < n + 1
+below_next n = omega arith
+
 pub shown_least : (net : Net) (rows : RowsValue) (held : ℕ → Bool) (x why : List ℕ) → EntersNoPassed net rows held → length x ≡ length net.events →
     list_all (is_known_at net) (range_with_len 0 (length net.activities)) ≡ true →
     list_all (is_above_at net rows x) (range_with_len 0 (length net.events)) ≡ true →
@@ -122,5 +125,5 @@ shown_least net rows held x why enters size known above met tight =
             leb-true _ _ (met_if (held a) _ (passes (is_met_at net rows held x) (length net.activities) met a binds.is_arc) binds.is_held);
       };
       earliest = λ y m e below.
-          earliest net rows held x why ends (passes (is_tight_at net rows held x why) (length net.events) tight) y m (length net.events) e below below;
+          earliest net rows held x why ends (passes (is_tight_at net rows held x why) (length net.events) tight) y m (time_at x e + 1) e (below_next (time_at x e)) below;
     })

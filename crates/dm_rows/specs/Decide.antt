@@ -7,17 +7,24 @@ use Rattle.dm_rows.specs.declared.messages.Decision.TheVariants.{Keep, Drop, Fir
 use Rattle.dm_rows.specs.declared.messages.Choice.{Choice}
 use Rattle.dm_rows.specs.declared.messages.Choice.TheVariants.{Change, Pair}
 use Rattle.dm_rows.specs.declared.messages.Flip.{Flip}
-use Rattle.dm_rows.specs.Rows.{RowsValue}
-use Rattle.dm_rows.specs.Active.{has_passed}
+use Rattle.dm_rows.specs.Rows.{RowsValue, is_cancelled, is_locked_change, is_locked_pair}
+use Rattle.dm_rows.specs.Active.{has_passed, has_cancelled_end}
 use Rattle.dm_rows.specs.Resolve.{flip_named, after_flip}
 
--- a change whose head has not passed
+-- a change whose head has not passed, none of whose ends is cancelled, and that is not locked
 abbrev pub is_free_change : Net → RowsValue → ℕ → Bool
-is_free_change net rows a = is_change (activity_at net a).kind && not (has_passed rows (activity_at net a).head)
+is_free_change net rows a =
+    is_change (activity_at net a).kind && not (has_passed rows (activity_at net a).head)
+    && not (has_cancelled_end net rows a) && not (is_locked_change rows a)
 
--- a pair of which neither event has passed
+-- the event has neither passed nor is it cancelled
+abbrev pub is_ahead : RowsValue → ℕ → Bool
+is_ahead rows i = not (has_passed rows i) && not (is_cancelled rows i)
+
+-- a pair of which no event has passed or is cancelled, and that is not locked
 abbrev pub is_free_pair : Net → RowsValue → ℕ → Bool
-is_free_pair net rows p = not (has_passed rows (pair_at net p).small) && not (has_passed rows (pair_at net p).large)
+is_free_pair net rows p =
+    is_ahead rows (pair_at net p).small && is_ahead rows (pair_at net p).large && not (is_locked_pair rows p)
 
 -- a change, a pair as a choice
 abbrev pub change_choice : Net → ℕ → Choice

@@ -11,7 +11,8 @@ use Rattle.dm_network.specs.declared.parts.Event.{Event}
 use Rattle.dm_network.specs.declared.parts.Activity.{Activity}
 use Rattle.dm_network.specs.Net.{Net}
 use Rattle.dm_rows.specs.Rows.{RowsValue, start_rows_of}
-use Rattle.dm_rows.specs.declared.messages.Message.TheVariants.{DelayEvent, Pass, Recall, Drop, First, Now}
+use Rattle.dm_rows.specs.declared.messages.Message.TheVariants.{DelayEvent, Pass, Recall, Drop, First, Now, Cancel, Restore, Lock}
+use Rattle.dm_rows.specs.declared.messages.Choice.TheVariants as choice
 use Rattle.dm_rows.specs.Resolve.{after}
 
 -- an id of an event, of an activity
@@ -104,6 +105,36 @@ arrived = with_clock 240 (after connection (after connection at_start (Pass (eve
 
 abbrev pub recalled : RowsValue
 recalled = after connection arrived (Recall (event_id 2))
+
+-- an event cancelled, and restored
+abbrev pub without : ℕ → RowsValue → RowsValue
+without e rows = after connection rows (Cancel (event_id e))
+
+abbrev pub with_again : ℕ → RowsValue → RowsValue
+with_again e rows = after connection rows (Restore (event_id e))
+
+-- the first train ends at the station, and leaves 100 seconds late; then its next departure is restored, and then its arrival
+abbrev pub ends_early : RowsValue
+ends_early = after connection (without 4 (without 3 at_start)) (DelayEvent (event_id 1) 100)
+
+abbrev pub leaves_again : RowsValue
+leaves_again = with_again 3 ends_early
+
+abbrev pub runs_again : RowsValue
+runs_again = with_again 4 leaves_again
+
+-- nobody may change what is decided of the change
+abbrev pub with_change_locked : RowsValue → RowsValue
+with_change_locked rows = after connection rows (Lock (choice.Change (activity_id 5)))
+
+-- nor of the pair
+abbrev pub with_pair_locked : RowsValue → RowsValue
+with_pair_locked rows = after connection rows (Lock (choice.Pair (event_id 3) (event_id 5)))
+
+-- on the turnaround network the arrival before the turnaround is cancelled, and then the second train goes first
+abbrev pub turned_free : RowsValue
+turned_free =
+    after turnaround (after turnaround turnaround_at_start (Cancel (event_id 4))) (First (event_id 5) (event_id 3))
 
 -- the times of the connection as they are scheduled, which are its least at the start
 abbrev pub scheduled : List ℕ

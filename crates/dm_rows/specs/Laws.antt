@@ -1,15 +1,16 @@
 -- How the rows' own definitions stand to the general theory of graphs, to what binds at the start, and to one another.
-use Rattle.std.specs.Prelude.{ℕ, ◌≡◌, ◌<◌, ◌≤◌, ◌↔◌, ◌⊎◌, Bool, IsTrue, List, length, Some, None, All, IsSome}
+use Rattle.std.specs.Prelude.{ℕ, ◌≡◌, ◌<◌, ◌≤◌, ◌↔◌, ◌⊎◌, Bool, IsTrue, List, length, Some, None, All, IsSome, Contains}
 use Rattle.dm_graph.specs.Graph.{Meets as MeetsGraph, IsLeast as IsLeastOfGraph}
 use Rattle.dm_network.specs.Net.{Net, EndsAreKnown, activity_at}
 use Rattle.dm_network.specs.Held.{HasNoCycleOf}
 use Rattle.dm_base.specs.declared.rows.DelayRow.{DelayRow}
 use Rattle.dm_network.specs.Start.{IsFormed, IsNetwork, is_start_active}
-use Rattle.dm_rows.specs.Rows.{RowsValue, passed_at, start_rows_of}
+use Rattle.dm_rows.specs.Rows.{RowsValue, passed_at, start_rows_of, start_rows_without}
 use Rattle.dm_rows.specs.declared.messages.Decision.{Decision}
 use Rattle.dm_rows.specs.declared.messages.Message.TheVariants.{Adopt}
 use Rattle.dm_rows.specs.Active.{is_active}
-use Rattle.dm_rows.specs.Decide.{with_decisions}
+use Rattle.dm_rows.specs.Decide.{free_choices_of, choice_of, with_decisions}
+use Rattle.dm_rows.specs.Refuse.{PassesDecision}
 use Rattle.dm_rows.specs.Relax.{is_relaxed_active}
 use Rattle.dm_rows.specs.Resolve.{flip_named, after}
 use Rattle.dm_rows.specs.Timetable.{MeetsHolding, IsLeastHolding, Meets, IsLeast, graph_holding, graph_of, span_of, time_at}
@@ -85,7 +86,20 @@ LeastAsGraph =
     (net : Net) (rows : RowsValue) (x : List ℕ) → EndsAreKnown net → length x ≡ length net.events →
     IsLeast net rows x ↔ IsLeastOfGraph (graph_of net rows) (time_at x)
 
--- what binds at the start is what is active under the start rows, whatever their delays
+-- what is active under the start rows binds at the start, whatever their delays and whichever events are cancelled
+abbrev pub ActiveAtStartBinds : Type 0
+ActiveAtStartBinds =
+    (net : Net) (events activities : List DelayRow) (ids : List ℕ) (a : ℕ) → IsFormed net → a < length net.activities →
+    IsTrue (is_active net (start_rows_without net events activities ids) a) → IsTrue (is_start_active net a)
+
+-- Of a network without a double id, a choice is free exactly where nothing refuses its decisions at once: so only a cycle or a
+-- full history may.
+abbrev pub FreeWhereNothingRefuses : Type 0
+FreeWhereNothingRefuses =
+    (net : Net) (rows : RowsValue) (d : Decision) → IsNetwork net →
+    Contains (free_choices_of net rows) (choice_of d) ↔ PassesDecision net rows d
+
+-- what binds at the start is what is active under the start rows, whatever their delays, where no event is cancelled
 abbrev pub StartActivityAgrees : Type 0
 StartActivityAgrees =
     (net : Net) (events activities : List DelayRow) (a : ℕ) → IsFormed net → a < length net.activities →

@@ -10,6 +10,7 @@ pub mod History
 pub mod Sides
 pub mod Decide
 pub mod Relax
+pub mod Carry
 pub mod Touch
 pub mod StartFaults
 -- What holds of these, and what they give on two small networks.

@@ -8,7 +8,7 @@ use Rattle.dm_rows.specs.declared.messages.Choice.{Choice}
 use Rattle.dm_rows.specs.declared.messages.Choice.TheVariants.{Change, Pair}
 use Rattle.dm_rows.specs.Rows.{RowsValue}
 use Rattle.dm_rows.specs.Active.{is_active}
-use Rattle.dm_rows.specs.Cost.{is_dropped_change, comes_too_early}
+use Rattle.dm_rows.specs.Cost.{is_lost_change, comes_too_early}
 use Rattle.dm_rows.specs.Decide.{is_free_change, is_free_pair, change_choice, pair_choice, choice_of, with_decisions}
 
 -- the two choices are one
@@ -40,10 +40,11 @@ abbrev pub is_relaxed_active : Net → RowsValue → List Decision → ℕ → B
 is_relaxed_active net rows path a =
     if is_of_undecided net rows path a (activity_at net a).pair then false else is_active net (with_decisions net rows path) a
 
--- The changes that the relaxed problem charges for: those dropped with the path's decisions set, but for the undecided.
-abbrev pub is_relaxed_dropped : Net → RowsValue → List Decision → ℕ → Bool
-is_relaxed_dropped net rows path a =
-    is_dropped_change net (with_decisions net rows path) a && not (is_undecided_change net rows path a)
+-- The changes that the relaxed problem charges for: those dropped, or with a cancelled end, with the path's decisions set, but
+-- for the undecided.
+abbrev pub is_relaxed_lost : Net → RowsValue → List Decision → ℕ → Bool
+is_relaxed_lost net rows path a =
+    is_lost_change net (with_decisions net rows path) a && not (is_undecided_change net rows path a)
 
 abbrev pub is_of_pair : ℕ → Option ℕ → Bool
 is_of_pair p None = false

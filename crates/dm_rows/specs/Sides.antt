@@ -1,5 +1,5 @@
 -- The two decisions of a choice.
-use Rattle.std.specs.Prelude.{◌<◌, nat_lt, Bool, true, false}
+use Rattle.std.specs.Prelude.{◌<◌, ◌≤◌, nat_lt, if◌then◌else◌, Bool, true, false}
 use Rattle.dm_rows.specs.declared.messages.Decision.{Decision}
 use Rattle.dm_rows.specs.declared.messages.Decision.TheVariants.{Keep, Drop, First}
 use Rattle.dm_rows.specs.declared.messages.Choice.{Choice}
@@ -22,6 +22,16 @@ IsOrdered (Pair i j) = i.0 < j.0
 abbrev pub is_ordered : Choice → Bool
 is_ordered (Change a) = true
 is_ordered (Pair i j) = nat_lt i.0 j.0
+
+-- of a pair no larger id stands before a smaller one
+abbrev pub IsSorted : Choice → Type 0
+IsSorted (Change a) = Unit {0}
+IsSorted (Pair i j) = i.0 ≤ j.0
+
+-- the same choice, of a pair the smaller id first
+abbrev pub sorted_choice : Choice → Choice
+sorted_choice (Change a) = Change a
+sorted_choice (Pair i j) = if nat_lt i.0 j.0 then Pair i j else Pair j i
 
 -- a first decision of its choice, and the other decision of the same choice
 abbrev pub is_first_decision : Decision → Bool

@@ -1,5 +1,5 @@
 -- Why delay records make no start rows.
-use Rattle.std.specs.Prelude.{ℕ, ◌≡◌, ◌<◌, ◌≤◌, List, Option, Some, None, IsSome, slice_get}
+use Rattle.std.specs.Prelude.{ℕ, ◌≡◌, ◌<◌, ◌≤◌, ◌⊎◌, List, Option, Some, None, IsSome, slice_get}
 use Rattle.dm_base.specs.declared.rows.DelayRow.{DelayRow}
 use Rattle.dm_base.specs.declared.limits.TheConstants.{DELAY}
 use Rattle.dm_network.specs.Net.{Net, event_place, activity_place}
@@ -35,9 +35,37 @@ pub record IsFirstUnknown (place : ℕ → Option ℕ) (records : List DelayRow)
   pub unknown : place row.id ≡ None
   pub known_before : AreKnown place records at
 
+-- the id has a place
+abbrev pub IsKnown : Net → ℕ → Type 0
+IsKnown net id = IsSome (event_numbered net id)
+
+-- each of the ids is of an event
+abbrev pub AllIdsAreKnown : Net → List ℕ → Type 0
+AllIdsAreKnown net ids = (k id : ℕ) → slice_get ids k ≡ Some id → IsKnown net id
+
+-- the first of the ids that is of no event
+pub record IsFirstUnknownId (net : Net) (ids : List ℕ) (id : ℕ) : Type 0 where
+  pub at : ℕ
+  pub stands : slice_get ids at ≡ Some id
+  pub unknown : event_numbered net id ≡ None
+  pub known_before : (k earlier : ℕ) → k < at → slice_get ids k ≡ Some earlier → IsKnown net earlier
+
+-- what the ids of cancelled events are refused for
+abbrev pub RefusesCancelledIds : Net → List ℕ → StartFault → Type 0
+RefusesCancelledIds net ids (UnknownEvent id) = IsFirstUnknownId net ids id.0
+RefusesCancelledIds net ids (UnknownActivity id) = ⊥
+RefusesCancelledIds net ids OutOfMemory = Unit {0}
+
 -- the first unknown event, and after all events the first unknown activity
 abbrev pub RefusesDelayRecords : Net → List DelayRow → List DelayRow → StartFault → Type 0
 RefusesDelayRecords net events activities (UnknownEvent id) = IsFirstUnknown (event_numbered net) events id.0
 RefusesDelayRecords net events activities (UnknownActivity id) =
     AllAreKnown (event_numbered net) events × IsFirstUnknown (activity_numbered net) activities id.0
 RefusesDelayRecords net events activities OutOfMemory = Unit {0}
+
+-- what refuses the delay records, and after all of them the first unknown event to cancel
+abbrev pub RefusesStart : Net → List DelayRow → List DelayRow → List ℕ → StartFault → Type 0
+RefusesStart net events activities ids fault =
+    RefusesDelayRecords net events activities fault
+    ⊎ (AllAreKnown (event_numbered net) events × AllAreKnown (activity_numbered net) activities
+    × RefusesCancelledIds net ids fault)

@@ -1,17 +1,20 @@
 //! What may still be decided.
-ghost use Rattle.std.specs.Prelude.{◌≡◌, ◌<◌, ◌++◌, length, IfOk};
+ghost use Rattle.std.specs.Prelude.{◌≡◌, ◌<◌, ◌≤◌, ◌++◌, ◌∷◌, [], length, vec_capacity, IfOk};
 ghost use Rattle.dm_rows.specs.Rows.{IsSized};
+ghost use Rattle.dm_rows.specs.Carry.{free_among};
 ghost use Rattle.dm_rows.specs.Decide.{free_choices_of, free_changes_of, free_pairs_of, is_free_change, is_free_pair, pair_choice};
 
-use crate::activity::head_has_passed;
-use crate::messages::Choice;
+use crate::activity::{has_cancelled_end, head_has_passed};
+use crate::admission::flip_of;
+use crate::messages::{Choice, Decision};
 use crate::rows::Rows;
-use dm_base::ActKind;
+use dm_base::{ActKind, Items};
 use dm_network::Network;
 use std::alloc::{AllocError, Global};
 
-/// What may still be decided: the changes whose head has not passed, in ascending id, and after them the pairs of which
-/// neither event has, in ascending order of their ids.
+/// What may still be decided: the changes whose head has not passed, none of whose ends is cancelled, and that are not locked, in
+/// ascending id; after them the pairs of which no event has passed or is cancelled, and that are not locked, in ascending order of
+/// their ids.
 pub fn free_choices(alloc: Global, net: &Network, rows: &Rows) -> Result<Vec<Choice>, AllocError>
     requires { IsSized net.now rows.now }
     ensures { IfOk result (λ choices. choices.items ≡ free_choices_of net.now rows.now) }
@@ -20,7 +23,7 @@ pub fn free_choices(alloc: Global, net: &Network, rows: &Rows) -> Result<Vec<Cho
     with_free_pairs(net, rows, changes)
 }
 
-/// The changes whose head has not passed.
+/// The free changes.
 fn free_changes(alloc: Global, net: &Network, rows: &Rows) -> Result<Vec<Choice>, AllocError>
     requires { IsSized net.now rows.now }
     ensures { IfOk result (λ choices. choices.items ≡ free_changes_of net.now rows.now) }
@@ -34,7 +37,7 @@ fn free_changes(alloc: Global, net: &Network, rows: &Rows) -> Result<Vec<Choice>
     Ok(choices)
 }
 
-/// These choices, and after them the pairs of which neither event has passed.
+/// These choices, and after them the free pairs.
 fn with_free_pairs(
     net: &Network,
     rows: &Rows,
@@ -52,16 +55,20 @@ fn with_free_pairs(
     Ok(all)
 }
 
-/// Whether the activity at this place is a change whose head has not passed.
+/// Whether the activity at this place is a change whose head has not passed, none of whose ends is cancelled, and that is not
+/// locked.
 pub fn is_free_change(net: &Network, rows: &Rows, a: usize) -> bool
     requires sized { IsSized net.now rows.now }
     requires is_activity { a < length net.now.activities }
     ensures { result ≡ is_free_change net.now rows.now a }
 {
-    matches!(net.activity(a).kind, ActKind::Change) && !head_has_passed(net, rows, a)
+    if !matches!(net.activity(a).kind, ActKind::Change) || rows.locked_change(a) {
+        return false;
+    }
+    !head_has_passed(net, rows, a) && !has_cancelled_end(net, rows, a)
 }
 
-/// Whether neither event of the pair at this place has passed.
+/// Whether no event of the pair at this place has passed or is cancelled, and it is not locked.
 pub fn is_free_pair(net: &Network, rows: &Rows, p: usize) -> bool
     requires sized { IsSized net.now rows.now }
     requires is_pair { p < length net.now.pairs }
@@ -69,7 +76,40 @@ pub fn is_free_pair(net: &Network, rows: &Rows, p: usize) -> bool
 {
     net.reveal();
     let pair = net.pair(p);
-    rows.passed(pair.small).is_none() && rows.passed(pair.large).is_none()
+    rows.ahead(pair.small) && rows.ahead(pair.large) && !rows.locked_pair(p)
+}
+
+/// Those of the decisions that decide free choices, in their order, in room for all of them. It takes no memory.
+pub fn free_among(
+    net: &Network,
+    rows: &Rows,
+    decisions: &[Decision],
+    room: Vec<Decision>,
+) -> Items<Decision>
+    requires sized { IsSized net.now rows.now }
+    requires empty { room.items ≡ [] }
+    requires room { length decisions.now ≤ vec_capacity room }
+    ensures { result ≡ free_among net.now rows.now decisions.now }
+{
+    let mut free = room;
+    for decision in decisions {
+        keep_free(net, rows, *decision, &mut free);
+    }
+    Items::from_vec(free)
+}
+
+/// Keeps a decision that decides a free choice, in the room that is there.
+fn keep_free(net: &Network, rows: &Rows, decision: Decision, free: &mut Vec<Decision>)
+    requires sized { IsSized net.now rows.now }
+    requires room { length free.old.items < vec_capacity free.old }
+    ensures kept { free.new.items ≡ free.old.items ++ free_among net.now rows.now (decision ∷ []) }
+    ensures room { vec_capacity free.new ≡ vec_capacity free.old }
+{
+    net.reveal();
+    match flip_of(net, rows, &decision) {
+        Ok(_) => free.push_reserved(decision),
+        Err(_) => {}
+    }
 }
 
 /// The pair at this place as a choice.

@@ -1,7 +1,7 @@
 //! What holds of all rows. A law has no code: it is proved as the contract of an empty function.
 
-ghost use Rattle.dm_rows.specs.Worked.{CostsOfChoices, CostsOfMisses, LeastTimes, CostsOfClocks, FreeAndViolated, RefusedMessages, RefusedCycle, TouchedEvents};
-ghost use Rattle.dm_rows.specs.Laws.{MeetsHoldingAsGraph, LeastHoldingAsGraph, MeetsAsGraph, LeastAsGraph, BindsAtStartOrTakesTime, MetExactlyWithoutCycle, LeastExistsWithoutCycle, ActiveEnterNoPassed, RelaxedEnterNoPassed, AdoptSetsDecisions, StartActivityAgrees};
+ghost use Rattle.dm_rows.specs.Worked.{CostsOfChoices, CostsOfMisses, LeastTimes, CostsOfClocks, FreeAndViolated, RefusedMessages, RefusedCycle, TouchedEvents, LeastTimesOfCancelled, CostsOfCancelled, PassedIsNotCancelled, FreeOfCancelledAndLocked, RefusedForCancelled, RefusedForLocks, RestoredCycle};
+ghost use Rattle.dm_rows.specs.Laws.{MeetsHoldingAsGraph, LeastHoldingAsGraph, MeetsAsGraph, LeastAsGraph, BindsAtStartOrTakesTime, MetExactlyWithoutCycle, LeastExistsWithoutCycle, ActiveEnterNoPassed, RelaxedEnterNoPassed, AdoptSetsDecisions, StartActivityAgrees, ActiveAtStartBinds, FreeWhereNothingRefuses};
 
 /// A timetable meets the rows holding some activities exactly where it meets their graph and each passed event has its time.
 pub fn meets_holding_as_graph()
@@ -94,7 +94,52 @@ pub fn refused_cycle()
     ensures { RefusedCycle }
 {}
 
-/// What delays, passed events and clocks touch.
+/// What delays, passed and cancelled events and clocks touch.
 pub fn touched_events()
     ensures { TouchedEvents }
+{}
+
+/// What is active under the start rows binds at the start, whichever events are cancelled.
+pub fn active_at_start_binds()
+    ensures { ActiveAtStartBinds }
+{}
+
+/// A choice is free exactly where nothing refuses its decisions at once.
+pub fn free_where_nothing_refuses()
+    ensures { FreeWhereNothingRefuses }
+{}
+
+/// The least times where a train ends early, and where it runs on after all.
+pub fn least_times_of_cancelled()
+    ensures { LeastTimesOfCancelled }
+{}
+
+/// What these times cost, and what a change with a cancelled end costs.
+pub fn costs_of_cancelled()
+    ensures { CostsOfCancelled }
+{}
+
+/// An event that passes is no longer cancelled, also where it is recalled.
+pub fn passed_is_not_cancelled()
+    ensures { PassedIsNotCancelled }
+{}
+
+/// What is free where events are cancelled or choices are locked.
+pub fn free_of_cancelled_and_locked()
+    ensures { FreeOfCancelledAndLocked }
+{}
+
+/// Messages that are refused for cancelled events, and what goes before that.
+pub fn refused_for_cancelled()
+    ensures { RefusedForCancelled }
+{}
+
+/// Messages that are refused for locks, or for want of one.
+pub fn refused_for_locks()
+    ensures { RefusedForLocks }
+{}
+
+/// Restoring an event is refused where it closes a cycle.
+pub fn restored_cycle()
+    ensures { RestoredCycle }
 {}

@@ -72,7 +72,7 @@ pub enum Choice {
 
 impl Choice {
     ghost use Rattle.dm_rows.specs.Relax.{is_same_choice};
-    ghost use Rattle.dm_rows.specs.Sides.{first_decision, second_decision, is_ordered};
+    ghost use Rattle.dm_rows.specs.Sides.{first_decision, second_decision, is_ordered, sorted_choice};
 
     /// Its first decision: to keep the change, or that the first event of the pair goes first.
     pub fn first(self) -> Decision
@@ -101,6 +101,16 @@ impl Choice {
         match self {
             Choice::Change(_) => true,
             Choice::Pair(small, large) => small.0 < large.0,
+        }
+    }
+
+    /// The same choice, of a pair the smaller id first.
+    pub fn sorted(self) -> Choice
+        ensures { result ≡ sorted_choice self }
+    {
+        match self {
+            Choice::Change(act) => Choice::Change(act),
+            Choice::Pair(one, other) => Decision::First(one, other).choice(),
         }
     }
 
@@ -142,6 +152,18 @@ pub enum Message {
 
     /// It is this time now, in seconds: what has not passed comes no earlier.
     Now(Secs),
+
+    /// The event does not take place: nothing waits for it, and it waits for nothing.
+    Cancel(EventId),
+
+    /// The cancelled event takes place after all.
+    Restore(EventId),
+
+    /// Nobody may change the decision on this choice.
+    Lock(Choice),
+
+    /// The choice may be decided again.
+    Unlock(Choice),
 }
 
 /// An accepted message, and the feed and line that it came from, both from 1.
@@ -157,6 +179,13 @@ pub struct Entry {
 pub struct At<E> {
     pub entry: u32,
     pub why: E,
+}
+
+/// A choice by place.
+#[derive(Clone, Copy, PartialEq, Eq)]
+pub enum Spot {
+    Change { act: usize },
+    Pair { pair: usize },
 }
 
 /// A decision by place.
@@ -179,6 +208,10 @@ pub enum Change {
     Flipped(Flip),
     Adopted(Items<Flip>),
     Clock { time: Secs },
+    Cancelled { event: usize },
+    Restored { event: usize },
+    Locked(Spot),
+    Unlocked(Spot),
 }
 
 /// Why a message is refused, in the order in which the causes are looked for.
@@ -193,7 +226,7 @@ pub enum Refusal {
     /// An id named as an activity that is none.
     UnknownActivity(ActId),
 
-    /// The activity to keep or drop is no change.
+    /// The activity to keep, drop, lock or unlock is no change.
     UnknownChange(ActId),
 
     /// The two events form no pair.
@@ -204,6 +237,18 @@ pub enum Refusal {
 
     /// The event to recall has not passed.
     NotPassed(EventId),
+
+    /// The event is cancelled. Of a change it is the tail, or else the head; of two events the first that is.
+    Cancelled(EventId),
+
+    /// The event to restore is not cancelled.
+    NotCancelled(EventId),
+
+    /// The choice is locked. Of a pair the smaller id stands first.
+    Locked(Choice),
+
+    /// The choice to unlock is not locked. Of a pair the smaller id stands first.
+    NotLocked(Choice),
 
     /// The time that it is said to be is before the clock, which is this, in seconds.
     Back(Secs),
@@ -218,10 +263,10 @@ pub enum Refusal {
     OutOfMemory,
 }
 
-/// Why delay records make no start rows.
+/// Why the records of delays and of cancelled events make no start rows.
 #[derive(Clone, Copy, PartialEq, Eq, Debug)]
 pub enum StartFault {
-    /// The first event delay of the file whose id is no event.
+    /// The first event delay of the file whose id is no event; or, where all delays are known, the first event to cancel that is none.
     UnknownEvent(EventId),
 
     /// The first activity delay of the file whose id is no activity. Every event is known.

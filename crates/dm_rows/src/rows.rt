@@ -1,12 +1,15 @@
 //! The rows of a day, and what one message does to them.
-ghost use Rattle.std.specs.Prelude.{ℕ, slice_index_or, ◌≡◌, ◌<◌, ◌≤◌, ◌^◌, length, All, fold, IfOk, IfSome};
+ghost use Rattle.std.specs.Prelude.{ℕ, slice_index_or, ◌≡◌, ◌<◌, ◌≤◌, ◌^◌, None, IsTrue, length, All, fold, IfOk, IfSome};
+ghost use Rattle.std.specs.Option.{ForSome};
 ghost use Rattle.dm_network.specs.Net.{Net};
-ghost use Rattle.dm_rows.specs.Rows.{IsSized, AreAsLong, RowsAreWithinLimits, event_delay_at, act_delay_at, passed_at, kept_at, small_first_at};
+ghost use Rattle.dm_rows.specs.Rows.{IsSized, AreAsLong, RowsAreWithinLimits, NoneIsBoth, event_delay_at, act_delay_at, passed_at, is_cancelled, kept_at, is_locked_change, small_first_at, is_locked_pair};
+ghost use Rattle.dm_rows.specs.Decide.{is_ahead};
 ghost use Rattle.dm_rows.specs.Inside.Delays.{IsStartWith};
-ghost use Rattle.dm_rows.specs.Resolve.{after_change, after_flip};
-ghost use Rattle.dm_rows.specs.Reach.{Reaches, ReachesFlip};
+ghost use Rattle.dm_rows.specs.Inside.Standings.{passed_of, with_standing, with_change, with_pair, with_kept, with_first, with_locked_change, with_locked_pair, decided_at_start};
+ghost use Rattle.dm_rows.specs.Resolve.{after_change, after_flip, after_lock};
+ghost use Rattle.dm_rows.specs.Reach.{Reaches, ReachesFlip, ReachesSpot};
 
-use crate::messages::{Change, Flip};
+use crate::messages::{Change, Flip, Spot};
 use crate::starting::first_events;
 use dm_base::Secs;
 use dm_base::limits::{DELAY, PASSED_TIME};
@@ -14,16 +17,48 @@ use dm_network::Network;
 use std::alloc::{AllocError, Global};
 use std::marker::Model;
 
-/// The source delays, the passed events, the kept changes and the order of each pair, by place, and the clock.
+/// Where an event stands. It takes the room of the passed time that may be there.
+#[derive(Clone, Copy, PartialEq, Eq)]
+pub enum Standing {
+    /// It is still to come.
+    Ahead,
+
+    /// It has passed at this time, in seconds.
+    Passed(u32),
+
+    Cancelled,
+}
+
+/// How a choice stands: the one of its two decisions that holds, and whether it is locked.
+#[derive(Clone, Copy, PartialEq, Eq)]
+pub struct Decided {
+    first: bool,
+    locked: bool,
+}
+
+impl Decided {
+    /// A choice that is not locked.
+    pub(crate) fn free(first: bool) -> Decided
+        ensures { result ≡ decided_at_start first }
+    {
+        Decided {
+            first,
+            locked: false,
+        }
+    }
+}
+
+/// The source delays, where each event stands, the kept changes, the order of each pair, and which of both are locked, by
+/// place, and the clock.
 pub struct Rows {
     alloc: Global,
 
     /// Delays and passed times are below 2^32, and so take half the room.
     event_delays: Vec<u32>,
     act_delays: Vec<u32>,
-    passed: Vec<Option<u32>>,
-    kept: Vec<bool>,
-    small_first: Vec<bool>,
+    standings: Vec<Standing>,
+    changes: Vec<Decided>,
+    pairs: Vec<Decided>,
     clock: u64,
 }
 
@@ -33,29 +68,24 @@ impl Drop for Rows {
             alloc: _,
             event_delays: _,
             act_delays: _,
-            passed: _,
-            kept: _,
-            small_first: _,
+            standings: _,
+            changes: _,
+            pairs: _,
             clock: _,
         } = self;
     }
 }
 
 impl Model for Rows {
+    ghost use Rattle.std.specs.Prelude.{map};
     ghost use Rattle.dm_rows.specs.Rows.{RowsValue, NumbersAreWithinLimits};
+    ghost use Rattle.dm_rows.specs.Inside.Standings.{passed_of, rows_of};
 
     ghost Value = { RowsValue };
 
-    ghost view = { λ r. record {
-      event_delays = r.event_delays.items;
-      act_delays = r.act_delays.items;
-      passed = r.passed.items;
-      kept = r.kept.items;
-      small_first = r.small_first.items;
-      clock = r.clock;
-    } };
+    ghost view = { λ r. rows_of r.event_delays.items r.act_delays.items r.standings.items r.changes.items r.pairs.items r.clock };
 
-    ghost invariant = { λ r. NumbersAreWithinLimits r.event_delays.items r.act_delays.items r.passed.items r.clock };
+    ghost invariant = { λ r. NumbersAreWithinLimits r.event_delays.items r.act_delays.items (map passed_of r.standings.items) r.clock };
 }
 
 /// The same number of seconds in half the room.
@@ -66,13 +96,13 @@ pub(crate) fn narrow(seconds: Secs) -> u32
     seconds as u32
 }
 
-/// The same time, if there is one.
-fn widened(time: Option<u32>) -> Option<Secs>
-    ensures { result ≡ time }
+/// The time at which an event that stands so has passed, or `None` where it has not.
+fn passed_time(standing: Standing) -> Option<Secs>
+    ensures { result ≡ passed_of standing }
 {
-    match time {
-        Some(seconds) => Some(u64::from(seconds)),
-        None => None,
+    match standing {
+        Standing::Passed(seconds) => Some(u64::from(seconds)),
+        Standing::Ahead | Standing::Cancelled => None,
     }
 }
 
@@ -103,16 +133,27 @@ impl Rows {
             alloc,
             event_delays,
             act_delays,
-            passed: vec![in alloc; None; net.events()]?,
-            kept: vec![in alloc; true; net.activities()]?,
-            small_first: first_events(alloc, net)?,
+            standings: vec![in alloc; Standing::Ahead; net.events()]?,
+            changes: vec![in alloc; Decided::free(true); net.activities()]?,
+            pairs: first_events(alloc, net)?,
             clock: 0,
         })
     }
 
-    /// Delays are at most 1,000,000 seconds, and passed times and the clock at most 2,000,000,000. Callers learn it here.
+    /// Delays are at most 1,000,000 seconds, passed times and the clock are at most 2,000,000,000, and no event has both passed and
+    /// is cancelled. Callers learn it here.
     pub fn is_within_limits(&self)
-        ensures { RowsAreWithinLimits self.now }
+        ensures limits { RowsAreWithinLimits self.now }
+        ensures apart { NoneIsBoth self.now.passed self.now.cancelled }
+    {
+        let _read = self.clock;
+    }
+
+    /// The lists are as long as those beside them, for a proof. It does nothing.
+    fn reveal(&self)
+        ensures events { length self.now.cancelled ≡ length self.now.passed }
+        ensures changes { length self.now.locked_changes ≡ length self.now.kept }
+        ensures pairs { length self.now.locked_pairs ≡ length self.now.small_first }
     {
         let _read = self.clock;
     }
@@ -149,7 +190,24 @@ impl Rows {
         ensures value { result ≡ passed_at self.now i }
         ensures limit { IfSome result (λ t. t ≤ PASSED_TIME) }
     {
-        widened(self.passed[i])
+        passed_time(self.standings[i])
+    }
+
+    /// Whether the event at this place is cancelled. One that has passed is not.
+    pub fn cancelled(&self, i: usize) -> bool
+        requires { i < length self.now.cancelled }
+        ensures value { result ≡ is_cancelled self.now i }
+        ensures not_passed { IsTrue result → passed_at self.now i ≡ None }
+    {
+        matches!(self.standings[i], Standing::Cancelled)
+    }
+
+    /// Whether the event at this place is still to come: it has neither passed nor is it cancelled.
+    pub fn ahead(&self, i: usize) -> bool
+        requires { i < length self.now.passed }
+        ensures { result ≡ is_ahead self.now i }
+    {
+        matches!(self.standings[i], Standing::Ahead)
     }
 
     /// Whether the change at this place is kept.
@@ -157,7 +215,15 @@ impl Rows {
         requires { a < length self.now.kept }
         ensures { result ≡ kept_at self.now a }
     {
-        self.kept[a]
+        self.changes[a].first
+    }
+
+    /// Whether the change at this place is locked.
+    pub fn locked_change(&self, a: usize) -> bool
+        requires { a < length self.now.locked_changes }
+        ensures { result ≡ is_locked_change self.now a }
+    {
+        self.changes[a].locked
     }
 
     /// Whether the event with the smaller id is first in the pair at this place.
@@ -165,7 +231,15 @@ impl Rows {
         requires { p < length self.now.small_first }
         ensures { result ≡ small_first_at self.now p }
     {
-        self.small_first[p]
+        self.pairs[p].first
+    }
+
+    /// Whether the pair at this place is locked.
+    pub fn locked_pair(&self, p: usize) -> bool
+        requires { p < length self.now.locked_pairs }
+        ensures { result ≡ is_locked_pair self.now p }
+    {
+        self.pairs[p].locked
     }
 
     /// The clock, in seconds: no event that has not passed lies before it.
@@ -185,9 +259,9 @@ impl Rows {
             alloc: self.alloc,
             event_delays: Vec::from_slice(self.alloc, &self.event_delays)?,
             act_delays: Vec::from_slice(self.alloc, &self.act_delays)?,
-            passed: Vec::from_slice(self.alloc, &self.passed)?,
-            kept: Vec::from_slice(self.alloc, &self.kept)?,
-            small_first: Vec::from_slice(self.alloc, &self.small_first)?,
+            standings: Vec::from_slice(self.alloc, &self.standings)?,
+            changes: Vec::from_slice(self.alloc, &self.changes)?,
+            pairs: Vec::from_slice(self.alloc, &self.pairs)?,
             clock: self.clock,
         })
     }
@@ -199,9 +273,9 @@ impl Rows {
     {
         self.event_delays.copy_from_slice(&other.event_delays);
         self.act_delays.copy_from_slice(&other.act_delays);
-        self.passed.copy_from_slice(&other.passed);
-        self.kept.copy_from_slice(&other.kept);
-        self.small_first.copy_from_slice(&other.small_first);
+        self.standings.copy_from_slice(&other.standings);
+        self.changes.copy_from_slice(&other.changes);
+        self.pairs.copy_from_slice(&other.pairs);
         self.clock = other.clock;
     }
 
@@ -211,10 +285,86 @@ impl Rows {
         ensures { self.new ≡ after_flip self.old flip }
     {
         match flip {
-            Flip::Keep { act } => self.kept[act] = true,
-            Flip::Drop { act } => self.kept[act] = false,
-            Flip::First { pair, small } => self.small_first[pair] = small,
+            Flip::Keep { act } => self.set_kept(act, true),
+            Flip::Drop { act } => self.set_kept(act, false),
+            Flip::First { pair, small } => self.set_first(pair, small),
         }
+    }
+
+    /// Locks or unlocks one choice.
+    fn set_lock(&mut self, spot: Spot, locked: bool)
+        requires { ReachesSpot self.old spot }
+        ensures { self.new ≡ after_lock self.old spot locked }
+    {
+        match spot {
+            Spot::Change { act } => self.set_locked_change(act, locked),
+            Spot::Pair { pair } => self.set_locked_pair(pair, locked),
+        }
+    }
+
+    /// The change is kept or not from now on.
+    fn set_kept(&mut self, act: usize, kept: bool)
+        requires { act < length self.old.kept }
+        ensures { self.new ≡ with_kept self.old act kept }
+    {
+        self.reveal();
+        let locked = self.locked_change(act);
+        self.decide_change(act, kept, locked);
+    }
+
+    /// The event with the smaller id is first in the pair or not from now on.
+    fn set_first(&mut self, pair: usize, small: bool)
+        requires { pair < length self.old.small_first }
+        ensures { self.new ≡ with_first self.old pair small }
+    {
+        self.reveal();
+        let locked = self.locked_pair(pair);
+        self.decide_pair(pair, small, locked);
+    }
+
+    /// The change is locked or not from now on.
+    fn set_locked_change(&mut self, act: usize, locked: bool)
+        requires { act < length self.old.locked_changes }
+        ensures { self.new ≡ with_locked_change self.old act locked }
+    {
+        self.reveal();
+        let kept = self.kept(act);
+        self.decide_change(act, kept, locked);
+    }
+
+    /// The pair is locked or not from now on.
+    fn set_locked_pair(&mut self, pair: usize, locked: bool)
+        requires { pair < length self.old.locked_pairs }
+        ensures { self.new ≡ with_locked_pair self.old pair locked }
+    {
+        self.reveal();
+        let small = self.small_first(pair);
+        self.decide_pair(pair, small, locked);
+    }
+
+    /// The change is kept or not, and locked or not.
+    fn decide_change(&mut self, act: usize, first: bool, locked: bool)
+        requires { act < length self.old.kept }
+        ensures { self.new ≡ with_change self.old act first locked }
+    {
+        self.changes[act] = Decided { first, locked };
+    }
+
+    /// The event with the smaller id is first in the pair or not, and the pair is locked or not.
+    fn decide_pair(&mut self, pair: usize, first: bool, locked: bool)
+        requires { pair < length self.old.small_first }
+        ensures { self.new ≡ with_pair self.old pair first locked }
+    {
+        self.pairs[pair] = Decided { first, locked };
+    }
+
+    /// This is where the event stands now.
+    fn stand(&mut self, event: usize, standing: Standing)
+        requires is_event { event < length self.old.passed }
+        requires limit { ForSome (passed_of standing) (λ t. t ≤ PASSED_TIME) }
+        ensures { self.new ≡ with_standing self.old event standing }
+    {
+        self.standings[event] = standing;
     }
 
     /// Sets each decision in turn.
@@ -236,13 +386,49 @@ impl Rows {
         match change {
             Change::EventDelay { event, delay } => self.event_delays[*event] = narrow(*delay),
             Change::ActDelay { act, delay } => self.act_delays[*act] = narrow(*delay),
-            Change::Passed { event, time } => self.passed[*event] = Some(narrow(*time)),
-            Change::Recalled { event } => self.passed[*event] = None,
+            Change::Passed { event, time } => self.stand(*event, Standing::Passed(narrow(*time))),
+            Change::Recalled { event } => self.recall(*event),
             Change::Flipped(flip) => self.set(*flip),
             Change::Adopted(flips) => {
                 self.set_all(flips.as_slice());
             }
             Change::Clock { time } => self.clock = *time,
+            Change::Cancelled { event } => self.cancel(*event),
+            Change::Restored { event } => self.restore(*event),
+            Change::Locked(spot) => self.set_lock(*spot, true),
+            Change::Unlocked(spot) => self.set_lock(*spot, false),
+        }
+    }
+
+    /// The event, which has not passed, is cancelled.
+    fn cancel(&mut self, event: usize)
+        requires is_event { event < length self.old.cancelled }
+        requires ahead { passed_at self.old event ≡ None }
+        ensures { self.new ≡ after_change self.old (Change.Cancelled event) }
+    {
+        self.reveal();
+        self.stand(event, Standing::Cancelled);
+    }
+
+    /// The event has not passed, and stays cancelled where it is.
+    fn recall(&mut self, event: usize)
+        requires { event < length self.old.passed }
+        ensures { self.new ≡ after_change self.old (Change.Recalled event) }
+    {
+        self.reveal();
+        if !self.cancelled(event) {
+            self.stand(event, Standing::Ahead);
+        }
+    }
+
+    /// The event is not cancelled, and stays passed where it has.
+    fn restore(&mut self, event: usize)
+        requires { event < length self.old.cancelled }
+        ensures { self.new ≡ after_change self.old (Change.Restored event) }
+    {
+        self.reveal();
+        if self.cancelled(event) {
+            self.stand(event, Standing::Ahead);
         }
     }
 }

@@ -1,13 +1,12 @@
 //! The rows at the start of a day.
-ghost use Rattle.std.specs.Prelude.{◌≡◌, ◌<◌, map, length, IfOk, IfErr, OnOk};
-ghost use Rattle.std.specs.List.{range_with_len};
-ghost use Rattle.dm_network.specs.Start.{starts_small_first};
-ghost use Rattle.dm_rows.specs.Rows.{IsSized, start_rows_of};
+ghost use Rattle.std.specs.Prelude.{◌≡◌, ◌<◌, length, IfOk, IfErr, OnOk};
+ghost use Rattle.dm_rows.specs.Rows.{IsSized, start_rows_of, start_rows_without};
+ghost use Rattle.dm_rows.specs.Inside.Standings.{pairs_at_start};
 ghost use Rattle.dm_rows.specs.Inside.Delays.{AreDelaysOf, count_of, number_of, place_numbered, unknown, RefusesDelays};
-ghost use Rattle.dm_rows.specs.StartFaults.{DelaysAreWithin, RefusesDelayRecords, AllAreKnown, event_numbered, activity_numbered};
+ghost use Rattle.dm_rows.specs.StartFaults.{DelaysAreWithin, RefusesDelayRecords, RefusesStart, AllAreKnown, AllIdsAreKnown, event_numbered, activity_numbered};
 
-use crate::messages::StartFault;
-use crate::rows::{Rows, narrow};
+use crate::messages::{Change, StartFault};
+use crate::rows::{Decided, Rows, narrow};
 use dm_base::{ActId, DelayRow, EventId};
 use dm_network::Network;
 use std::alloc::{AllocError, Global};
@@ -34,6 +33,37 @@ pub fn start_rows(
         Ok(rows) => Ok(rows),
         Err(_) => Err(StartFault::OutOfMemory),
     }
+}
+
+/// The same start rows, in which the events with these ids are cancelled.
+pub fn start_rows_without(
+    alloc: Global,
+    net: &Network,
+    events: &[DelayRow],
+    activities: &[DelayRow],
+    cancelled: &[u32],
+) -> Result<Rows, StartFault>
+    requires event_delays { DelaysAreWithin events.now }
+    requires activity_delays { DelaysAreWithin activities.now }
+    ensures rows { IfOk result (λ rows. rows ≡ start_rows_without net.now events.now activities.now cancelled.now) }
+    ensures sized { IfOk result (IsSized net.now) }
+    ensures events_known { OnOk result (AllAreKnown (event_numbered net.now) events.now) }
+    ensures activities_known { OnOk result (AllAreKnown (activity_numbered net.now) activities.now) }
+    ensures cancelled_known { OnOk result (AllIdsAreKnown net.now cancelled.now) }
+    ensures refused { IfErr result (RefusesStart net.now events.now activities.now cancelled.now) }
+{
+    let mut rows = match start_rows(alloc, net, events, activities) {
+        Ok(rows) => rows,
+        Err(fault) => return Err(fault),
+    };
+    net.reveal();
+    for id in cancelled {
+        let Some(event) = net.place_of(EventId(*id)) else {
+            return Err(StartFault::UnknownEvent(EventId(*id)));
+        };
+        rows.apply(&Change::Cancelled { event });
+    }
+    Ok(rows)
 }
 
 /// What the records of a delay file are of.
@@ -101,16 +131,16 @@ fn delays_of(
     Ok(delays)
 }
 
-/// Whether the event with the smaller id is first in each pair at the start.
-pub fn first_events(alloc: Global, net: &Network) -> Result<Vec<bool>, AllocError>
-    ensures { IfOk result (λ small_first. small_first.items ≡ map (starts_small_first net.now) (range_with_len 0 (length net.now.pairs))) }
+/// Which event is first in each pair at the start, where none is locked.
+pub fn first_events(alloc: Global, net: &Network) -> Result<Vec<Decided>, AllocError>
+    ensures { IfOk result (λ pairs. pairs.items ≡ pairs_at_start net.now) }
 {
     net.reveal();
-    let mut small_first = Vec::with_capacity(alloc, net.pairs())?;
+    let mut pairs = Vec::with_capacity(alloc, net.pairs())?;
     for p in 0..net.pairs() {
         let pair = net.pair(p);
         let is_first = net.event(pair.small).time <= net.event(pair.large).time;
-        small_first.push(is_first)?;
+        pairs.push(Decided::free(is_first))?;
     }
-    Ok(small_first)
+    Ok(pairs)
 }

@@ -23,6 +23,7 @@ struct Seen {
     timetables: u32,
     cycles: u32,
     misses: u32,
+    cancelled: u32,
 }
 
 /// Whether the times or the cycle of the rows, and their cost, are those of the plain program.
@@ -40,6 +41,9 @@ fn agrees(
             seen.timetables = seen.timetables.saturating_add(1);
             if plain.missed(plain_times.as_slice()) > 0 {
                 seen.misses = seen.misses.saturating_add(1);
+            }
+            if plain.cancelled() > 0 {
+                seen.cancelled = seen.cancelled.saturating_add(1);
             }
             Ok(
                 times.as_slice() == plain_times.as_slice()
@@ -136,6 +140,7 @@ fn times_and_costs_are_those_of_the_plain_program(rt: HostRuntime) -> Result<(),
         timetables: 0,
         cycles: 0,
         misses: 0,
+        cancelled: 0,
     };
     for seed in 0..500 {
         assert!(rt; day_agrees(rt.alloc(), seed, &mut seen)?, "seed {seed}");
@@ -143,5 +148,6 @@ fn times_and_costs_are_those_of_the_plain_program(rt: HostRuntime) -> Result<(),
     assert!(rt; seen.timetables > 1_000);
     assert!(rt; seen.cycles > 20);
     assert!(rt; seen.misses > 200);
+    assert!(rt; seen.cancelled > 200);
     Ok(())
 }

@@ -118,7 +118,7 @@ impl Dice {
 
     /// A message of any kind but a list of decisions.
     pub fn message(&mut self) -> Message {
-        match self.roll(9) {
+        match self.roll(12) {
             0 => Message::DelayEvent(self.event_id(), self.roll(80)),
             1 => Message::DelayActivity(self.activity_id(), self.roll(40)),
             2 | 3 => Message::Pass(self.event_id(), self.roll(300)),
@@ -126,6 +126,8 @@ impl Dice {
             5 => Message::Keep(self.activity_id()),
             6 => Message::Drop(self.activity_id()),
             7 => Message::First(self.event_id(), self.event_id()),
+            8 | 9 => Message::Cancel(self.event_id()),
+            10 => Message::Restore(self.event_id()),
             _ => Message::Now(self.roll(200)),
         }
     }

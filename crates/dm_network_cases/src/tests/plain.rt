@@ -1,6 +1,6 @@
 //! Which timetable is least and what it costs, by the inequalities alone.
 
-use super::said::{activity_delay, clock, event_delay, goes_first, is_kept, passed};
+use super::said::{activity_delay, clock, event_delay, goes_first, is_cancelled, is_kept, passed};
 use dm_base::{ActKind, ActRow, Cost, EventId, EventKind, EventRow, Secs};
 use dm_rows::Message;
 use std::alloc::{AllocError, Global};
@@ -79,7 +79,7 @@ impl Plain<'_> {
     }
 
     fn is_active(&self, activity: &ActRow) -> bool {
-        if passed(self.said, activity.head).is_some() {
+        if self.has_cancelled_end(activity) || passed(self.said, activity.head).is_some() {
             return false;
         }
         match activity.kind {
@@ -91,6 +91,10 @@ impl Plain<'_> {
                     || self.is_first(activity.tail, activity.head)
             }
         }
+    }
+
+    fn has_cancelled_end(&self, activity: &ActRow) -> bool {
+        is_cancelled(self.said, activity.tail) || is_cancelled(self.said, activity.head)
     }
 
     /// Whether a headway leads back between the two events of a headway.
@@ -125,16 +129,28 @@ impl Plain<'_> {
         time
     }
 
-    /// What times cost with a penalty for each missed passenger.
+    /// What times cost with a penalty for each passenger who missed a change or whose arrival is cancelled.
     pub fn cost(&self, times: &[Secs], penalty: u64) -> Cost {
+        let lost = self.missed(times).saturating_add(self.cancelled());
         self.lateness(times)
-            .saturating_add(u128::from(penalty).saturating_mul(self.missed(times)))
+            .saturating_add(u128::from(penalty).saturating_mul(lost))
+    }
+
+    /// The weight of the cancelled arrivals.
+    pub fn cancelled(&self) -> Cost {
+        let mut total: Cost = 0;
+        for event in self.events {
+            if matches!(event.kind, EventKind::Arrival) && is_cancelled(self.said, event.id) {
+                total = total.saturating_add(u128::from(event.weight));
+            }
+        }
+        total
     }
 
     fn lateness(&self, times: &[Secs]) -> Cost {
         let mut total: Cost = 0;
         for (row, time) in self.events.iter().zip(times) {
-            if matches!(row.kind, EventKind::Arrival) {
+            if matches!(row.kind, EventKind::Arrival) && !is_cancelled(self.said, row.id) {
                 let late = u128::from(time.saturating_sub(row.time));
                 total = total.saturating_add(late.saturating_mul(u128::from(row.weight)));
             }
@@ -142,7 +158,8 @@ impl Plain<'_> {
         total
     }
 
-    /// The weight of the changes that are dropped while their head has not passed, or that their passed head has missed.
+    /// The weight of the changes that are dropped or have a cancelled end while their head has not passed, or that their passed
+    /// head has missed.
     pub fn missed(&self, times: &[Secs]) -> Cost {
         let mut total: Cost = 0;
         for activity in self.activities {
@@ -155,9 +172,9 @@ impl Plain<'_> {
 
     fn is_missed(&self, times: &[Secs], change: &ActRow) -> bool {
         if passed(self.said, change.head).is_some() {
-            self.comes_too_early(times, change)
+            is_cancelled(self.said, change.tail) || self.comes_too_early(times, change)
         } else {
-            !is_kept(self.said, change.id)
+            !is_kept(self.said, change.id) || self.has_cancelled_end(change)
         }
     }
 }

@@ -40,6 +40,19 @@ pub fn passed(said: &[Message], event: EventId) -> Option<Secs> {
     passed
 }
 
+/// Whether an event is cancelled: neither restored since nor passed.
+pub fn is_cancelled(said: &[Message], event: EventId) -> bool {
+    let mut cancelled = false;
+    for message in said {
+        match message {
+            Message::Cancel(e) if *e == event => cancelled = true,
+            Message::Restore(e) | Message::Pass(e, _) if *e == event => cancelled = false,
+            _ => {}
+        }
+    }
+    cancelled
+}
+
 pub fn is_kept(said: &[Message], change: ActId) -> bool {
     let mut kept = true;
     for message in said {

@@ -21,6 +21,10 @@ enum Said {
     Dropped(u32),
     First(u32, u32),
     Now(u64),
+    Cancel(u32),
+    Restore(u32),
+    LockChange(u32),
+    LockPair(u32, u32),
 }
 
 /// The message itself.
@@ -33,6 +37,10 @@ fn message_of(said: Said) -> Message {
         Said::Dropped(activity) => Message::Drop(ActId(activity)),
         Said::First(first, second) => Message::First(EventId(first), EventId(second)),
         Said::Now(time) => Message::Now(time),
+        Said::Cancel(event) => Message::Cancel(EventId(event)),
+        Said::Restore(event) => Message::Restore(EventId(event)),
+        Said::LockChange(activity) => Message::Lock(Choice::Change(ActId(activity))),
+        Said::LockPair(small, large) => Message::Lock(Choice::Pair(EventId(small), EventId(large))),
     }
 }
 
@@ -158,6 +166,56 @@ fn nothing_that_has_not_passed_is_before_the_clock(rt: HostRuntime) -> Result<()
     Ok(())
 }
 
+const NO_DEPARTURE: Said = Said::Cancel(3);
+
+const NO_ARRIVAL: Said = Said::Cancel(4);
+
+const NO_TAIL: Said = Said::Cancel(2);
+
+const VERY_LATE: Said = Said::Late(1, 100);
+
+const LEAVES: Said = Said::Restore(3);
+
+const ARRIVES: Said = Said::Restore(4);
+
+#[test]
+fn a_train_that_ends_early_and_runs_again(rt: HostRuntime) -> Result<(), Fail> {
+    let net = connection(rt.alloc())?;
+    let ends = [NO_DEPARTURE, NO_ARRIVAL, VERY_LATE];
+    let leaves = [NO_DEPARTURE, NO_ARRIVAL, VERY_LATE, LEAVES];
+    let runs = [NO_DEPARTURE, NO_ARRIVAL, VERY_LATE, LEAVES, ARRIVES];
+    let days = [
+        day_of(&ends, [200, 290, 220, 300, 310, 405], 1_375_000),
+        day_of(&leaves, [200, 290, 300, 300, 310, 405], 1_375_000),
+        day_of(&runs, [200, 290, 300, 380, 310, 405], 2_075_000),
+    ];
+    assert!(rt; are_true(rt.alloc(), &net, &days)?);
+    Ok(())
+}
+
+#[test]
+fn what_a_cancelled_event_costs_once(rt: HostRuntime) -> Result<(), Fail> {
+    let net = connection(rt.alloc())?;
+    let on_time = [100, 200, 220, 300, 230, 330];
+    let days = [
+        day_of(&[NO_TAIL], on_time, 140_000),
+        day_of(&[DROPPED, NO_TAIL], on_time, 140_000),
+        day_of(&[NO_TAIL, Said::Pass(2, 200)], on_time, 0),
+        day_of(
+            &[Said::Pass(5, 231), NO_TAIL],
+            [100, 200, 239, 319, 231, 330],
+            330_000,
+        ),
+        day_of(
+            &[NO_TAIL, Said::Late(2, 30), Said::Restore(2)],
+            [100, 230, 240, 320, 250, 345],
+            575_000,
+        ),
+    ];
+    assert!(rt; are_true(rt.alloc(), &net, &days)?);
+    Ok(())
+}
+
 /// The connection with its second train at 340 and a turnaround into it from the first.
 fn turnaround(alloc: Global) -> Result<Network, Fail> {
     let mut events = connection_events(alloc)?;
@@ -222,6 +280,19 @@ fn what_may_still_be_decided(rt: HostRuntime) -> Result<(), Fail> {
     assert!(rt; are_free(rt.alloc(), &net, &start, &[change, pair])?);
     assert!(rt; are_free(rt.alloc(), &net, &[Said::Pass(3, 220)], &[change])?);
     assert!(rt; are_free(rt.alloc(), &net, &[Said::Pass(5, 231)], &[])?);
+    Ok(())
+}
+
+#[test]
+fn what_cancelled_events_and_locks_leave_to_decide(rt: HostRuntime) -> Result<(), Fail> {
+    let change = Choice::Change(ActId(5));
+    let pair = Choice::Pair(EventId(3), EventId(5));
+    let net = connection(rt.alloc())?;
+    assert!(rt; are_free(rt.alloc(), &net, &[Said::Cancel(2)], &[pair])?);
+    assert!(rt; are_free(rt.alloc(), &net, &[Said::Cancel(3)], &[change])?);
+    assert!(rt; are_free(rt.alloc(), &net, &[Said::Cancel(5)], &[])?);
+    assert!(rt; are_free(rt.alloc(), &net, &[Said::LockChange(5)], &[pair])?);
+    assert!(rt; are_free(rt.alloc(), &net, &[Said::LockPair(3, 5)], &[change])?);
     Ok(())
 }
 

@@ -2,7 +2,7 @@ use Rattle.std.proofs.Common.{[], ◌∷◌, refl, arith, inl, inr}
 use Rattle.dm_network.specs.Held.{IsCycleOf}
 use Rattle.dm_rows.specs.declared.messages.Message.TheVariants.{First}
 use Rattle.dm_rows.specs.declared.messages.Refusal.{Refusal}
-use Rattle.dm_rows.specs.declared.messages.Refusal.TheVariants.{Range, UnknownEvent, UnknownActivity, UnknownChange, UnknownPair, Passed, NotPassed, Back, Cycle, Full, OutOfMemory}
+use Rattle.dm_rows.specs.declared.messages.Refusal.TheVariants.{Range, UnknownEvent, UnknownActivity, UnknownChange, UnknownPair, Passed, NotPassed, Cancelled, NotCancelled, Locked, NotLocked, Back, Cycle, Full, OutOfMemory}
 use Rattle.dm_rows.specs.Rows.{RowsValue}
 use Rattle.dm_rows.specs.Active.{ShowsCycle, is_active}
 use Rattle.dm_rows.specs.Examples.{event_id, activity_id, turnaround, turnaround_at_start}
@@ -35,10 +35,17 @@ passes (Passed e t) h = elim h.1 [
   | inl p ↦ let e = p.0 in cc
   | inr p ↦ let e = p.1 in cc
 ]
+passes (Cancelled e) h = elim h.1 [
+  | inl p ↦ let e = p.0 in cc
+  | inr p ↦ let e = p.1 in cc
+]
+passes (Locked c) h = let e = h.0.3 in cc
 passes (Range v) h = h
 passes (UnknownActivity u) h = h
 passes (UnknownChange u) h = h
 passes (NotPassed u) h = h
+passes (NotCancelled u) h = h
+passes (NotLocked c) h = h
 passes (Back c) h = h
 passes (Cycle ids) h = h
 passes (Full k) h = h

@@ -1,5 +1,6 @@
 use Rattle.std.proofs.Common.{refl, arith}
 use Rattle.dm_network.specs.Start.{starts_small_first}
+use Rattle.dm_rows.specs.Inside.Standings.{decided_at_start}
 use Rattle.dm_rows.proofs.PairEnds.{small_is_event, large_is_event}
 use Rattle.dm_rows.proofs.StartDelays.{one_more_item}
 use Rattle.dm_rows.proofs.starting.first_events.Goals as goal
@@ -12,5 +13,5 @@ event-requires-in-loop-p c = rw c.pair-pair.ensures (large_is_event c.args.net.n
 
 pub loop-p-preserved : goal.loop-p-preserved
 loop-p-preserved c =
-    rw (c.in_ok-push.ensures.items, c.event.ensures, c.event-in-loop-p.ensures, c.pair-pair.ensures)
-    (one_more_item (starts_small_first c.args.net.now) c.loop-p.small_first.items c.loop-p.p _ c.loop-p.invariant refl)
+    rw (c.in_ok-push.ensures.items, c.free.ensures, c.event.ensures, c.event-in-loop-p.ensures, c.pair-pair.ensures)
+    (one_more_item (λ p. decided_at_start (starts_small_first c.args.net.now p)) c.loop-p.pairs.items c.loop-p.p _ c.loop-p.invariant refl)
