@@ -1,19 +1,17 @@
 //! The rows after a list of entries.
 ghost use Rattle.std.specs.Prelude.{◌≡◌, ◌⊎◌, ◌≤◌, length, IfOk, IfErr, OnOk};
 ghost use Rattle.dm_base.specs.declared.limits.TheConstants.{ENTRIES as MOST};
-ghost use Rattle.dm_network.specs.Net.{Net};
-ghost use Rattle.dm_rows.specs.Rows.{RowsValue, IsSized};
+ghost use Rattle.dm_rows.specs.Rows.{IsSized};
 ghost use Rattle.dm_rows.specs.Active.{HasNoCycle};
 ghost use Rattle.dm_rows.specs.Refuse.{IsNow};
-ghost use Rattle.dm_rows.specs.Resolve.{after};
 ghost use Rattle.dm_rows.specs.History.{rows_at, IsLegal};
 ghost use Rattle.dm_history.specs.Replay.{RefusesReplay};
-ghost use Rattle.dm_history.specs.Inside.Entering.{Enters, IsKnownFree, RefusesCycle, RefusesEntry, fault_at};
+ghost use Rattle.dm_history.specs.Inside.Entering.{Enters, IsKnownFree, StaysFree, RefusesCycle, RefusesEntry, fault_at};
 
 use dm_base::limits::ENTRIES;
 use dm_network::Network;
 use dm_rows::{Entry, Message, Refusal, Rows, admit};
-use dm_times::laws::delays_passes_drops_and_clocks_make_no_cycle;
+use dm_times::laws::harmless_messages_make_no_cycle;
 use dm_times::{NoTimes, least};
 use std::alloc::{AllocError, Global};
 
@@ -110,15 +108,18 @@ fn fault_at(place: usize, refusal: Refusal) -> ReplayFault
 
 /// Whether rows without a cycle stay so at this message, as far as its kind tells.
 fn stays_free(known: bool, message: &Message) -> bool
-    ensures { (net : Net) (rows : RowsValue) → IsKnownFree net rows known → IsKnownFree net (after net rows message.now) result }
+    ensures { StaysFree known message.now result }
 {
-    delays_passes_drops_and_clocks_make_no_cycle();
+    harmless_messages_make_no_cycle();
     match message {
         Message::DelayEvent(_, _)
         | Message::DelayActivity(_, _)
         | Message::Pass(_, _)
         | Message::Drop(_)
-        | Message::Now(_) => known,
+        | Message::Now(_)
+        | Message::Cancel(_)
+        | Message::Lock(_)
+        | Message::Unlock(_) => known,
         _ => false,
     }
 }

@@ -1,5 +1,5 @@
 -- Which activities a passenger can use in a timetable, and the walks along them from stop to stop.
-use Rattle.std.specs.Prelude.{ℕ, ◌≡◌, ◌==◌, ◌+◌, ◌<◌, ◌&&◌, ◌||◌, nat_le, Bool, true, false, IsTrue, List, length, count_by}
+use Rattle.std.specs.Prelude.{ℕ, ◌≡◌, ◌==◌, ◌+◌, ◌<◌, ◌&&◌, ◌||◌, nat_le, not, Bool, true, false, IsTrue, List, length, count_by}
 use Rattle.dm_base.specs.declared.ids.StopId.{StopId}
 use Rattle.dm_base.specs.declared.rows.ActKind.{ActKind}
 use Rattle.dm_base.specs.declared.rows.ActKind.TheVariants.{Drive, Wait, Turnaround, Change, Headway}
@@ -9,7 +9,7 @@ use Rattle.dm_graph.specs.Arcs.{Arcs, Chain}
 use Rattle.dm_network.specs.Net.{Net, event_at, activity_at, is_change}
 use Rattle.dm_network.specs.Held.{arcs_of}
 use Rattle.dm_rows.specs.Rows.{RowsValue, kept_at}
-use Rattle.dm_rows.specs.Active.{has_passed}
+use Rattle.dm_rows.specs.Active.{has_passed, has_cancelled_end}
 use Rattle.dm_rows.specs.Timetable.{time_at, span_of}
 use Rattle.dm_rows.specs.Cost.{is_arrival}
 
@@ -27,11 +27,11 @@ is_open net rows x Change a = is_caught net rows x a
 is_open net rows x Turnaround a = false
 is_open net rows x Headway a = false
 
--- An activity is usable where it is a drive, a wait or a change whose head is not before its tail, and, if it is a change, it
--- is caught.
+-- An activity is usable where it is a drive, a wait or a change neither of whose ends is cancelled and whose head is not before
+-- its tail, and, if it is a change, it is caught.
 abbrev pub is_usable : Net → RowsValue → List ℕ → ℕ → Bool
 is_usable net rows x a =
-    nat_le (time_at x (activity_at net a).tail) (time_at x (activity_at net a).head)
+    not (has_cancelled_end net rows a) && nat_le (time_at x (activity_at net a).tail) (time_at x (activity_at net a).head)
     && is_open net rows x (activity_at net a).kind a
 
 -- the usable activities as arcs

@@ -6,7 +6,7 @@ ghost use Rattle.dm_journey.specs.Walks.{is_usable};
 
 use dm_base::ActKind;
 use dm_network::Network;
-use dm_rows::{Rows, span_of};
+use dm_rows::{Rows, has_cancelled_end, span_of};
 use dm_times::Times;
 use std::alloc::{AllocError, Global};
 
@@ -28,9 +28,9 @@ pub fn usable_activities(
     Ok(usable)
 }
 
-/// Whether the activity at a place is usable: a drive, a wait or a change whose head is not before its tail and, if it is a
-/// change, one that is caught: its head is at least its lower bound and delay after its tail, and it is kept or its head has
-/// passed.
+/// Whether the activity at a place is usable: a drive, a wait or a change, of which neither end is cancelled and whose head is
+/// not before its tail, and, if it is a change, one that is caught: its head is at least its lower bound and delay after its
+/// tail, and it is kept or its head has passed.
 fn is_usable(net: &Network, rows: &Rows, times: &Times, a: usize) -> bool
     requires sized { IsSized net.now rows.now }
     requires as_many { length times.now ≡ length net.now.events }
@@ -39,7 +39,7 @@ fn is_usable(net: &Network, rows: &Rows, times: &Times, a: usize) -> bool
 {
     net.reveal();
     let activity = net.activity(a);
-    if times.time(activity.head) < times.time(activity.tail) {
+    if has_cancelled_end(net, rows, a) || times.time(activity.head) < times.time(activity.tail) {
         return false;
     }
     match activity.kind {

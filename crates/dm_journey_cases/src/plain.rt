@@ -90,7 +90,7 @@ pub fn change_of(net: &Network, a: usize) -> u32
     u32::from(matches!(net.activity(a).kind, ActKind::Change))
 }
 
-/// Whether a passenger can use an activity.
+/// Whether a passenger can use an activity. Nobody can where one of its ends is cancelled.
 pub fn is_usable(net: &Network, rows: &Rows, times: &Times, a: usize) -> bool
     requires sized { IsSized net.now rows.now }
     requires as_many { length times.now ≡ length net.now.events }
@@ -102,6 +102,9 @@ pub fn is_usable(net: &Network, rows: &Rows, times: &Times, a: usize) -> bool
     let head = times.time(activity.head);
     let takes = activity.lower.saturating_add(rows.act_delay(a));
     let has_left = rows.passed(activity.head).is_some();
+    if rows.cancelled(activity.tail) || rows.cancelled(activity.head) {
+        return false;
+    }
     match activity.kind {
         ActKind::Drive | ActKind::Wait => tail <= head,
         ActKind::Change => tail <= head

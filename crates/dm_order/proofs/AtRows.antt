@@ -9,15 +9,12 @@ use Rattle.dm_network.specs.Net.{Net, activity_at}
 use Rattle.dm_network.specs.Held.{arcs_of, is_held, IsCycleOf, HasNoCycleOf}
 use Rattle.dm_rows.specs.Rows.{RowsValue}
 use Rattle.dm_rows.specs.Active.{has_passed, is_active, active_arcs, IsCycle, HasNoCycle}
+use Rattle.dm_rows.proofs.Harmless.{head_is_open}
 use Rattle.dm_order.specs.declared.faults.OrderFault.{OrderFault}
 use Rattle.dm_order.specs.declared.faults.OrderFault.TheVariants.{Cyclic, OutOfMemory}
 use Rattle.dm_order.specs.Orders.{is_ordered}
 use Rattle.dm_order.specs.Refuse.{RefusesOrder}
 use Rattle.dm_order.specs.Inside.Placing.{RefusesLists}
-
-not_so : (b x : Bool) → (if b then false else x) ≡ true → b ≡ false
-not_so true x h = cc
-not_so false x h = refl
 
 but : (b x : Bool) → (if b then false else x) ≡ true → x ≡ true
 but true x h = cc
@@ -50,7 +47,7 @@ module _ (net : Net) (rows : RowsValue) (held : List Bool)
 
   -- no active activity enters an event that has passed
   enters_no_passed : (a : ℕ) → is_active net rows a ≡ true → has_passed rows (activity_at net a).head ≡ false
-  enters_no_passed a active = not_so (has_passed rows (activity_at net a).head) _ active
+  enters_no_passed a active = head_is_open net rows a active
 
   end_has_not_passed : (i : ℕ) (chain : List ℕ) (j : ℕ) → has_passed rows i ≡ false → Chain (active_arcs net rows) i chain j → has_passed rows j ≡ false
   end_has_not_passed i [] j free is = ap (has_passed rows) (sym is) ∙ free

@@ -24,11 +24,12 @@ none_flagged zero k = refl
 none_flagged (suc n) zero = refl
 none_flagged (suc n) (suc k) = none_flagged n k
 
-pub none_beside : (net : Net) (passed beside : List Bool) → passed ≡ replicate (length net.events) false → beside ≡ replicate (length net.events) false →
-    FlagsBeside net passed beside
-none_beside net passed beside none none_too = record {
+pub none_beside : (net : Net) (passed cancelled beside : List Bool) → passed ≡ replicate (length net.events) false →
+    cancelled ≡ replicate (length net.events) false → beside ≡ replicate (length net.events) false → FlagsBeside net passed cancelled beside
+none_beside net passed cancelled beside none all_run none_too = record {
   as_many = ap length none_too ∙ length-replicate (length net.events) false;
   events = λ i flagged. let not = ap (λ (fs : List Bool). is_flagged fs i) none ∙ none_flagged (length net.events) i in absurd cc;
+  of_cancelled = λ i flagged. let not = ap (λ (fs : List Bool). is_flagged fs i) all_run ∙ none_flagged (length net.events) i in absurd cc;
   tails = λ a lt change flagged.
       let not = ap (λ (fs : List Bool). is_flagged fs (activity_at net a).head) none ∙ none_flagged (length net.events) (activity_at net a).head in
       absurd cc;
@@ -74,10 +75,10 @@ next_tail_flagged net row n before now next had below is_next =
     tail_flagged net row n before now next (is_change (activity_at net (slice_index row n)).kind) had below refl is_next
 
 -- an event that has passed or has not
-module _ (net : Net) (passed beside next : List Bool) (e : ℕ) (flag : Bool) (into : List ℕ) (into_is : into ≡ places_into net e)
-    (is_event : e < length net.events) (had : FlagsBeside net passed beside)
+module _ (net : Net) (passed cancelled beside next : List Bool) (e : ℕ) (flag : Bool) (into : List ℕ) (into_is : into ≡ places_into net e)
+    (is_event : e < length net.events) (had : FlagsBeside net passed cancelled beside)
     (flagged : HasFlaggedTails net into (length into) (slice_set beside e true) next) where
-  pub flags_with : FlagsBeside net (slice_set passed e flag) next
+  pub flags_with : FlagsBeside net (slice_set passed e flag) cancelled next
   flags_with =
       let many = had.as_many in
       let below : e < length beside = omega arith in
@@ -87,6 +88,7 @@ module _ (net : Net) (passed beside next : List Bool) (e : ℕ) (flag : Bool) (i
           | inl here ↦ subst (λ (j : ℕ). is_flagged (slice_set beside e true) j ≡ true) (sym here) (flag_here beside e below)
           | inr ne ↦ flag_still beside e i below (had.events i (sym (get_or-set_other passed e i flag false ne) ∙ is))
         ]);
+        of_cancelled = λ i is. flagged.kept i (flag_still beside e i below (had.of_cancelled i is));
         tails = λ a lt change is. elim (cases_eq (activity_at net a).head e) [
           | inl here ↦
               let s = stands_into net e a into into_is (record { is_activity = lt; head = here }) in
@@ -99,6 +101,22 @@ module _ (net : Net) (passed beside next : List Bool) (e : ℕ) (flag : Bool) (i
         ];
       }
 
+-- an event that is cancelled or is not
+pub flags_with_cancelled : (net : Net) (passed cancelled beside : List Bool) (e : ℕ) (flag : Bool) → e < length net.events →
+    FlagsBeside net passed cancelled beside → FlagsBeside net passed (slice_set cancelled e flag) (slice_set beside e true)
+flags_with_cancelled net passed cancelled beside e flag is_event had =
+    let many = had.as_many in
+    let below : e < length beside = omega arith in
+    record {
+      as_many = length-set beside e true ∙ many;
+      events = λ i is. flag_still beside e i below (had.events i is);
+      of_cancelled = λ i is. elim (cases_eq i e) [
+        | inl here ↦ subst (λ (j : ℕ). is_flagged (slice_set beside e true) j ≡ true) (sym here) (flag_here beside e below)
+        | inr ne ↦ flag_still beside e i below (had.of_cancelled i (sym (get_or-set_other cancelled e i flag false ne) ∙ is))
+      ];
+      tails = λ a lt change is. flag_still beside e _ below (had.tails a lt change is);
+    }
+
 -- what is not flagged
 not_so : (p b : Bool) → (p ≡ true → b ≡ true) → b ≡ false → p ≡ false
 not_so false b so not = refl
@@ -108,7 +126,10 @@ not_both : (p q b : Bool) → (p ≡ true → q ≡ true → b ≡ true) → b �
 not_both false q b so not = refl
 not_both true q b so not = not_so q b (so refl) not
 
-module _ (net : Net) (passed beside : List Bool) (had : FlagsBeside net passed beside) (e : ℕ) (not : is_flagged beside e ≡ false) where
+module _ (net : Net) (passed cancelled beside : List Bool) (had : FlagsBeside net passed cancelled beside) (e : ℕ) (not : is_flagged beside e ≡ false) where
+  pub still_runs : is_flagged cancelled e ≡ false
+  still_runs = not_so (is_flagged cancelled e) (is_flagged beside e) (had.of_cancelled e) not
+
   pub has_not_passed : is_flagged passed e ≡ false
   has_not_passed = not_so (is_flagged passed e) (is_flagged beside e) (had.events e) not
 

@@ -8,7 +8,9 @@ ghost use Rattle.dm_settle.specs.Constraints.{arcs_given, graph_given};
 ghost use Rattle.dm_settle.specs.Settling.{AreLeast};
 ghost use Rattle.dm_priced.specs.Priced.{is_flagged, IsPriced, priced_cost};
 
-use crate::adding::{flag_beside, missed_along, missed_with, weight_if};
+use crate::adding::{
+    EventFlags, flag_beside, late_at, lost_at, missed_along, missed_with, weight_if,
+};
 use crate::totals::lateness_of;
 use crate::watch::Watch;
 use dm_base::{Cost, Secs, Steps};
@@ -30,8 +32,11 @@ pub struct PricedTimetable {
     /// The events that have passed.
     passed: Vec<bool>,
 
-    /// The events beside which a change may be missed: those that have passed, and the tails of the changes whose heads have
-    /// passed. Those of an event that is recalled stay.
+    /// The events that are cancelled.
+    cancelled: Vec<bool>,
+
+    /// The events that are cancelled, or beside which a change may be missed: those that have passed, and the tails of the changes
+    /// whose heads have passed. Those of an event that is recalled or restored stay.
     beside: Vec<bool>,
 
     /// The activities that are charged for.
@@ -46,6 +51,7 @@ impl Drop for PricedTimetable {
         let PricedTimetable {
             live: _,
             passed: _,
+            cancelled: _,
             beside: _,
             charged: _,
             lateness: _,
@@ -64,6 +70,7 @@ impl Model for PricedTimetable {
     ghost view = { λ p. record {
       live = p.live;
       passed = p.passed.items;
+      cancelled = p.cancelled.items;
       beside = p.beside.items;
       charged = p.charged.items;
       sums = record { lateness = p.lateness; charged = p.charged_weight; missed = p.missed_weight };
@@ -73,7 +80,8 @@ impl Model for PricedTimetable {
 }
 
 impl PricedTimetable {
-    /// A live timetable with its price, where no event has passed and nothing is charged for. Its time is linear in events.
+    /// A live timetable with its price, where no event has passed or is cancelled and nothing is charged for. Its time is linear in
+    /// events.
     pub fn new(
         alloc: Global,
         net: &Network,
@@ -83,17 +91,20 @@ impl PricedTimetable {
         ensures priced { IfOk result (IsPriced net.now) }
         ensures live { IfOk result (λ priced. priced.live ≡ live) }
         ensures passed { IfOk result (λ priced. priced.passed ≡ replicate (length net.now.events) false) }
+        ensures cancelled { IfOk result (λ priced. priced.cancelled ≡ replicate (length net.now.events) false) }
         ensures charged { IfOk result (λ priced. priced.charged ≡ replicate (length net.now.activities) false) }
     {
         net.reveal();
         live.times().is_early();
         let passed = vec![in alloc; false; net.events()]?;
+        let cancelled = vec![in alloc; false; net.events()]?;
         let beside = vec![in alloc; false; net.events()]?;
         let charged = vec![in alloc; false; net.activities()]?;
         let lateness = lateness_of(net, live.times());
         Ok(PricedTimetable {
             live,
             passed,
+            cancelled,
             beside,
             charged,
             lateness,
@@ -140,7 +151,10 @@ impl PricedTimetable {
     {
         net.reveal();
         let mut watch = Watch {
-            passed: &self.passed,
+            flags: EventFlags {
+                passed: &self.passed,
+                cancelled: &self.cancelled,
+            },
             beside: &self.beside,
             lateness: self.lateness,
             missed: self.missed_weight,
@@ -197,7 +211,10 @@ impl PricedTimetable {
     {
         net.reveal();
         let mut watch = Watch {
-            passed: &self.passed,
+            flags: EventFlags {
+                passed: &self.passed,
+                cancelled: &self.cancelled,
+            },
             beside: &self.beside,
             lateness: self.lateness,
             missed: self.missed_weight,
@@ -246,9 +263,13 @@ impl PricedTimetable {
         } }
     {
         net.reveal();
+        let flags = EventFlags {
+            passed: &self.passed,
+            cancelled: &self.cancelled,
+        };
         let earlier = self.live.span(a);
-        let before = missed_with(net, &self.passed, self.live.times(), a, earlier);
-        let after = missed_with(net, &self.passed, self.live.times(), a, span);
+        let before = missed_with(net, flags, self.live.times(), a, earlier);
+        let after = missed_with(net, flags, self.live.times(), a, span);
         self.live.set_span(net, a, span);
         self.missed_weight = self.missed_weight + after - before;
     }
@@ -335,11 +356,69 @@ impl PricedTimetable {
         net.reveal();
         let constraints = self.live.constraints();
         let times = self.live.times();
-        let before = missed_along(net, constraints, &self.passed, times, into);
+        let flags = EventFlags {
+            passed: &self.passed,
+            cancelled: &self.cancelled,
+        };
+        let before = missed_along(net, constraints, flags, times, into);
         self.passed[i] = passed;
-        let after = missed_along(net, constraints, &self.passed, times, into);
+        let flags_now = EventFlags {
+            passed: &self.passed,
+            cancelled: &self.cancelled,
+        };
+        let after = missed_along(net, constraints, flags_now, times, into);
         self.missed_weight = self.missed_weight + after - before;
         flag_beside(net, &mut self.beside, i, into);
+    }
+
+    /// Takes an event as cancelled, or as one that is not. The row is that of the activities out of it.
+    pub fn cancel(&mut self, net: &Network, i: usize, cancelled: bool, out_of: &[usize])
+        requires priced { IsPriced net.now self.old }
+        requires is_event { i < length net.now.events }
+        requires out_of { out_of.now ≡ places_out_of net.now i }
+        ensures priced { IsPriced net.now self.new }
+        ensures cancelled { self.new ≡ record self.old {
+          cancelled = slice_set self.old.cancelled i cancelled;
+          beside = self.new.beside;
+          sums = self.new.sums;
+        } }
+    {
+        net.reveal();
+        let was = self.is_cancelled(i);
+        let constraints = self.live.constraints();
+        let times = self.live.times();
+        times.is_early();
+        let time = times.time(i);
+        let flags = EventFlags {
+            passed: &self.passed,
+            cancelled: &self.cancelled,
+        };
+        let missed = missed_along(net, constraints, flags, times, out_of);
+        self.cancelled[i] = cancelled;
+        let flags_now = EventFlags {
+            passed: &self.passed,
+            cancelled: &self.cancelled,
+        };
+        let missed_now = missed_along(net, constraints, flags_now, times, out_of);
+        let late = late_at(net, was, i, time);
+        let late_now = late_at(net, cancelled, i, time);
+        let lost = lost_at(net, was, i);
+        let lost_now = lost_at(net, cancelled, i);
+        let missed_weight = self.missed_weight + missed_now - missed;
+        let lateness = self.lateness + late_now - late;
+        let charged_weight = self.charged_weight + lost_now - lost;
+        self.missed_weight = missed_weight;
+        self.lateness = lateness;
+        self.charged_weight = charged_weight;
+        self.beside[i] = true;
+    }
+
+    /// Whether an event is taken as cancelled.
+    pub fn is_cancelled(&self, i: usize) -> bool
+        requires { i < length self.now.cancelled }
+        ensures { result ≡ is_flagged self.now.cancelled i }
+    {
+        self.cancelled[i]
     }
 
     /// Charges for an activity, or no longer.

@@ -6,7 +6,7 @@ use Rattle.dm_rows.specs.Resolve.{after_change}
 use Rattle.dm_rows.specs.Rows.{RowsValue, passed_at}
 use Rattle.dm_rows.specs.Timetable.{planned_time}
 use Rattle.dm_rows.specs.declared.messages.Change.{Change}
-use Rattle.dm_rows.specs.declared.messages.Change.TheVariants.{EventDelay, ActDelay, Passed, Recalled, Flipped, Adopted, Clock}
+use Rattle.dm_rows.specs.declared.messages.Change.TheVariants.{EventDelay, ActDelay, Passed, Recalled, Flipped, Adopted, Clock, Cancelled, Restored, Locked, Unlocked}
 use Rattle.dm_settle.specs.Constraints.{ConstraintsValue}
 use Rattle.dm_propagate.specs.Engine.{FollowsRows}
 use Rattle.dm_propagate.specs.Inside.Changing.{AreFloorsAt, HaveFloorsFrom, FloorsStay, FollowsAt}
@@ -36,6 +36,10 @@ at_clock_before net rows (Recalled i) given follows = tt
 at_clock_before net rows (Flipped flip) given follows = tt
 at_clock_before net rows (Adopted flips) given follows = tt
 at_clock_before net rows (Clock t) given follows = follows.floors
+at_clock_before net rows (Cancelled i) given follows = tt
+at_clock_before net rows (Restored i) given follows = tt
+at_clock_before net rows (Locked spot) given follows = tt
+at_clock_before net rows (Unlocked spot) given follows = tt
 
 -- one that follows the rows after a change at a clock follows those before it at the same
 pub at_clock_after : (net : Net) (rows : RowsValue) (change : Change) (clock : ℕ) (given : ConstraintsValue) →
@@ -47,6 +51,10 @@ at_clock_after net rows (Recalled i) clock given at = tt
 at_clock_after net rows (Flipped flip) clock given at = tt
 at_clock_after net rows (Adopted flips) clock given at = tt
 at_clock_after net rows (Clock t) clock given at = at
+at_clock_after net rows (Cancelled i) clock given at = tt
+at_clock_after net rows (Restored i) clock given at = tt
+at_clock_after net rows (Locked spot) clock given at = tt
+at_clock_after net rows (Unlocked spot) clock given at = tt
 
 -- the same of rows and of a clock that are read
 module _ (net : Net) (rows other : RowsValue) (change : Change) (other_is : other ≡ after_change rows change) (given : ConstraintsValue) (clock : ℕ) where

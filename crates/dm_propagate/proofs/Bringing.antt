@@ -1,5 +1,5 @@
 -- A timetable that is brought to follow rows at what a change concerns.
-use Rattle.std.proofs.Common.{◌≡◌, ℕ, ◌<◌, ◌≤◌, Bool, List, length, sym, ap, subst, ◌∙◌, ◌⊎◌, inl, inr, slice_index, get_or-set_same, get_or-set_other}
+use Rattle.std.proofs.Common.{◌≡◌, ℕ, ◌<◌, ◌≤◌, Bool, List, length, refl, sym, ap, subst, ◌∙◌, ◌⊎◌, inl, inr, slice_index, get_or-set_same, get_or-set_other}
 use Rattle.std.specs.Prelude.{slice_set}
 use Rattle.std.proofs.lemmas.Bool.{cases_eq, cases_lt}
 use Rattle.dm_network.specs.Net.{Net}
@@ -151,3 +151,16 @@ module _ (net : Net) (rows : RowsValue) (change : Change) (before after : LiveVa
       ((a : ℕ) → MovesSpan change a → ⊥) → after.given.floors ≡ before.given.floors → Turns net rows some before after → FollowsRows net rows after.given
   follows_by some among no_floor no_span floors turns =
       follows_turned some among turns (floors_stay net rows change before.given after.given follows no_floor floors) no_span
+
+-- where a change concerns nothing
+pub follows_still : (net : Net) (rows : RowsValue) (change : Change) (given : ConstraintsValue) → FollowsBut net rows change given →
+    ((a : ℕ) → IsConcerned net change a → ⊥) → ((i : ℕ) → MovesFloor rows change i → ⊥) → ((a : ℕ) → MovesSpan change a → ⊥) →
+    FollowsRows net rows given
+follows_still net rows change given follows no_activity no_floor no_span = record {
+  held = held_stays net rows change given given follows no_activity refl;
+  floors = floors_stay net rows change given given follows no_floor refl;
+  spans = spans_stay net rows change given given follows no_span refl;
+}
+
+pub marks_none : (live : LiveValue) (steps : ℕ) → MarksOnly (λ e. ⊥) live live steps steps
+marks_none live steps = record { times = refl; marked = λ e m. inl m; steps = refl }

@@ -11,13 +11,13 @@ use Rattle.dm_rows.specs.Timetable.{planned_time, floor_of, span_of}
 use Rattle.dm_rows.specs.declared.messages.Flip.{Flip}
 use Rattle.dm_rows.specs.declared.messages.Flip.TheVariants.{Keep, Drop, First}
 use Rattle.dm_rows.specs.declared.messages.Change.{Change}
-use Rattle.dm_rows.specs.declared.messages.Change.TheVariants.{EventDelay, ActDelay, Passed, Recalled, Flipped, Adopted, Clock}
+use Rattle.dm_rows.specs.declared.messages.Change.TheVariants.{EventDelay, ActDelay, Passed, Recalled, Flipped, Adopted, Clock, Cancelled, Restored, Locked, Unlocked}
 use Rattle.dm_settle.specs.Constraints.{ConstraintsValue}
 use Rattle.dm_live.specs.Live.{LiveValue}
 use Rattle.dm_propagate.specs.Engine.{FollowsRows}
 use Rattle.dm_propagate.specs.Inside.Changing.{IsTurnRefused}
-use Rattle.dm_propagate.specs.Inside.Concern.{LeadsAt, IsDecided, IsOfOneBefore, IsDecidedBefore, IsConcerned, MovesFloor, MovesSpan, FollowsBut}
-use Rattle.dm_rows.proofs.Alike.{active_alike, EndsAtPair, flip_keeps_floor, flip_keeps_span, pair_ends}
+use Rattle.dm_propagate.specs.Inside.Concern.{IsDecided, IsOfOneBefore, IsDecidedBefore, IsConcerned, MovesFloor, MovesSpan, FollowsBut}
+use Rattle.dm_rows.proofs.Alike.{active_alike, standing_leaves, EndsAtPair, flip_keeps_floor, flip_keeps_span, lock_leaves, lock_keeps_floor, lock_keeps_span, pair_ends}
 
 -- a flip leaves every activity but those that it decides about
 flip_leaves : (net : Net) (rows : RowsValue) (flip : Flip) (b : ℕ) →
@@ -26,21 +26,21 @@ flip_leaves : (net : Net) (rows : RowsValue) (flip : Flip) (b : ℕ) →
 flip_leaves net rows (Keep a) b ends =
     elim (cases_eq b a) [
       | inl is ↦ inr is
-      | inr ne ↦ inl (active_alike net rows (after_flip rows (Keep a)) b refl (get_or-set_other rows.kept a b true true ne) refl (λ p e. refl))
+      | inr ne ↦ inl (active_alike net rows (after_flip rows (Keep a)) b refl refl (get_or-set_other rows.kept a b true true ne) refl (λ p e. refl))
     ]
 flip_leaves net rows (Drop a) b ends =
     elim (cases_eq b a) [
       | inl is ↦ inr is
-      | inr ne ↦ inl (active_alike net rows (after_flip rows (Drop a)) b refl (get_or-set_other rows.kept a b false true ne) refl (λ p e. refl))
+      | inr ne ↦ inl (active_alike net rows (after_flip rows (Drop a)) b refl refl (get_or-set_other rows.kept a b false true ne) refl (λ p e. refl))
     ]
 flip_leaves net rows (First p small) b ends = pair_leaves (activity_at net b).pair refl where
   pair_leaves : (pair : Option ℕ) → (activity_at net b).pair ≡ pair →
       (is_active net (after_flip rows (First p small)) b ≡ is_active net rows b) ⊎ IsDecided net (First p small) b
-  pair_leaves None none = inl (active_alike net rows (after_flip rows (First p small)) b refl refl refl (λ q e. let e' : Some q ≡ None = sym e ∙ none in absurd cc))
+  pair_leaves None none = inl (active_alike net rows (after_flip rows (First p small)) b refl refl refl refl (λ q e. let e' : Some q ≡ None = sym e ∙ none in absurd cc))
   pair_leaves (Some q) some =
       elim (cases_eq q p) [
         | inl is ↦ inr (subst (λ (r : ℕ). ((activity_at net b).tail ≡ (pair_at net r).small) ⊎ ((activity_at net b).tail ≡ (pair_at net r).large)) is (ends q some))
-        | inr ne ↦ inl (active_alike net rows (after_flip rows (First p small)) b refl refl refl
+        | inr ne ↦ inl (active_alike net rows (after_flip rows (First p small)) b refl refl refl refl
             (λ r e. let same : r ≡ q = cc in get_or-set_other rows.small_first p r small true (λ at. ne (sym same ∙ at))))
       ]
 
@@ -62,29 +62,28 @@ flips_leave net rows (flip ∷ flips) b ends =
       | inr decided ↦ inr (record { flip = flip; place = 0; before = omega arith; there = refl; decided = decided })
     ]
 
--- a passed event, or one that is recalled, leaves every activity but those at it
-pub passed_leaves : (net : Net) (rows : RowsValue) (i : ℕ) (o : Option ℕ) (b : ℕ) →
-    (is_active net (record rows { passed = slice_set rows.passed i o }) b ≡ is_active net rows b) ⊎ LeadsAt net i b
-passed_leaves net rows i o b =
-    elim (cases_eq (activity_at net b).head i) [
-      | inl is ↦ inr (inl is)
-      | inr no_head ↦ elim (cases_eq (activity_at net b).tail i) [
-        | inl is ↦ inr (inr is)
-        | inr no_tail ↦ inl (active_alike net rows (record rows { passed = slice_set rows.passed i o }) b
-            (ap is_some (get_or-set_other rows.passed i (activity_at net b).head o None no_head)) refl
-            (ap is_some (get_or-set_other rows.passed i (activity_at net b).tail o None no_tail)) (λ p e. refl))
-      ]
-    ]
-
-change_leaves : (net : Net) (rows : RowsValue) (change : Change) (b : ℕ) → EndsAtPair net b →
+-- a change leaves every activity but those that it concerns
+pub change_leaves : (net : Net) (rows : RowsValue) (change : Change) (b : ℕ) → EndsAtPair net b →
     (is_active net (after_change rows change) b ≡ is_active net rows b) ⊎ IsConcerned net change b
 change_leaves net rows (EventDelay i d) b ends = inl refl
 change_leaves net rows (ActDelay a d) b ends = inl refl
-change_leaves net rows (Passed i t) b ends = passed_leaves net rows i (Some t) b
-change_leaves net rows (Recalled i) b ends = passed_leaves net rows i None b
+change_leaves net rows (Passed i t) b ends =
+    standing_leaves net rows i (slice_set rows.passed i (Some t)) (slice_set rows.cancelled i false) b
+    (λ j ne. get_or-set_other rows.passed i j (Some t) None ne) (λ j ne. get_or-set_other rows.cancelled i j false false ne)
+change_leaves net rows (Recalled i) b ends =
+    standing_leaves net rows i (slice_set rows.passed i None) rows.cancelled b
+    (λ j ne. get_or-set_other rows.passed i j None None ne) (λ j ne. refl)
 change_leaves net rows (Flipped flip) b ends = flip_leaves net rows flip b ends
 change_leaves net rows (Adopted flips) b ends = flips_leave net rows flips b ends
 change_leaves net rows (Clock t) b ends = inl refl
+change_leaves net rows (Cancelled i) b ends =
+    standing_leaves net rows i rows.passed (slice_set rows.cancelled i true) b
+    (λ j ne. refl) (λ j ne. get_or-set_other rows.cancelled i j true false ne)
+change_leaves net rows (Restored i) b ends =
+    standing_leaves net rows i rows.passed (slice_set rows.cancelled i false) b
+    (λ j ne. refl) (λ j ne. get_or-set_other rows.cancelled i j false false ne)
+change_leaves net rows (Locked spot) b ends = inl (lock_leaves net rows spot true b)
+change_leaves net rows (Unlocked spot) b ends = inl (lock_leaves net rows spot false b)
 
 flips_keep_floor : (net : Net) (rows : RowsValue) (flips : List Flip) (i : ℕ) → floor_of net (fold after_flip rows flips) i ≡ floor_of net rows i
 flips_keep_floor net rows [] i = refl
@@ -116,6 +115,10 @@ moves_alike rows (Recalled e) i = (λ m. m, λ m. m)
 moves_alike rows (Flipped flip) i = (λ m. m, λ m. m)
 moves_alike rows (Adopted flips) i = (λ m. m, λ m. m)
 moves_alike rows (Clock t) i = (λ m. m, λ m. m)
+moves_alike rows (Cancelled e) i = (λ m. m, λ m. m)
+moves_alike rows (Restored e) i = (λ m. m, λ m. m)
+moves_alike rows (Locked spot) i = (λ m. m, λ m. m)
+moves_alike rows (Unlocked spot) i = (λ m. m, λ m. m)
 
 floor_leaves : (net : Net) (rows : RowsValue) (change : Change) (i : ℕ) →
     (floor_of net (after_change rows change) i ≡ floor_of net rows i) ⊎ MovesFloor rows change i
@@ -138,6 +141,10 @@ floor_leaves net rows (Recalled e) i =
 floor_leaves net rows (Flipped flip) i = inl (flip_keeps_floor net rows flip i)
 floor_leaves net rows (Adopted flips) i = inl (flips_keep_floor net rows flips i)
 floor_leaves net rows (Clock t) i = inr tt
+floor_leaves net rows (Cancelled e) i = inl refl
+floor_leaves net rows (Restored e) i = inl refl
+floor_leaves net rows (Locked spot) i = inl (lock_keeps_floor net rows spot true i)
+floor_leaves net rows (Unlocked spot) i = inl (lock_keeps_floor net rows spot false i)
 
 span_leaves : (net : Net) (rows : RowsValue) (change : Change) (a : ℕ) →
     (span_of net (after_change rows change) a ≡ span_of net rows a) ⊎ MovesSpan change a
@@ -152,6 +159,10 @@ span_leaves net rows (Recalled e) a = inl refl
 span_leaves net rows (Flipped flip) a = inl (flip_keeps_span net rows flip a)
 span_leaves net rows (Adopted flips) a = inl (flips_keep_span net rows flips a)
 span_leaves net rows (Clock t) a = inl refl
+span_leaves net rows (Cancelled e) a = inl refl
+span_leaves net rows (Restored e) a = inl refl
+span_leaves net rows (Locked spot) a = inl (lock_keeps_span net rows spot true a)
+span_leaves net rows (Unlocked spot) a = inl (lock_keeps_span net rows spot false a)
 
 -- what follows the rows follows those after a change but for what it concerns, and the other way round
 module _ (net : Net) (paired : IsPaired net) (rows : RowsValue) (change : Change) (given : ConstraintsValue) where

@@ -7,17 +7,19 @@ use Rattle.std.proofs.lemmas.Map.Keys.{IsDistinct-head}
 use Rattle.dm_network.specs.Net.{Net}
 use Rattle.dm_rows.specs.Active.{is_active}
 use Rattle.dm_rows.specs.Resolve.{after_change}
-use Rattle.dm_rows.specs.Rows.{RowsValue, passed_at}
-use Rattle.dm_rows.specs.Timetable.{time_at, planned_time, IsLeast}
-use Rattle.dm_rows.specs.Touch.{IsDelayPassOrClock, IsTouched, IsChanged, MayMove}
+use Rattle.dm_rows.specs.Rows.{RowsValue, IsSized, passed_at}
+use Rattle.dm_rows.specs.Timetable.{time_at, planned_time, floor_of, IsLeast}
+use Rattle.dm_rows.specs.Touch.{TellsTouched, IsTouched, IsChanged, MayMove}
 use Rattle.dm_rows.specs.declared.messages.Change.{Change}
-use Rattle.dm_rows.specs.declared.messages.Change.TheVariants.{EventDelay, ActDelay, Passed, Recalled, Flipped, Adopted, Clock}
+use Rattle.dm_rows.specs.declared.messages.Change.TheVariants.{EventDelay, ActDelay, Passed, Recalled, Flipped, Adopted, Clock, Cancelled, Restored, Locked, Unlocked}
 use Rattle.dm_settle.specs.Constraints.{arcs_given}
 use Rattle.dm_marks.specs.Marked.{is_marked}
 use Rattle.dm_live.specs.Live.{LiveValue, IsAtRest, ReadsFew as LiveReadsFew}
 use Rattle.dm_propagate.specs.Engine.{FollowsRows}
 use Rattle.dm_propagate.specs.Reading.{KeepsClock, ReadsFew}
-use Rattle.dm_propagate.specs.Inside.Changing.{IsOffFloor, HasPassed, MarksFor}
+use Rattle.dm_propagate.specs.Inside.Changing.{IsOffFloor, HasPassed, IsTakenOut, MarksOnly, MarksFor}
+use Rattle.dm_rows.specs.Reach.{Reaches}
+use Rattle.dm_propagate.proofs.Cancelling.{enters_no_cancelled, is_out, cancel_ends, cancel_begins_none, set_back, alone_at_floor}
 use Rattle.dm_propagate.proofs.Passing.{is_passed, enters_no_passed, pass_ends, pass_begins}
 use Rattle.dm_settle.proofs.Reading.{in_front, behind, front_or, distinct_with}
 
@@ -171,35 +173,110 @@ module _ (net : Net) (rows : RowsValue) (before turned after : LiveValue) (first
           (λ is. moves (is ∙ after_here)) other (has.moves moves)
     ]
 
-  pub few_read : (change : Change) → length rows.passed ≡ length net.events → ((i t : ℕ) → change ≡ Passed i t → i < length rows.passed) →
+  -- an event is cancelled
+  module _ (i : ℕ) (is_event : i < length rows.cancelled) (runs : passed_at rows i ≡ None) (in_times : i < length before.times) (in_net : i < length net.events)
+      (follows : FollowsRows net (after_change rows (Cancelled i)) turned.given)
+      (reads : LiveReadsFew (arcs_given net turned.given) turned after mid last) (now_least : IsLeast net (after_change rows (Cancelled i)) after.times)
+      (has : IsTakenOut net (after_change rows (Cancelled i)) i before turned first mid) where
+    out_here : slice_index turned.times i ≡ floor_of net rows i
+    out_here = ap (λ (ts : List ℕ). slice_index ts i) has.times ∙ get_or-set_same before.times i (floor_of net rows i) 0 in_times
+
+    out_after : slice_index after.times i ≡ floor_of net rows i
+    out_after = alone_at_floor net (after_change rows (Cancelled i)) i after.times in_net runs (is_out net rows i is_event) now_least
+
+    out_other : (e : ℕ) → slice_index turned.times e ≢ slice_index after.times e → e ≢ i
+    out_other e ne is = ne (ap (slice_index turned.times) is ∙ out_here ∙ sym (ap (slice_index after.times) is ∙ out_after))
+
+    out_changed : (e : ℕ) → slice_index turned.times e ≢ slice_index after.times e → IsChanged before.times after.times e
+    out_changed e ne is =
+        ne (ap (λ (ts : List ℕ). slice_index ts e) has.times ∙ get_or-set_other before.times i e (floor_of net rows i) 0 (out_other e ne) ∙ is)
+
+    out_touched : (e : ℕ) → is_marked turned.marks e ≡ true → IsTouched net (after_change rows (Cancelled i)) (Cancelled i) before.times e
+    out_touched e m =
+        let cause = has.marked e m in
+        elim cause.1 [
+          | inl was ↦ absurd (not_marked e was)
+          | inr other ↦ elim other [
+            | inl gone ↦
+                let active : is_active net rows gone.a ≡ true = sym (followed.held gone.a gone.is_activity) ∙ gone.was_held in
+                inr (record {
+                  a = gone.a;
+                  active = record { is_activity = gone.is_activity; active = set_back net rows i is_event gone.a active };
+                  from_tail = elim (cancel_ends net rows i is_event gone.a active gone.not_active) [
+                    | inl head ↦ absurd (cause.0 (sym gone.head ∙ head))
+                    | inr tail ↦ tail
+                  ];
+                  to_head = gone.head;
+                })
+            | inr taken ↦
+                let inactive : is_active net rows taken.a ≡ false = sym (followed.held taken.a taken.is_activity) ∙ taken.not_held in
+                let was : is_active net rows taken.a ≡ true = cancel_begins_none net rows i is_event taken.a taken.active in
+                absurd cc
+          ]
+        ]
+
+    out_fresh : (e : ℕ) → Contains reads.renewed e → i ≢ e
+    out_fresh e c is = elim (reads.reads.caused e c) [
+      | inl marked ↦ (has.marked e marked).0 (sym is)
+      | inr f ↦ enters_no_cancelled net (after_change rows (Cancelled i)) i (is_out net rows i is_event) f.leads.arc
+          (sym (follows.held f.leads.arc f.leads.binds.is_arc) ∙ f.leads.binds.is_held) (f.leads.enters ∙ sym is)
+    ]
+
+    out_not_moved : (e : ℕ) → Contains reads.moved e → i ≢ e
+    out_not_moved e c is = out_other e (reads.reads.differs e c) (sym is)
+
+    few_cancelled : ReadsFew net (after_change rows (Cancelled i)) (Cancelled i) before.times after.times first last
+    few_cancelled = elim (cases_eq (slice_index before.times i) (floor_of net rows i)) [
+      | inl stays ↦ few_without (Cancelled i) follows reads out_changed out_touched i (inl (inl refl)) out_fresh (has.stays stays)
+      | inr moves ↦ few_with (Cancelled i) follows reads out_changed out_touched i (inl (inl refl)) out_fresh
+          (λ is. moves (is ∙ out_after)) out_not_moved (has.moves moves)
+    ]
+
+  -- nothing is touched
+  few_untouched : (change : Change) → FollowsRows net (after_change rows change) turned.given →
+      LiveReadsFew (arcs_given net turned.given) turned after mid last → MarksOnly (λ e. ⊥) before turned first mid →
+      ReadsFew net (after_change rows change) change before.times after.times first last
+  few_untouched change follows reads marks =
+      few_settled change follows reads (same_changed marks.times)
+      (λ e m. elim (marks.marked e m) [ inl was ↦ absurd (not_marked e was) | inr never ↦ absurd never ]) marks.steps
+
+  pub few_read : (change : Change) → IsSized net rows → Reaches rows change →
       length before.times ≡ length net.events → FollowsRows net (after_change rows change) turned.given →
       LiveReadsFew (arcs_given net turned.given) turned after mid last → IsLeast net (after_change rows change) after.times →
-      MarksFor net (after_change rows change) change before turned first mid → IsDelayPassOrClock change → KeepsClock rows change →
+      MarksFor net (after_change rows change) change before turned first mid → TellsTouched change → KeepsClock rows change →
       ReadsFew net (after_change rows change) change before.times after.times first last
-  few_read (EventDelay i d) size event many follows reads least marks kind on =
+  few_read (EventDelay i d) size reaches many follows reads least marks kind on =
       few_settled (EventDelay i d) follows reads (same_changed marks.times)
       (λ e m. elim (marks.marked e m) [ inl was ↦ absurd (not_marked e was) | inr is ↦ is ]) marks.steps
-  few_read (ActDelay a d) size event many follows reads least marks kind on =
+  few_read (ActDelay a d) size reaches many follows reads least marks kind on =
       few_settled (ActDelay a d) follows reads (same_changed marks.times)
       (λ e m. elim (marks.marked e m) [ inl was ↦ absurd (not_marked e was) | inr is ↦ is ]) marks.steps
-  few_read (Passed i t) size event many follows reads least marks kind on =
-      let below = event i t refl in
+  few_read (Passed i t) size reaches many follows reads least marks kind on =
+      let below = reaches.0 in
+      let as_many = size.passed in
       few_passed i t below (omega arith) (omega arith) follows reads least (marks t (is_passed net rows i t below))
-  few_read (Recalled i) size event many follows reads least marks kind on = absurd kind
-  few_read (Flipped flip) size event many follows reads least marks kind on = absurd kind
-  few_read (Adopted flips) size event many follows reads least marks kind on = absurd kind
-  few_read (Clock t) size event many follows reads least marks kind on =
+  few_read (Recalled i) size reaches many follows reads least marks kind on = absurd kind
+  few_read (Flipped flip) size reaches many follows reads least marks kind on = absurd kind
+  few_read (Adopted flips) size reaches many follows reads least marks kind on = absurd kind
+  few_read (Cancelled i) size reaches many follows reads least marks kind on =
+      let below = reaches.0 in
+      let as_many = size.cancelled in
+      few_cancelled i below reaches.1 (omega arith) (omega arith) follows reads least (marks (is_out net rows i below))
+  few_read (Restored i) size reaches many follows reads least marks kind on = absurd kind
+  few_read (Locked spot) size reaches many follows reads least marks kind on = few_untouched (Locked spot) follows reads marks
+  few_read (Unlocked spot) size reaches many follows reads least marks kind on = few_untouched (Unlocked spot) follows reads marks
+  few_read (Clock t) size reaches many follows reads least marks kind on =
       few_settled (Clock t) follows reads (same_changed marks.times)
       (λ e m. elim (marks.marked e m) [ inl was ↦ absurd (not_marked e was) | inr off ↦ clock_touches t on e off.0 off.1 ]) marks.steps
 
-  pub few_read_for : (change : Change) (other : RowsValue) → other ≡ after_change rows change → length rows.passed ≡ length net.events →
-      ((i t : ℕ) → change ≡ Passed i t → i < length rows.passed) → length before.times ≡ length net.events → FollowsRows net other turned.given →
+  pub few_read_for : (change : Change) (other : RowsValue) → other ≡ after_change rows change → IsSized net rows → Reaches rows change →
+      length before.times ≡ length net.events → FollowsRows net other turned.given →
       LiveReadsFew (arcs_given net turned.given) turned after mid last → IsLeast net other after.times →
-      MarksFor net other change before turned first mid → IsDelayPassOrClock change → KeepsClock rows change →
+      MarksFor net other change before turned first mid → TellsTouched change → KeepsClock rows change →
       ReadsFew net other change before.times after.times first last
-  few_read_for change other is size event many follows reads least marks kind on =
+  few_read_for change other is size reaches many follows reads least marks kind on =
       subst (λ (o : RowsValue). ReadsFew net o change before.times after.times first last) (sym is)
-      (few_read change size event many (subst (λ (o : RowsValue). FollowsRows net o turned.given) is follows) reads
+      (few_read change size reaches many (subst (λ (o : RowsValue). FollowsRows net o turned.given) is follows) reads
       (subst (λ (o : RowsValue). IsLeast net o after.times) is least)
       (subst (λ (o : RowsValue). MarksFor net o change before turned first mid) is marks) kind on)
 

@@ -7,7 +7,7 @@ use Rattle.dm_live.proofs.Resting.{least_at_rest, live_has_no_cycle}
 use Rattle.dm_network.specs.Net.{Net, EndsAreKnown, activity_at}
 use Rattle.dm_network.specs.Held.{is_held}
 use Rattle.dm_rows.specs.Active.{HasNoCycle, has_passed}
-use Rattle.dm_rows.specs.Cost.{is_dropped_change}
+use Rattle.dm_rows.specs.Cost.{is_lost_change}
 use Rattle.dm_rows.specs.Rows.{RowsValue, IsSized}
 use Rattle.dm_rows.specs.Timetable.{IsLeast}
 use Rattle.dm_settle.specs.Constraints.{ConstraintsValue, IsSizedFor}
@@ -51,7 +51,7 @@ is_engine net rows priced schedule moved sized is rest follows flags scheduled n
         ∙ ap (λ (b : Bool). if b then false else is_held priced.live.given.held a) (flags.fixed (activity_at net a).tail)
         ∙ ap (λ (b : Bool). if has_passed rows (activity_at net a).tail then false else b) (follows.held a lt);
   };
-  price = record { passed = flags.passed; charged = flags.charged; spans = follows.spans };
+  price = record { passed = flags.passed; cancelled = flags.cancelled; charged = flags.charged; spans = follows.spans };
   schedule = scheduled;
   noted = noted;
 }
@@ -70,9 +70,9 @@ forgetting_engine net engine is = record {
   noted = length-replicate (length engine.moved.flags) false ∙ is.noted;
 }
 
-pub engine_flags : (net : Net) (rows : RowsValue) (priced : PricedValue) → OrdersUnpassed net rows priced.live → FollowsPrice net rows (is_dropped_change net rows) priced →
+pub engine_flags : (net : Net) (rows : RowsValue) (priced : PricedValue) → OrdersUnpassed net rows priced.live → FollowsPrice net rows (is_lost_change net rows) priced →
     AreFlagsOf net rows (flags_of priced)
-engine_flags net rows priced orders price = record { fixed = orders.fixed; passed = price.passed; charged = price.charged }
+engine_flags net rows priced orders price = record { fixed = orders.fixed; passed = price.passed; cancelled = price.cancelled; charged = price.charged }
 
 pub engine_least : (net : Net) (engine : EngineValue) → EndsAreKnown net → IsEngineOf net engine → IsLeast net engine.rows (times_of engine)
 engine_least net engine known is = follows_least net engine.rows engine.priced.live known is.priced.live is.at_rest is.follows

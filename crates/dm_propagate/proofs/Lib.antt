@@ -1,6 +1,7 @@
 pub mod Around
 pub mod AtClock
 pub mod Bringing
+pub mod Cancelling
 pub mod Concerning
 pub mod FewRows
 pub mod Flagging
@@ -8,6 +9,7 @@ pub mod Following
 pub mod HeldLemmas
 pub mod Noted
 pub mod Passing
+pub mod Placing
 pub mod Raising
 pub mod Reaching
 pub mod Turned

@@ -1,7 +1,9 @@
 -- Events that are noted while a change is made.
-use Rattle.std.proofs.Common.{◌≡◌, ℕ, Bool, List, get_or, refl, sym, ap, subst, ◌∙◌, inl, inr, get_or-set_other}
+use Rattle.std.proofs.Common.{◌≡◌, ℕ, Bool, false, List, get_or, refl, sym, ap, subst, ◌∙◌, inl, inr, get_or-set_other}
 use Rattle.std.specs.Prelude.{slice_set}
 use Rattle.std.proofs.lemmas.Bool.{cases_eq}
+use Rattle.dm_graph.specs.Arcs.{Arcs}
+use Rattle.dm_live.specs.Live.{LiveValue, IsFixed, MarksHeads}
 use Rattle.dm_propagate.specs.Moved.{TakesInMoved}
 use Rattle.dm_propagate.specs.Inside.Noting.{KeepsTimesBut, NotesEach}
 
@@ -32,4 +34,13 @@ pub takes_in_both : (noted between noted_now : List Bool) (before middle after :
 takes_in_both noted between noted_now before middle after first second = record {
   as_many = second.as_many ∙ first.as_many;
   others = λ i out. (let was = second.others i out in let earlier = first.others i was.0 in (earlier.0, was.1 ∙ earlier.1));
+}
+
+-- an event that is fixed at a time, and whose time may move from then on
+pub fixed_and_freed : (g : Arcs) (i t : ℕ) (before middle after : LiveValue) (first last : ℕ) → IsFixed g i t before middle first last →
+    after.times ≡ middle.times → after.marks ≡ middle.marks → IsFixed g i t before after first last
+fixed_and_freed g i t before middle after first last is times marks = record {
+  times = times ∙ is.times;
+  stays = λ same. (marks ∙ (is.stays same).0, (is.stays same).1);
+  moves = λ differs. (subst (MarksHeads g i (slice_set before.marks i false)) (sym marks) (is.moves differs).0, (is.moves differs).1);
 }

@@ -8,14 +8,16 @@ use Rattle.dm_graph.proofs.Transfers.{cycle_carries}
 use Rattle.dm_network.specs.Net.{Net, activity_at}
 use Rattle.dm_network.specs.Held.{is_held, arcs_of}
 use Rattle.dm_rows.specs.Active.{is_active, active_arcs}
-use Rattle.dm_rows.specs.Rows.{RowsValue, passed_at}
+use Rattle.dm_rows.specs.Rows.{RowsValue, passed_at, is_cancelled}
+use Rattle.dm_rows.specs.Timetable.{floor_of}
 use Rattle.dm_rows.specs.Touch.{IsActiveBetween}
 use Rattle.dm_rows.proofs.AsGraph.{head_is_free}
 use Rattle.dm_marks.specs.Marked.{is_marked}
 use Rattle.dm_live.specs.Live.{LiveValue, IsEnteredByNone}
 use Rattle.dm_propagate.specs.Inside.Concern.{LeadsAt}
 use Rattle.dm_propagate.specs.Inside.Turning.{Within, LetsGo, IsLetGoAt, HoldsMore, TakesUp, IsTakenUpAt, IsRefused}
-use Rattle.dm_propagate.specs.Inside.Changing.{HasPlace, HasPassed, Turns, IsTurnRefused}
+use Rattle.dm_propagate.specs.Inside.Changing.{HasPlace, HasPassed, IsTakenOut, Turns, IsTurnRefused}
+use Rattle.dm_propagate.proofs.Cancelling.{enters_no_cancelled, leaves_no_cancelled}
 
 -- what is let go from a timetable is so from one that is the same
 pub gone_from : (net : Net) (rows : RowsValue) (among : ℕ → Type 0) (first before after : LiveValue) → before ≡ first → LetsGo net rows among before after →
@@ -117,6 +119,14 @@ module _ (net : Net) (rows : RowsValue) (some : ℕ → Type 0) (before middle p
     on_ok_weaker r (λ taken. taken.held.numbers.times) ok,
   )
 
+-- a mark that is taken off
+unmarked : (i : ℕ) (marks : List Bool) → i < length marks → (e : ℕ) → is_marked (slice_set marks i false) e ≡ true → (e ≢ i) × (is_marked marks e ≡ true)
+unmarked i marks below e m =
+    elim (cases_eq e i) [
+      | inl is ↦ let off : is_marked (slice_set marks i false) e ≡ false = ap (is_marked (slice_set marks i false)) is ∙ get_or-set_same marks i false false below in absurd cc
+      | inr ne ↦ (ne, sym (get_or-set_other marks i e false false ne) ∙ m)
+    ]
+
 -- at an event that has passed
 module _ (net : Net) (rows : RowsValue) (i t : ℕ) (passed : passed_at rows i ≡ Some t) (before middle : LiveValue)
     (gone : LetsGo net rows (Within net (LeadsAt net i)) before middle) where
@@ -128,13 +138,6 @@ module _ (net : Net) (rows : RowsValue) (i t : ℕ) (passed : passed_at rows i �
   pub enters_none : IsEnteredByNone net middle.given.held i
   enters_none a lt holds head = another a (activity_at net a).head (gone.gone a (lt, inl head) holds) refl head
 
-  unmarked : (marks : List Bool) → i < length marks → (e : ℕ) → is_marked (slice_set marks i false) e ≡ true → (e ≢ i) × (is_marked marks e ≡ true)
-  unmarked marks below e m =
-      elim (cases_eq e i) [
-        | inl is ↦ let off : is_marked (slice_set marks i false) e ≡ false = ap (is_marked (slice_set marks i false)) is ∙ get_or-set_same marks i false false below in absurd cc
-        | inr ne ↦ (ne, sym (get_or-set_other marks i e false false ne) ∙ m)
-      ]
-
   module _ (placed after : LiveValue) (first last : ℕ) (below : i < length middle.marks) (place : HasPlace net rows i middle placed (first + 2) last)
       (taken : TakesUp net rows (Within net (LeadsAt net i)) placed after) where
     abbrev Cause : ℕ → Type 0
@@ -142,7 +145,7 @@ module _ (net : Net) (rows : RowsValue) (i t : ℕ) (passed : passed_at rows i �
 
     cleared : (e : ℕ) → is_marked (slice_set middle.marks i false) e ≡ true → Cause e
     cleared e m =
-        let was = unmarked middle.marks below e m in
+        let was = unmarked i middle.marks below e m in
         (was.0, elim (gone.marked e was.1) [ inl earlier ↦ inl (inl earlier) | inr at ↦ inr (inl at) ])
 
     at_place : (e : ℕ) → is_marked placed.marks e ≡ true → Cause e
@@ -186,4 +189,57 @@ module _ (net : Net) (rows : RowsValue) (i t : ℕ) (passed : passed_at rows i �
       ];
       stays = λ is. ((place.fixed t passed).stays (same_time ∙ is)).1;
       moves = λ ne. let steps = ((place.fixed t passed).moves (λ is. ne (sym same_time ∙ is))).1 in omega arith;
+    }
+
+-- at an event that is cancelled
+pub nothing_enters : (net : Net) (rows : RowsValue) (i : ℕ) (before middle : LiveValue) → LetsGo net rows (Within net (LeadsAt net i)) before middle →
+    is_cancelled rows i ≡ true → IsEnteredByNone net middle.given.held i
+nothing_enters net rows i before middle gone out a lt holds head = enters_no_cancelled net rows i out a (gone.gone a (lt, inl head) holds) head
+
+module _ (net : Net) (rows : RowsValue) (i : ℕ) (runs : passed_at rows i ≡ None) (out : is_cancelled rows i ≡ true) (before middle : LiveValue)
+    (gone : LetsGo net rows (Within net (LeadsAt net i)) before middle) where
+  module _ (placed after : LiveValue) (first last : ℕ) (below : i < length middle.marks) (place : HasPlace net rows i middle placed (first + 2) last)
+      (taken : TakesUp net rows (Within net (LeadsAt net i)) placed after) where
+    abbrev OutCause : ℕ → Type 0
+    OutCause e = (e ≢ i) × ((is_marked before.marks e ≡ true) ⊎ (IsLetGoAt net rows before e ⊎ IsTakenUpAt net rows before e))
+
+    out_cleared : (e : ℕ) → is_marked (slice_set middle.marks i false) e ≡ true → OutCause e
+    out_cleared e m =
+        let was = unmarked i middle.marks below e m in
+        (was.0, elim (gone.marked e was.1) [ inl earlier ↦ inl earlier | inr at ↦ inr (inl at) ])
+
+    at_out : (e : ℕ) → is_marked placed.marks e ≡ true → OutCause e
+    at_out e m =
+        elim (cases_eq (slice_index middle.times i) (floor_of net rows i)) [
+          | inl stays ↦ out_cleared e (ap (λ (ms : List Bool). is_marked ms e) (sym ((place.alone runs out).stays stays).0) ∙ m)
+          | inr moves ↦ elim (((place.alone runs out).moves moves).0.only e m) [
+            | inl earlier ↦ out_cleared e earlier
+            | inr leads ↦
+                let active : is_active net rows leads.arc ≡ true = gone.gone leads.arc (leads.binds.is_arc, inr leads.leaves) leads.binds.is_held in
+                absurd (leaves_no_cancelled net rows i out leads.arc active leads.leaves)
+          ]
+        ]
+
+    was_free : (a : ℕ) → is_active net rows a ≡ true → is_held placed.given.held a ≡ false → is_held before.given.held a ≡ false
+    was_free a active free =
+        elim (cases_Bool (is_held before.given.held a)) [
+          | inl on ↦ let still = ap (λ (flags : List Bool). is_held flags a) place.held ∙ gone.kept a on active in absurd cc
+          | inr off ↦ off
+        ]
+
+    time_stays : slice_index middle.times i ≡ slice_index before.times i
+    time_stays = ap (λ (ts : List ℕ). slice_index ts i) gone.numbers.times
+
+    pub taken_out : IsTakenOut net rows i before after first last
+    taken_out = record {
+      times = taken.held.numbers.times ∙ (place.alone runs out).times ∙ ap (λ (ts : List ℕ). slice_set ts i (floor_of net rows i)) gone.numbers.times;
+      marked = λ e m. elim (taken.held.marked e m) [
+        | inl earlier ↦ at_out e earlier
+        | inr at ↦ (
+          (λ is. enters_no_cancelled net rows i out at.a at.active (at.head ∙ is)),
+          inr (inr (record { a = at.a; is_activity = at.is_activity; not_held = was_free at.a at.active at.not_held; active = at.active; head = at.head })),
+        )
+      ];
+      stays = λ is. ((place.alone runs out).stays (time_stays ∙ is)).1;
+      moves = λ ne. let steps = ((place.alone runs out).moves (λ is. ne (sym time_stays ∙ is))).1 in omega arith;
     }

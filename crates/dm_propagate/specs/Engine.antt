@@ -5,7 +5,7 @@ use Rattle.dm_network.specs.Net.{Net}
 use Rattle.dm_network.specs.Held.{is_held}
 use Rattle.dm_rows.specs.Active.{has_passed, is_active}
 use Rattle.dm_order.specs.Orders.{is_ordered}
-use Rattle.dm_rows.specs.Cost.{is_dropped_change}
+use Rattle.dm_rows.specs.Cost.{is_lost_change}
 use Rattle.dm_rows.specs.Rows.{RowsValue, IsSized}
 use Rattle.dm_rows.specs.Timetable.{floor_of, span_of}
 use Rattle.dm_priced.specs.Priced.{PricedValue, IsPriced, FollowsPrice}
@@ -50,6 +50,6 @@ pub record IsEngineOf (net : Net) (engine : EngineValue) : Type 0 where
   pub at_rest : IsAtRest engine.priced.live
   pub follows : FollowsRows net engine.rows engine.priced.live.given
   pub orders : OrdersUnpassed net engine.rows engine.priced.live
-  pub price : FollowsPrice net engine.rows (is_dropped_change net engine.rows) engine.priced
+  pub price : FollowsPrice net engine.rows (is_lost_change net engine.rows) engine.priced
   pub schedule : IsScheduleOf net engine.schedule
   pub noted : length engine.moved.flags ≡ length net.events

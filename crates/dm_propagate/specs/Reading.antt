@@ -3,7 +3,7 @@ use Rattle.std.specs.Prelude.{ℕ, nat_eq, ◌+◌, ◌≤◌, List, length}
 use Rattle.std.specs.List.{Contains, IsDistinct}
 use Rattle.dm_network.specs.Net.{Net}
 use Rattle.dm_rows.specs.declared.messages.Change.{Change}
-use Rattle.dm_rows.specs.declared.messages.Change.TheVariants.{EventDelay, ActDelay, Passed, Recalled, Flipped, Adopted, Clock}
+use Rattle.dm_rows.specs.declared.messages.Change.TheVariants.{EventDelay, ActDelay, Passed, Recalled, Flipped, Adopted, Clock, Cancelled, Restored, Locked, Unlocked}
 use Rattle.dm_rows.specs.Rows.{RowsValue}
 use Rattle.dm_rows.specs.Touch.{MayMove, IsChanged}
 
@@ -14,6 +14,10 @@ KeepsClock rows (EventDelay i d) = Unit {0}
 KeepsClock rows (ActDelay a d) = Unit {0}
 KeepsClock rows (Passed i t) = Unit {0}
 KeepsClock rows (Recalled i) = Unit {0}
+KeepsClock rows (Cancelled i) = Unit {0}
+KeepsClock rows (Restored i) = Unit {0}
+KeepsClock rows (Locked spot) = Unit {0}
+KeepsClock rows (Unlocked spot) = Unit {0}
 KeepsClock rows (Flipped flip) = Unit {0}
 KeepsClock rows (Adopted flips) = Unit {0}
 

@@ -1,6 +1,6 @@
 //! A change of the rows, made to the timetable that is held to them.
-ghost use Rattle.std.specs.Prelude.{ℕ, ◌≡◌, ◌<◌, Some, length, slice_set, All, OnOk, OnErr};
-ghost use Rattle.dm_rows.specs.Rows.{passed_at};
+ghost use Rattle.std.specs.Prelude.{ℕ, ◌≡◌, ◌<◌, true, Some, None, length, slice_set, All, OnOk, OnErr};
+ghost use Rattle.dm_rows.specs.Rows.{passed_at, is_cancelled};
 ghost use Rattle.dm_rows.specs.Active.{has_passed, IsCycle};
 ghost use Rattle.dm_rows.specs.Reach.{Reaches, ReachesFlip};
 ghost use Rattle.dm_rows.specs.Timetable.{floor_of};
@@ -9,7 +9,7 @@ ghost use Rattle.dm_propagate.specs.Engine.{FollowsRows};
 ghost use Rattle.dm_propagate.specs.Inside.Concern.{FollowsBut, LeadsAt, IsDecidedBefore};
 ghost use Rattle.dm_propagate.specs.Inside.Flags.{flags_of, AreFlagsOf, AreFlagsBut, FixesNoOther, FixesNoOtherBut, MovesPass, SetsFlagsAt, SetsFlagsBy};
 ghost use Rattle.dm_schedule.specs.Schedule.{IsScheduleOf};
-ghost use Rattle.dm_propagate.specs.Inside.Changing.{FollowsAt, Turns, IsTurnRefused, HasPassed, MarksFor};
+ghost use Rattle.dm_propagate.specs.Inside.Changing.{FollowsAt, Turns, IsTurnRefused, HasPassed, IsTakenOut, MarksFor};
 ghost use Rattle.dm_propagate.specs.Inside.Noting.{KeepsTimesBut};
 
 use crate::charging::{charge_by_flips, set_flags_at};
@@ -23,9 +23,9 @@ use dm_rows::{Change, Flip, floor_of, span_of};
 use dm_schedule::Scheduled;
 use std::sync::ledger::Ledger;
 
-/// Brings a timetable to follow rows at an event that has passed or that is recalled. An activity that would make a cycle
-/// is refused.
-#[tactic(auto, using(crate::proofs::Turned::enters_none))]
+/// Brings a timetable to follow rows at an event that has passed, is recalled, cancelled or restored. An activity that would make
+/// a cycle is refused.
+#[tactic(auto, using(crate::proofs::Turned::enters_none, crate::proofs::Turned::nothing_enters))]
 fn turn_event<L: Ledger>(
     priced: &mut PricedTimetable,
     day: &Day<'_>,
@@ -46,10 +46,12 @@ fn turn_event<L: Ledger>(
     ensures times { OnOk result (KeepsTimesBut (λ e. e ≡ event) priced.old.live.times priced.new.live.times) }
     ensures passed { OnOk result ((t : ℕ) → passed_at day.now.rows.now event ≡ Some t
         → HasPassed day.now.net.now day.now.rows.now event t priced.old.live priced.new.live steps.old steps.new) }
+    ensures cancelled { OnOk result (passed_at day.now.rows.now event ≡ None → is_cancelled day.now.rows.now event ≡ true
+        → IsTakenOut day.now.net.now day.now.rows.now event priced.old.live priced.new.live steps.old steps.new) }
 {
     let into = day.net.in_row(event, steps);
     let out = day.net.out_row(event, steps);
-    set_flags_at(priced, day, event, into);
+    set_flags_at(priced, day, event, into, out);
     let_go_around(priced, day, event, into, out);
     set_place(priced, day, event, into, out, steps);
     take_up_around(priced, day, event, into, out)
@@ -141,6 +143,10 @@ pub fn turn<L: Ledger>(
         }
         Change::Passed { event, .. } => turn_event(priced, day, *event, steps),
         Change::Recalled { event } => turn_event(priced, day, *event, steps),
+        Change::Cancelled { event } => turn_event(priced, day, *event, steps),
+        Change::Restored { event } => turn_event(priced, day, *event, steps),
+        Change::Locked(_) => Ok(()),
+        Change::Unlocked(_) => Ok(()),
         Change::Flipped(flip) => turn_by_flips(priced, day, &[*flip], steps),
         Change::Adopted(flips) => turn_adopted(priced, day, flips.as_slice(), steps),
         Change::Clock { .. } => {

@@ -7,11 +7,11 @@ ghost use Rattle.dm_rows.specs.Reach.{Reaches, ReachesFlip};
 ghost use Rattle.dm_rows.specs.Resolve.{after_change, after_flip};
 ghost use Rattle.dm_rows.specs.Cost.{cost_of};
 ghost use Rattle.dm_rows.specs.Timetable.{IsLeast};
-ghost use Rattle.dm_rows.specs.Touch.{IsDelayPassOrClock};
+ghost use Rattle.dm_rows.specs.Touch.{TellsTouched};
 ghost use Rattle.dm_times.specs.Faults.{RefusesTimes};
 ghost use Rattle.dm_network.specs.Net.{Net};
 ghost use Rattle.dm_propagate.specs.Engine.{IsEngineOf, times_of, cycle_of};
-ghost use Rattle.dm_propagate.specs.Moved.{TakesInMoved};
+ghost use Rattle.dm_propagate.specs.Moved.{TakesInMoved, TakesInCancelled};
 ghost use Rattle.dm_propagate.specs.Inside.Altering.{change_in};
 ghost use Rattle.dm_propagate.specs.Reading.{KeepsClock, ReadsFew};
 
@@ -103,9 +103,9 @@ impl Engine {
     }
 
     /// Makes a change, and computes the times that it moves. [`Cyclic`] comes exactly where the changed rows have a cycle:
-    /// then the engine is as before, and [`Engine::last_cycle`] is such a cycle. For a delay, a pass or a clock that is not
-    /// taken back, it reads the rows of the events that this can move, and not of the others. It takes no memory.
-    /// Each event whose time is not what it was before is [`Engine::moved`] from then on.
+    /// then the engine is as before, and [`Engine::last_cycle`] is such a cycle. For a delay, a pass, a cancelled event, a lock or
+    /// a clock that is not taken back, it reads the rows of the events that this can move, and not of the others. It takes no memory.
+    /// Each event whose time is not what it was before, or that is cancelled or runs from then on, is [`Engine::moved`].
     pub fn update<L: Ledger>(
         &mut self,
         net: &Network,
@@ -121,7 +121,8 @@ impl Engine {
         ensures unchanged { OnErr result ((self.new.rows ≡ self.old.rows) × (times_of self.new ≡ times_of self.old)) }
         ensures cycle { OnErr result (IsCycle net.now (after_change self.old.rows change.now) (cycle_of self.new)) }
         ensures moved { TakesInMoved self.old.moved.flags self.new.moved.flags (times_of self.old) (times_of self.new) }
-        ensures few_reads { IsDelayPassOrClock change.now → KeepsClock self.old.rows change.now
+        ensures cancelled { TakesInCancelled self.new.moved.flags self.old.rows self.new.rows }
+        ensures few_reads { TellsTouched change.now → KeepsClock self.old.rows change.now
             → ReadsFew net.now (after_change self.old.rows change.now) change.now (times_of self.old) (times_of self.new) steps.old
             steps.new }
     {
@@ -144,6 +145,7 @@ impl Engine {
         ensures unchanged { OnErr result ((self.new.rows ≡ self.old.rows) × (times_of self.new ≡ times_of self.old)) }
         ensures cycle { OnErr result (IsCycle net.now (fold after_flip self.old.rows flips.now) (cycle_of self.new)) }
         ensures moved { TakesInMoved self.old.moved.flags self.new.moved.flags (times_of self.old) (times_of self.new) }
+        ensures cancelled { TakesInCancelled self.new.moved.flags self.old.rows self.new.rows }
     {
         self.alter(net, &Alteration::Adoption(flips), steps)
     }
@@ -202,7 +204,8 @@ impl Engine {
         ensures unchanged { OnErr result ((self.new.rows ≡ self.old.rows) × (times_of self.new ≡ times_of self.old)) }
         ensures cycle { OnErr result (IsCycle net.now (after_change self.old.rows (change_in what.now)) (cycle_of self.new)) }
         ensures moved { TakesInMoved self.old.moved.flags self.new.moved.flags (times_of self.old) (times_of self.new) }
-        ensures few_reads { IsDelayPassOrClock (change_in what.now) → KeepsClock self.old.rows (change_in what.now)
+        ensures cancelled { TakesInCancelled self.new.moved.flags self.old.rows self.new.rows }
+        ensures few_reads { TellsTouched (change_in what.now) → KeepsClock self.old.rows (change_in what.now)
             → ReadsFew net.now (after_change self.old.rows (change_in what.now)) (change_in what.now)
             (times_of self.old) (times_of self.new) steps.old steps.new }
     {
@@ -291,7 +294,8 @@ impl Engine {
         self.priced.cost(penalty)
     }
 
-    /// The events whose times are not what they were when this was last emptied, and maybe others.
+    /// The events whose times are not what they were when this was last emptied, those that were cancelled or restored since
+    /// then, and maybe others.
     pub fn moved(&self) -> &PlaceSet
         ensures { result.now ≡ self.now.moved }
     {

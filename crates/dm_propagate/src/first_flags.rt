@@ -3,15 +3,16 @@ ghost use Rattle.std.specs.Prelude.{◌≡◌, ◌+◌, ◌<◌, length};
 ghost use Rattle.dm_live.specs.Live.{IsLive, NoneFixed};
 ghost use Rattle.dm_priced.specs.Priced.{IsPriced};
 ghost use Rattle.dm_rows.specs.Active.{has_passed};
-ghost use Rattle.dm_rows.specs.Cost.{is_dropped_change};
+ghost use Rattle.dm_rows.specs.Rows.{is_cancelled};
+ghost use Rattle.dm_rows.specs.Cost.{is_lost_change};
 ghost use Rattle.dm_propagate.specs.Engine.{FollowsRows};
 ghost use Rattle.dm_propagate.specs.Inside.Beginning.{AreFlaggedBefore, IsFixedBefore, NoneFlagged};
 
-use crate::charging::is_dropped_change;
 use crate::day::Day;
 use dm_base::Steps;
 use dm_live::LiveTimetable;
 use dm_priced::PricedTimetable;
+use dm_rows::is_lost_change;
 use std::sync::ledger::Ledger;
 
 /// Fixes the events that have passed, in a timetable that is held to the rows.
@@ -47,6 +48,7 @@ pub fn pass_passed<L: Ledger>(priced: &mut PricedTimetable, day: &Day<'_>, steps
     requires none { NoneFlagged priced.old.passed }
     ensures priced { IsPriced day.now.net.now priced.new }
     ensures live { priced.new.live ≡ priced.old.live }
+    ensures cancelled { priced.new.cancelled ≡ priced.old.cancelled }
     ensures charged { priced.new.charged ≡ priced.old.charged }
     ensures passed { AreFlaggedBefore (has_passed day.now.rows.now) (length day.now.net.now.events) priced.new.passed }
 {
@@ -58,19 +60,43 @@ pub fn pass_passed<L: Ledger>(priced: &mut PricedTimetable, day: &Day<'_>, steps
     }
 }
 
-/// Charges for the dropped changes whose heads have not passed.
+/// Takes the events as cancelled that are.
 #[tactic(auto, using(crate::proofs::Beginning::none_flagged, crate::proofs::Beginning::flagged_one, crate::proofs::Beginning::flagged_not))]
-pub fn charge_dropped(priced: &mut PricedTimetable, day: &Day<'_>)
+pub fn cancel_cancelled<L: Ledger>(
+    priced: &mut PricedTimetable,
+    day: &Day<'_>,
+    steps: &mut Steps<L>,
+)
+    requires priced { IsPriced day.now.net.now priced.old }
+    requires none { NoneFlagged priced.old.cancelled }
+    ensures priced { IsPriced day.now.net.now priced.new }
+    ensures live { priced.new.live ≡ priced.old.live }
+    ensures passed { priced.new.passed ≡ priced.old.passed }
+    ensures charged { priced.new.charged ≡ priced.old.charged }
+    ensures cancelled { AreFlaggedBefore (is_cancelled day.now.rows.now) (length day.now.net.now.events) priced.new.cancelled }
+{
+    for i in 0..day.net.events() {
+        if day.rows.cancelled(i) {
+            let out = day.net.out_row(i, steps);
+            priced.cancel(day.net, i, true, out);
+        }
+    }
+}
+
+/// Charges for the changes whose heads have not passed and that are dropped or have a cancelled end.
+#[tactic(auto, using(crate::proofs::Beginning::none_flagged, crate::proofs::Beginning::flagged_one, crate::proofs::Beginning::flagged_not))]
+pub fn charge_lost(priced: &mut PricedTimetable, day: &Day<'_>)
     requires priced { IsPriced day.now.net.now priced.old }
     requires none { NoneFlagged priced.old.charged }
     ensures priced { IsPriced day.now.net.now priced.new }
     ensures live { priced.new.live ≡ priced.old.live }
     ensures passed { priced.new.passed ≡ priced.old.passed }
-    ensures charged { AreFlaggedBefore (is_dropped_change day.now.net.now day.now.rows.now) (length day.now.net.now.activities)
+    ensures cancelled { priced.new.cancelled ≡ priced.old.cancelled }
+    ensures charged { AreFlaggedBefore (is_lost_change day.now.net.now day.now.rows.now) (length day.now.net.now.activities)
         priced.new.charged }
 {
     for a in 0..day.net.activities() {
-        if is_dropped_change(day, a) {
+        if is_lost_change(day.net, day.rows, a) {
             priced.charge(day.net, a, true);
         }
     }

@@ -8,10 +8,10 @@ ghost use Rattle.dm_rows.specs.Active.{IsCycle, HasNoCycle};
 ghost use Rattle.dm_rows.specs.Reach.{Reaches};
 ghost use Rattle.dm_rows.specs.Resolve.{after_change};
 ghost use Rattle.dm_rows.specs.Timetable.{IsLeast};
-ghost use Rattle.dm_rows.specs.Touch.{IsDelayPassOrClock};
+ghost use Rattle.dm_rows.specs.Touch.{TellsTouched};
 ghost use Rattle.dm_propagate.specs.Engine.{FollowsRows};
 ghost use Rattle.dm_schedule.specs.Schedule.{IsScheduleOf};
-ghost use Rattle.dm_propagate.specs.Moved.{TakesInMoved};
+ghost use Rattle.dm_propagate.specs.Moved.{TakesInMoved, TakesInCancelled};
 ghost use Rattle.dm_propagate.specs.Reading.{KeepsClock, ReadsFew};
 ghost use Rattle.dm_propagate.specs.Inside.Concern.{FollowsBut};
 ghost use Rattle.dm_propagate.specs.Inside.Altering.{change_in};
@@ -81,9 +81,10 @@ pub fn move_to<L: Ledger>(
     ensures flags_back { OnErr result (AreFlagsOf day.now.net.now day.now.rows.now (flags_of priced.new)) }
     ensures times { OnErr result (priced.new.live.times ≡ priced.old.live.times) }
     ensures cycle { OnErr result (IsCycle day.now.net.now other.now priced.new.live.order.cycle) }
-    ensures few_reads { IsDelayPassOrClock (change_in what.now) → KeepsClock day.now.rows.now (change_in what.now)
+    ensures few_reads { TellsTouched (change_in what.now) → KeepsClock day.now.rows.now (change_in what.now)
         → ReadsFew day.now.net.now other.now (change_in what.now) priced.old.live.times priced.new.live.times steps.old steps.new }
     ensures moved { TakesInMoved moved.old.flags moved.new.flags priced.old.live.times priced.new.live.times }
+    ensures cancelled { OnOk result (TakesInCancelled moved.new.flags day.now.rows.now other.now) }
 {
     day.net.reveal();
     let next = Day {

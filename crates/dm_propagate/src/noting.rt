@@ -77,11 +77,15 @@ fn note_event(moved: &mut PlaceSet, change: &Change)
     match change {
         Change::Passed { event, .. } => moved.insert(*event),
         Change::Recalled { event } => moved.insert(*event),
+        Change::Cancelled { event } => moved.insert(*event),
+        Change::Restored { event } => moved.insert(*event),
         Change::EventDelay { .. } => {}
         Change::ActDelay { .. } => {}
         Change::Flipped(_) => {}
         Change::Adopted(_) => {}
         Change::Clock { .. } => {}
+        Change::Locked(_) => {}
+        Change::Unlocked(_) => {}
     }
 }
 

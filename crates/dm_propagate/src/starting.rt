@@ -10,7 +10,7 @@ ghost use Rattle.dm_propagate.specs.Inside.Beginning.{IsAtRestFor, IsSettledFor,
 ghost use Rattle.dm_propagate.specs.Inside.Flags.{flags_of, AreFlagsOf, FixesPassed};
 
 use crate::day::Day;
-use crate::first_flags::{charge_dropped, fix_passed, pass_passed};
+use crate::first_flags::{cancel_cancelled, charge_lost, fix_passed, pass_passed};
 use dm_base::Steps;
 use dm_live::LiveTimetable;
 use dm_network::Network;
@@ -96,6 +96,7 @@ fn flag<L: Ledger>(priced: &mut PricedTimetable, day: &Day<'_>, blank: Blank)
     requires priced { IsPriced day.now.net.now priced.old }
     requires fixed { FixesPassed day.now.rows.now priced.old.live.fixed }
     requires none_passed { NoneFlagged priced.old.passed }
+    requires none_cancelled { NoneFlagged priced.old.cancelled }
     requires none_charged { NoneFlagged priced.old.charged }
     requires name { blank.name ≡ L.name }
     requires parts { blank.parts ≡ L.parts }
@@ -106,7 +107,8 @@ fn flag<L: Ledger>(priced: &mut PricedTimetable, day: &Day<'_>, blank: Blank)
 {
     let mut steps = Steps::<L>::new(blank);
     pass_passed(priced, day, &mut steps);
-    charge_dropped(priced, day);
+    cancel_cancelled(priced, day, &mut steps);
+    charge_lost(priced, day);
 }
 
 fn cycle_of(alloc: Global, net: &Network, rows: &Rows) -> NoTimes

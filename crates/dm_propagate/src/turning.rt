@@ -1,7 +1,7 @@
 //! A timetable that is brought to follow rows at what a change concerns.
-ghost use Rattle.std.specs.Prelude.{ℕ, ◌≡◌, ◌<◌, Some, true, false, length, slice_set, All, OnOk, OnErr};
+ghost use Rattle.std.specs.Prelude.{ℕ, ◌≡◌, ◌<◌, Some, None, true, false, length, slice_set, All, OnOk, OnErr};
 ghost use Rattle.dm_network.specs.Net.{pair_at, places_into, places_out_of};
-ghost use Rattle.dm_rows.specs.Rows.{passed_at};
+ghost use Rattle.dm_rows.specs.Rows.{passed_at, is_cancelled};
 ghost use Rattle.dm_rows.specs.Active.{has_passed};
 ghost use Rattle.dm_rows.specs.Reach.{ReachesFlip};
 ghost use Rattle.dm_rows.specs.Timetable.{floor_of};
@@ -74,8 +74,8 @@ pub fn take_up_around(
 }
 
 /// Gives an event its floor by the rows. Where it has passed it is fixed at this time: nothing that is held enters it then, and
-/// what is held out of it leaves the order. Where it has not, this comes back. The rows are those of the activities into it and
-/// out of it.
+/// what is held out of it leaves the order. Where it has not, this comes back. A cancelled event, which nothing that is held enters
+/// or leaves, has its floor as its time at once. The rows are those of the activities into it and out of it.
 #[tactic(auto, using(crate::proofs::Noted::keeps_but_one, crate::proofs::Noted::keeps_all))]
 pub fn set_place<L: Ledger>(
     priced: &mut PricedTimetable,
@@ -91,6 +91,7 @@ pub fn set_place<L: Ledger>(
     requires out { out.now ≡ places_out_of day.now.net.now event }
     requires entered { (t : ℕ) → passed_at day.now.rows.now event ≡ Some t → IsEnteredByNone day.now.net.now priced.old.live.given.held
         event }
+    requires alone { is_cancelled day.now.rows.now event ≡ true → IsEnteredByNone day.now.net.now priced.old.live.given.held event }
     ensures priced { IsPriced day.now.net.now priced.new }
     ensures flags { flags_of priced.new ≡ record (flags_of priced.old)
         { fixed = slice_set priced.old.live.fixed event (has_passed day.now.rows.now event) } }
@@ -98,8 +99,59 @@ pub fn set_place<L: Ledger>(
 {
     match day.rows.passed(event) {
         Some(time) => priced.fix(day.net, event, time, into, out, steps),
-        None => open_place(priced, day, event, out),
+        None => set_ahead(priced, day, event, into, out, steps),
     }
+}
+
+/// The same of an event that has not passed.
+#[tactic(auto, using(crate::proofs::Placing::placed_open, crate::proofs::Placing::flags_open))]
+fn set_ahead<L: Ledger>(
+    priced: &mut PricedTimetable,
+    day: &Day<'_>,
+    event: usize,
+    into: &[usize],
+    out: &[usize],
+    steps: &mut Steps<L>,
+)
+    requires priced { IsPriced day.now.net.now priced.old }
+    requires is_event { event < length day.now.net.now.events }
+    requires into { into.now ≡ places_into day.now.net.now event }
+    requires out { out.now ≡ places_out_of day.now.net.now event }
+    requires ahead { passed_at day.now.rows.now event ≡ None }
+    requires alone { is_cancelled day.now.rows.now event ≡ true → IsEnteredByNone day.now.net.now priced.old.live.given.held event }
+    ensures priced { IsPriced day.now.net.now priced.new }
+    ensures flags { flags_of priced.new ≡ record (flags_of priced.old) { fixed = slice_set priced.old.live.fixed event false } }
+    ensures place { HasPlace day.now.net.now day.now.rows.now event priced.old.live priced.new.live steps.old steps.new }
+{
+    if day.rows.cancelled(event) {
+        set_alone(priced, day, event, into, out, steps);
+    } else {
+        open_place(priced, day, event, out);
+    }
+}
+
+/// The same of a cancelled event, into which nothing leads that is held.
+fn set_alone<L: Ledger>(
+    priced: &mut PricedTimetable,
+    day: &Day<'_>,
+    event: usize,
+    into: &[usize],
+    out: &[usize],
+    steps: &mut Steps<L>,
+)
+    requires priced { IsPriced day.now.net.now priced.old }
+    requires is_event { event < length day.now.net.now.events }
+    requires into { into.now ≡ places_into day.now.net.now event }
+    requires out { out.now ≡ places_out_of day.now.net.now event }
+    requires ahead { passed_at day.now.rows.now event ≡ None }
+    requires alone { IsEnteredByNone day.now.net.now priced.old.live.given.held event }
+    ensures priced { IsPriced day.now.net.now priced.new }
+    ensures flags { flags_of priced.new ≡ record (flags_of priced.old) { fixed = slice_set priced.old.live.fixed event false } }
+    ensures place { HasPlace day.now.net.now day.now.rows.now event priced.old.live priced.new.live steps.old steps.new }
+{
+    let floor = floor_of(day.net, day.rows, event);
+    priced.fix(day.net, event, floor, into, out, steps);
+    priced.free(day.net, event, out);
 }
 
 /// Gives an event that has not passed its floor by the rows, and lets its time move.
@@ -113,6 +165,7 @@ fn open_place(priced: &mut PricedTimetable, day: &Day<'_>, event: usize, out: &[
     ensures cycle_stays { priced.new.live.order.cycle ≡ priced.old.live.order.cycle }
     ensures flag { priced.new.live.fixed ≡ slice_set priced.old.live.fixed event false }
     ensures passed { priced.new.passed ≡ priced.old.passed }
+    ensures cancelled { priced.new.cancelled ≡ priced.old.cancelled }
     ensures charged { priced.new.charged ≡ priced.old.charged }
 {
     priced.free(day.net, event, out);

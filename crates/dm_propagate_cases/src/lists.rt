@@ -8,7 +8,7 @@ use dm_samples::{Failure, Sample};
 use std::alloc::{AllocError, Global};
 
 /// How many messages there are to choose from.
-const MESSAGES: u32 = 8;
+const MESSAGES: u32 = 11;
 
 fn message(alloc: Global, number: u32) -> Result<Message, AllocError> {
     Ok(match number {
@@ -19,6 +19,9 @@ fn message(alloc: Global, number: u32) -> Result<Message, AllocError> {
         4 => Message::Keep(ActId(5)),
         5 => Message::First(EventId(5), EventId(3)),
         6 => Message::Adopt(Items::from_vec(decisions(alloc)?)),
+        7 => Message::Cancel(EventId(2)),
+        8 => Message::Restore(EventId(2)),
+        9 => Message::Cancel(EventId(5)),
         _ => Message::Now(260),
     })
 }

@@ -1,12 +1,14 @@
 //! An engine that hears messages.
 ghost use Rattle.std.specs.Prelude.{◌≡◌, length};
 ghost use Rattle.dm_propagate.specs.Engine.{IsEngineOf};
+ghost use Rattle.dm_rows.specs.Rows.{IsSized};
 
+use dm_base::{Cost, Secs};
 use dm_graph::search::Cyclic;
 use dm_marks::PlaceSet;
 use dm_network::Network;
 use dm_propagate::Engine;
-use dm_rows::{Message, Refusal, admit};
+use dm_rows::{Message, Refusal, Rows, admit};
 use dm_samples::{Failure, rows_on_time, update};
 use dm_settle::{NoTimes, Times};
 use dm_times::{cost, least};
@@ -28,12 +30,14 @@ pub enum Heard {
     Refused,
 }
 
-/// An engine with its network, and a copy of its times that is brought up to date where they are noted to have moved.
+/// An engine with its network, and a copy of its times and of the marks of cancelled events that is brought up to date where they
+/// are noted to have changed.
 #[derive(Drop)]
 pub struct Trial<'n> {
     net: &'n Network,
     engine: Engine,
     shown: Times,
+    marks: Vec<bool>,
 }
 
 impl<'n> Model for Trial<'n> {
@@ -56,7 +60,13 @@ impl<'n> Trial<'n> {
         };
         let mut shown = Times::room(alloc, net)?;
         copy_times(net, &engine, &mut shown);
-        Ok(Trial { net, engine, shown })
+        let marks = vec![in alloc; false; net.events()]?;
+        Ok(Trial {
+            net,
+            engine,
+            shown,
+            marks,
+        })
     }
 
     /// Makes the change of a message that nothing refuses at once.
@@ -76,8 +86,20 @@ impl<'n> Trial<'n> {
     pub fn agrees(&mut self, alloc: Global) -> Result<bool, Failure> {
         let right = self.is_right(alloc)?;
         bring(&mut self.shown, self.engine.times(), self.engine.moved());
+        mark(
+            self.net,
+            &mut self.marks,
+            self.engine.rows(),
+            self.engine.moved(),
+        );
         self.engine.forget_moved();
-        Ok(right && self.shown.as_slice() == self.engine.times().as_slice())
+        let marked = are_marked(self.net, &self.marks, self.engine.rows());
+        Ok(right && marked && self.shown.as_slice() == self.engine.times().as_slice())
+    }
+
+    /// Whether these are its times, and this is what they cost.
+    pub fn is_at(&self, times: &[Secs], cost: Cost) -> bool {
+        self.engine.times().as_slice() == times && self.engine.cost(self.net, PENALTY) == cost
     }
 
     /// Whether times and cost are those of the rows.
@@ -129,4 +151,29 @@ fn bring(shown: &mut Times, times: &Times, moved: &PlaceSet)
     for place in moved.places() {
         shown.set(*place, times.time(*place));
     }
+}
+
+/// Takes the marks of the events at the places that are in.
+fn mark(net: &Network, marks: &mut [bool], rows: &Rows, moved: &PlaceSet)
+    requires sized { IsSized net.now rows.now }
+    requires places { length moved.now.flags ≡ length net.now.events }
+{
+    moved.reveal();
+    for place in moved.places() {
+        if let Some(mark) = marks.get_mut(*place) {
+            *mark = rows.cancelled(*place);
+        }
+    }
+}
+
+/// Whether the cancelled events are marked, and no others.
+fn are_marked(net: &Network, marks: &[bool], rows: &Rows) -> bool
+    requires { IsSized net.now rows.now }
+{
+    for place in 0..net.events() {
+        if marks.get(place).copied() != Some(rows.cancelled(place)) {
+            return false;
+        }
+    }
+    true
 }

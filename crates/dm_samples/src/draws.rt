@@ -71,17 +71,26 @@ impl Draws {
         }
     }
 
+    /// An event of the second train. Its events alone are cancelled, so that many of them run again.
+    fn event_of_second_train(&mut self) -> EventId {
+        EventId(self.below(20).saturating_add(21))
+    }
+
     /// A message that may come at a turn, each turn half a minute after the one before.
     pub fn message(&mut self, alloc: Global, turn: u32) -> Result<Message, AllocError> {
         let time = Secs::from(turn.saturating_mul(30)).saturating_add(21_600);
         let delay = Secs::from(self.below(900));
-        Ok(match self.below(12) {
+        Ok(match self.below(16) {
             0 | 1 => Message::DelayEvent(self.event(), delay),
             2 | 3 => Message::DelayActivity(self.activity(), delay),
             4 | 5 => Message::Pass(self.event(), time.saturating_add(delay)),
             6 => Message::Recall(self.event()),
             7 => Message::Adopt(Items::from_vec(self.decisions(alloc)?)),
             8 => Message::Now(time),
+            9 => Message::Cancel(self.event_of_second_train()),
+            10 => Message::Restore(self.event_of_second_train()),
+            11 => Message::Lock(self.decision().choice()),
+            12 => Message::Unlock(self.decision().choice()),
             _ => message_of(self.decision()),
         })
     }

@@ -4,15 +4,17 @@
 //!
 //! `dm_speed [COUNT [KIND]]` makes COUNT changes of a kind, or of each kind in turn. Then it makes two more that stay, and prints
 //! what the day costs then. The kind `decision` moves an evaluator in place of an engine. The kind `apart` passes and recalls an
-//! event of a pair that has 20,000 other events between its two events. The time is taken from outside. At the end the times are
-//! compared with those from scratch.
+//! event of a pair that has 20,000 other events between its two events. The kind `cancel` cancels and restores all twenty events of
+//! a train in the middle of the day, which is ten minutes late from its start. The time is taken from outside. At the end the times
+//! are compared with those from scratch.
 //!
 //! The costs in `stdout` are worked out by hand, from what the generator makes. The last train starts 600 seconds late. Each leg
 //! has 30 seconds to spare under way and 30 at the stop behind it. So the train arrives 570, 510, .. 30 seconds late: 3,000
 //! seconds over ten legs, with ten passengers each time, which is 30,000 passenger seconds. Five passengers miss the dropped
 //! change, at 3,600 seconds each: 18,000 passenger seconds, which is all that the decisions leave. In thousandths that is
 //! 48,000,000 and 18,000,000. The event of the pair that passes last is 110 seconds late. The ten seconds to spare behind it
-//! leave 100, for one passenger: 100,000.
+//! leave 100, for one passenger: 100,000. After the cancels the train is on time again and runs, so the day costs what it does after
+//! the changes.
 #![tactic(auto)]
 
 mod apart;
@@ -28,7 +30,7 @@ use kinds::Kind;
 use std::alloc::Global;
 use std::rt::Env;
 use std::{env, io};
-use updating::{cost_after_changes, cost_after_passes};
+use updating::{cost_after_cancels, cost_after_changes, cost_after_passes};
 
 /// How many changes are made where no number is given.
 const CHANGES: u32 = 24_000;
@@ -43,6 +45,9 @@ enum Timed {
 
     /// Passes and recalls of an event whose pair's other event stands far before it.
     Passes,
+
+    /// Cancels and restores of all events of a train.
+    Cancels,
 }
 
 impl Timed {
@@ -53,6 +58,9 @@ impl Timed {
         if word == "apart" {
             return Some(Timed::Passes);
         }
+        if word == "cancel" {
+            return Some(Timed::Cancels);
+        }
         let kind = Kind::named(word)?;
         Some(Timed::Changes(Some(kind)))
     }
@@ -62,6 +70,7 @@ impl Timed {
             Timed::Changes(_kind) => "changes",
             Timed::Decisions => "decisions",
             Timed::Passes => "passes",
+            Timed::Cancels => "cancels",
         }
     }
 }
@@ -103,7 +112,8 @@ fn count_of(word: &str) -> u32 {
 fn print_all<R: Print + AllocGlobal>(rt: &R, count: u32) -> io::Result<()> {
     print_cost(rt, Timed::Changes(None), count)?;
     print_cost(rt, Timed::Decisions, count)?;
-    print_cost(rt, Timed::Passes, count)
+    print_cost(rt, Timed::Passes, count)?;
+    print_cost(rt, Timed::Cancels, count)
 }
 
 /// Prints what the day then costs.
@@ -122,6 +132,7 @@ fn run(alloc: Global, timed: Timed, count: u32) -> Result<Cost, Failure> {
         Timed::Changes(kind) => changed_day(alloc, count, kind),
         Timed::Decisions => decided_day(alloc, count),
         Timed::Passes => passed_day(alloc, count),
+        Timed::Cancels => cancelled_day(alloc, count),
     }
 }
 
@@ -138,4 +149,9 @@ fn decided_day(alloc: Global, count: u32) -> Result<Cost, Failure> {
 fn passed_day(alloc: Global, count: u32) -> Result<Cost, Failure> {
     let net = day_apart(alloc)?;
     cost_after_passes(alloc, &net, count)
+}
+
+fn cancelled_day(alloc: Global, count: u32) -> Result<Cost, Failure> {
+    let net = generated_day(alloc, TRAINS)?;
+    cost_after_cancels(alloc, &net, count)
 }

@@ -2,7 +2,7 @@
 
 use crate::apart::{LATER, LATER_TIME};
 use crate::kinds::Kind;
-use dm_base::Cost;
+use dm_base::{Cost, EventId};
 use dm_network::Network;
 use dm_propagate::Engine;
 use dm_rows::{Message, admit};
@@ -13,6 +13,11 @@ use std::marker::Model;
 
 /// Seconds for each passenger.
 const PENALTY: u64 = 3_600;
+
+/// The first event of a train in the middle of the day, and the one behind its last.
+const TRAIN_START: u32 = 19_981;
+
+const TRAIN_END: u32 = 20_001;
 
 /// An engine with its network.
 #[derive(Drop)]
@@ -106,6 +111,48 @@ fn make_passes(alloc: Global, day: &mut Day<'_>, count: u32) -> Result<(), Failu
     } else {
         Err(Failure::Differs(count))
     }
+}
+
+/// What the day costs after all events of a late train were cancelled and restored in turn so many times, and after this train is
+/// on time again, the last one late and the last change dropped.
+pub fn cost_after_cancels(alloc: Global, net: &Network, count: u32) -> Result<Cost, Failure> {
+    let mut day = Day::new(alloc, net)?;
+    make_cancels(alloc, &mut day, count)?;
+    make_changes(alloc, &mut day, 0, None)?;
+    day.cost(alloc)
+}
+
+fn make_cancels(alloc: Global, day: &mut Day<'_>, count: u32) -> Result<(), Failure> {
+    let start = EventId(TRAIN_START);
+    if !day.change(alloc, &Message::DelayEvent(start, 600)) {
+        return Err(Failure::Differs(0));
+    }
+    for turn in 0..count {
+        if !change_train(alloc, day, turn % 2 == 1) {
+            return Err(Failure::Differs(turn));
+        }
+    }
+    if day.change(alloc, &Message::DelayEvent(start, 0)) {
+        Ok(())
+    } else {
+        Err(Failure::Differs(count))
+    }
+}
+
+/// Cancels the events of a train, or restores them, and says whether all were.
+fn change_train(alloc: Global, day: &mut Day<'_>, back: bool) -> bool {
+    for id in TRAIN_START..TRAIN_END {
+        let event = EventId(id);
+        let message = if back {
+            Message::Restore(event)
+        } else {
+            Message::Cancel(event)
+        };
+        if !day.change(alloc, &message) {
+            return false;
+        }
+    }
+    true
 }
 
 fn make_changes(

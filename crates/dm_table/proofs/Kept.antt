@@ -1,5 +1,5 @@
 -- What a table keeps when an entry more is made.
-use Rattle.std.proofs.Common.{◌≡◌, ℕ, zero, suc, ◌+◌, ◌<◌, ◌≤◌, List, [], ◌∷◌, ◌++◌, length, get_or, Some, fold, refl, sym, ap, subst, ◌∙◌, arith, inl, inr, slice_get}
+use Rattle.std.proofs.Common.{◌≡◌, ℕ, zero, suc, ◌+◌, ◌<◌, ◌≤◌, List, [], ◌∷◌, ◌++◌, length, get_or, Option, Some, None, fold, take, refl, sym, ap, subst, ◌∙◌, arith, inl, inr, slice_get}
 use Rattle.std.proofs.lemmas.Bool.{cases_eq}
 use Rattle.std.proofs.lemmas.List.{take-append-le, length_push}
 use Rattle.std.proofs.lemmas.List.Sums.{fold_more}
@@ -11,8 +11,10 @@ use Rattle.dm_rows.specs.declared.messages.Entry.{Entry}
 use Rattle.dm_rows.specs.declared.messages.Refusal.{Refusal}
 use Rattle.dm_rows.specs.History.{rows_at}
 use Rattle.dm_rows.specs.Refuse.{Refuses}
-use Rattle.dm_rows.specs.Resolve.{after}
-use Rattle.dm_rows.specs.Rows.{RowsValue}
+use Rattle.dm_rows.specs.Resolve.{after, after_named, change_named}
+use Rattle.dm_rows.specs.Rows.{RowsValue, IsSized}
+use Rattle.dm_rows.specs.declared.messages.Change.{Change}
+use Rattle.dm_rows.proofs.Setting.{change_keeps_sizes}
 use Rattle.dm_table.specs.Value.{IsTable}
 use Rattle.dm_table.specs.Inside.Keeping.{IsKept}
 use Rattle.dm_table.specs.Inside.Trying.{IsAccepted}
@@ -47,6 +49,20 @@ pub rows_before : (net : Net) (start : RowsValue) (history : List Entry) (entry 
     rows_at net start (history ++ entry ∷ []) n ≡ rows_at net start history n
 rows_before net start history entry n le =
     ap (fold (λ rows (e : Entry). after net rows e.message) start) (take-append-le n history (entry ∷ []) le)
+
+-- the rows after the first entries are of the network, as those at the start
+named_keeps_sizes : (net : Net) (rows : RowsValue) (change : Option Change) → IsSized net rows → IsSized net (after_named rows change)
+named_keeps_sizes net rows (Some change) sized = change_keeps_sizes net rows change sized
+named_keeps_sizes net rows None sized = sized
+
+entries_keep_sizes : (net : Net) (rows : RowsValue) (entries : List Entry) → IsSized net rows →
+    IsSized net (fold (λ rows entry. after net rows entry.message) rows entries)
+entries_keep_sizes net rows [] sized = sized
+entries_keep_sizes net rows (entry ∷ entries) sized =
+    entries_keep_sizes net (after net rows entry.message) entries (named_keeps_sizes net rows (change_named net entry.message) sized)
+
+pub first_rows_sized : (net : Net) (start : RowsValue) (history : List Entry) (n : ℕ) → IsSized net start → IsSized net (rows_at net start history n)
+first_rows_sized net start history n sized = entries_keep_sizes net start (take n history) sized
 
 -- the last entry stands behind the others
 stands_last : (history : List Entry) (entry d : Entry) → get_or (history ++ entry ∷ []) (length history) d ≡ entry

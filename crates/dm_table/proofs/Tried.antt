@@ -9,7 +9,7 @@ use Rattle.dm_network.specs.Net.{Net}
 use Rattle.dm_propagate.specs.Engine.{EngineValue, IsEngineOf, cycle_of}
 use Rattle.dm_propagate.proofs.Following.{engine_no_cycle}
 use Rattle.dm_rows.specs.declared.messages.Message.{Message}
-use Rattle.dm_rows.specs.declared.messages.Message.TheVariants.{DelayEvent, DelayActivity, Pass, Recall, Keep, Drop, First, Adopt, Now}
+use Rattle.dm_rows.specs.declared.messages.Message.TheVariants.{DelayEvent, DelayActivity, Pass, Recall, Keep, Drop, First, Adopt, Now, Cancel, Restore, Lock, Unlock}
 use Rattle.dm_rows.specs.declared.messages.Refusal.{Refusal}
 use Rattle.dm_rows.specs.Active.{active_arcs, HasNoCycle, IsCycle}
 use Rattle.dm_rows.specs.Refuse.{PassesAtOnce, IsNow}
@@ -35,6 +35,10 @@ harmless (Drop a) is = absurd is
 harmless (First i j) is = absurd is
 harmless (Adopt ds) is = absurd is
 harmless (Now t) is = tt
+harmless (Cancel e) is = absurd is
+harmless (Restore e) is = absurd is
+harmless (Lock choice) is = absurd is
+harmless (Unlock choice) is = absurd is
 
 -- an answer that is Ok comes where the rows were made
 made_where_ok : (n : ℕ) (P : Type 0) (outcome : Result (Unit {0}) Cyclic) (answer : Result (Unit {0}) Refusal) → OnOk answer (IsOk outcome) →
@@ -63,7 +67,7 @@ module _ (net : Net) (n : ℕ) (rows : RowsValue) (before now : EngineValue) (ou
         free = subst (λ (v : RowsValue). OnOk outcome (HasNoCycle net v)) is had.no_cycle;
         cyclic = cyclic;
         not_now = on_err_weaker outcome
-            (λ c clock. never_make_cycles net before.rows m (harmless m clock) (engine_no_cycle net before engine) cycle c) cyclic;
+            (λ c clock. never_make_cycles net before.rows m engine.sized (harmless m clock) (engine_no_cycle net before engine) cycle c) cyclic;
       }
 
   module _ (answer : Result (Unit {0}) Refusal)

@@ -1,5 +1,5 @@
 -- What contracts see of a table, and what holds of it.
-use Rattle.std.specs.Prelude.{ℕ, ◌≡◌, ◌≤◌, List, length}
+use Rattle.std.specs.Prelude.{ℕ, ◌≡◌, ◌<◌, ◌≤◌, ◌⊎◌, Bool, false, List, length, slice_index_or, Contains}
 use Rattle.dm_base.specs.declared.limits.TheConstants.{PENALTY}
 use Rattle.dm_network.specs.Net.{Net}
 use Rattle.dm_rows.specs.declared.messages.Entry.{Entry}
@@ -41,3 +41,8 @@ decisions_in _ = 0
 pub record HasRoomFor (table : TableValue) (m : Message) : Type 0 where
   pub entries : 1 ≤ table.spare_entries
   pub decisions : decisions_in m ≤ table.spare_decisions
+
+-- the places of all events are listed that are cancelled otherwise than last, where something is known of last
+abbrev pub ListsMarked : List Bool → List Bool → List ℕ → Type 0
+ListsMarked last cancelled places =
+    (i : ℕ) → i < length last → (slice_index_or last i false ≡ slice_index_or cancelled i false) ⊎ Contains places i

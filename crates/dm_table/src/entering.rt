@@ -2,7 +2,7 @@
 ghost use Rattle.std.specs.Prelude.{◌≡◌, ◌≤◌, [], All, fold, length, OnOk, OnErr, IfErr, vec_capacity};
 ghost use Rattle.dm_base.specs.declared.limits.TheConstants.{ENTRIES as MOST};
 ghost use Rattle.dm_propagate.specs.Engine.{IsEngineOf, times_of};
-ghost use Rattle.dm_propagate.specs.Moved.{TakesInMoved};
+ghost use Rattle.dm_propagate.specs.Moved.{TakesInMoved, TakesInCancelled};
 ghost use Rattle.dm_rows.specs.Reach.{Reaches, ReachesFlip};
 ghost use Rattle.dm_rows.specs.Refuse.{IsAdopt};
 ghost use Rattle.dm_rows.specs.Resolve.{after, after_change, after_flip};
@@ -22,8 +22,8 @@ use std::alloc::Global;
 use std::sync::ledger::Ledger;
 
 /// Makes the change of a message that comes at a history of so many entries, or says why it is refused: then the engine's
-/// rows and times are as before. The engine notes the events whose times move. The flips of an adopted list stand meanwhile in
-/// room that was made for them.
+/// rows and times are as before. The engine notes the events whose times move, and those that are cancelled or restored. The
+/// flips of an adopted list stand meanwhile in room that was made for them.
 pub fn enter<L: Ledger>(
     alloc: Global,
     net: &Network,
@@ -45,6 +45,7 @@ pub fn enter<L: Ledger>(
     ensures unmoved { OnErr result (IsUnmoved engine.old engine.new) }
     ensures refused { IfErr result (RefusesPost net.now engine.old.rows entries message.now) }
     ensures moved { TakesInMoved engine.old.moved.flags engine.new.moved.flags (times_of engine.old) (times_of engine.new) }
+    ensures cancelled { TakesInCancelled engine.new.moved.flags engine.old.rows engine.new.rows }
 {
     match message {
         Message::Adopt(decisions) => enter_list(
@@ -61,6 +62,7 @@ pub fn enter<L: Ledger>(
 }
 
 /// The same for a message that is no adopted list.
+#[tactic(auto, using(crate::proofs::Noting::cancelled_stay))]
 fn enter_one<L: Ledger>(
     alloc: Global,
     net: &Network,
@@ -78,6 +80,7 @@ fn enter_one<L: Ledger>(
     ensures unmoved { OnErr result (IsUnmoved engine.old engine.new) }
     ensures refused { IfErr result (RefusesPost net.now engine.old.rows entries message.now) }
     ensures moved { TakesInMoved engine.old.moved.flags engine.new.moved.flags (times_of engine.old) (times_of engine.new) }
+    ensures cancelled { TakesInCancelled engine.new.moved.flags engine.old.rows engine.new.rows }
 {
     let change = match admit(alloc, net, engine.rows(), message) {
         Ok(change) => change,
@@ -88,6 +91,7 @@ fn enter_one<L: Ledger>(
 }
 
 /// The same for an adopted list.
+#[tactic(auto, using(crate::proofs::Noting::cancelled_stay))]
 fn enter_list<L: Ledger>(
     alloc: Global,
     net: &Network,
@@ -109,6 +113,7 @@ fn enter_list<L: Ledger>(
     ensures unmoved { OnErr result (IsUnmoved engine.old engine.new) }
     ensures refused { IfErr result (RefusesPost net.now engine.old.rows entries (Message.Adopt decisions.now)) }
     ensures moved { TakesInMoved engine.old.moved.flags engine.new.moved.flags (times_of engine.old) (times_of engine.new) }
+    ensures cancelled { TakesInCancelled engine.new.moved.flags engine.old.rows engine.new.rows }
 {
     match resolve(net, engine.rows(), decisions, flips) {
         Ok(()) => {
@@ -124,6 +129,7 @@ fn enter_list<L: Ledger>(
 }
 
 /// Makes a change where a history of so many entries takes one more, and else only tries it.
+#[tactic(auto, using(crate::proofs::Noting::cancelled_stay))]
 fn try_change<L: Ledger>(
     net: &Network,
     engine: &mut Engine,
@@ -135,6 +141,7 @@ fn try_change<L: Ledger>(
     requires reaches { Reaches engine.old.rows change.now }
     ensures tried { HasTried net.now entries (after_change engine.old.rows change.now) engine.old engine.new result }
     ensures moved { TakesInMoved engine.old.moved.flags engine.new.moved.flags (times_of engine.old) (times_of engine.new) }
+    ensures cancelled { TakesInCancelled engine.new.moved.flags engine.old.rows engine.new.rows }
 {
     if entries < ENTRIES {
         engine.update(net, change, steps)
@@ -144,6 +151,7 @@ fn try_change<L: Ledger>(
 }
 
 /// The same for the decisions of an adopted list.
+#[tactic(auto, using(crate::proofs::Noting::cancelled_stay))]
 fn try_flips<L: Ledger>(
     net: &Network,
     engine: &mut Engine,
@@ -155,6 +163,7 @@ fn try_flips<L: Ledger>(
     requires reach { All (ReachesFlip engine.old.rows) flips.now }
     ensures tried { HasTried net.now entries (fold after_flip engine.old.rows flips.now) engine.old engine.new result }
     ensures moved { TakesInMoved engine.old.moved.flags engine.new.moved.flags (times_of engine.old) (times_of engine.new) }
+    ensures cancelled { TakesInCancelled engine.new.moved.flags engine.old.rows engine.new.rows }
 {
     if entries < ENTRIES {
         engine.adopt(net, flips, steps)

@@ -22,9 +22,10 @@
 //! `time`, `cost_now`, `len`, `times`, `rows`, `history`, `copy` answer for these rows; `time` refuses exactly an unknown event.
 //! `network`, `start` and `penalty` are those that `new` was given. `reveal` tells what holds of every table.
 //!
-//! `follow_times` takes times that were the least after a given number of first entries, and makes them those of now (`times`).
-//! It lists each event at which they were others (`listed`), leaves the table as it is seen (`same`), and takes no memory. No
-//! clause says how few events it looks at.
+//! `follow_times` takes times that were the least after a given number of first entries, and the marks of the events that were
+//! cancelled then, and makes them those of now (`times`, `flags`). It lists each event at which they were others (`listed`,
+//! `marked`), leaves the table as it is seen (`same`), and takes no memory. No clause says how few events it looks at.
+//! `copy_cancelled` copies the marks of now.
 #![tactic(auto)]
 
 mod entering;

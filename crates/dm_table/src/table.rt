@@ -2,6 +2,7 @@
 ghost use Rattle.std.specs.Prelude.{◌≡◌, ◌+◌, ◌-◌, ◌^◌, ◌<◌, ◌≤◌, [], ◌∷◌, ◌++◌, max, length, vec_capacity, Some, OnOk, OnErr, IfOk, IfErr};
 ghost use Rattle.dm_base.specs.declared.limits.TheConstants.{PENALTY, ENTRIES};
 ghost use Rattle.dm_marks.specs.Moved.{ListsMoved};
+ghost use Rattle.dm_table.specs.Value.{ListsMarked};
 ghost use Rattle.dm_rows.specs.Rows.{IsSized};
 ghost use Rattle.dm_rows.specs.Cost.{cost_of};
 ghost use Rattle.dm_rows.specs.History.{rows_at};
@@ -13,7 +14,7 @@ ghost use Rattle.dm_table.specs.Value.{IsTable, HasRoomFor, decisions_in};
 ghost use Rattle.dm_table.specs.Answers.{RefusesPost, RefusesTime, time_of};
 
 use crate::entering::enter;
-use crate::following::follow;
+use crate::following::{Moment, copy_cancelled, follow};
 use dm_base::{Cost, EventId, Secs, Steps};
 use dm_history::History;
 use dm_network::Network;
@@ -33,7 +34,7 @@ pub struct Table<'n> {
     history: History,
     engine: Engine,
 
-    /// The engine has noted the events whose times are not those after so many first entries.
+    /// The engine has noted the events whose times, or whether they are cancelled, are not as after so many first entries.
     since: u32,
 
     /// Room for the decisions of an adopted list. Between calls it is empty.
@@ -80,7 +81,7 @@ impl<'n> Model for Table<'n> {
     } };
 
     ghost invariant = { λ t. IsKept t.net.now t.start t.penalty t.history.entries t.engine
-        × AreNoted t.net.now t.start t.history.entries t.since t.engine.moved.flags (times_of t.engine)
+        × AreNoted t.net.now t.start t.history.entries t.since t.engine.moved.flags t.engine.rows (times_of t.engine)
         × (t.flips.items ≡ []) × (t.room ≤ vec_capacity t.flips) };
 }
 
@@ -216,26 +217,49 @@ impl<'n> Table<'n> {
         self.engine.times()
     }
 
-    /// Makes times that are the least timetable after the first `shown` entries the one after all entries, and lists the events
-    /// whose times were others, in room for all events. It takes no memory. Where times were followed last when there were so many
-    /// entries, it looks at the events whose times have moved since then, and at no others.
-    pub fn follow_times(&mut self, into: &mut Times, shown: u32, listed: &mut Vec<usize>)
+    /// Copies which events are cancelled after all entries.
+    pub fn copy_cancelled(&self, into: &mut [bool])
+        requires { length into.old ≡ length self.now.network.events }
+        ensures { into.new ≡ self.now.rows.cancelled }
+    {
+        self.reveal();
+        copy_cancelled(self.engine.rows(), into);
+    }
+
+    /// Makes times that are the least timetable after the first `shown` entries the one after all entries, and the marks of events
+    /// that were cancelled then those of events that are cancelled now. It lists the events whose times or marks were others, in
+    /// room for all events. It takes no memory. Where times were followed last when there were so many entries, it looks at the
+    /// events whose times or marks have changed since then, and at no others.
+    pub fn follow_times(
+        &mut self,
+        into: &mut Times,
+        cancelled: &mut [bool],
+        shown: u32,
+        listed: &mut Vec<usize>,
+    )
         requires shown { shown ≤ length self.old.history }
         requires times { IsLeast self.old.network (rows_at self.old.network self.old.start self.old.history shown) into.old }
+        requires flags { cancelled.old ≡ (rows_at self.old.network self.old.start self.old.history shown).cancelled }
         requires room { length self.old.network.events ≤ vec_capacity listed.old }
         ensures same { self.new ≡ self.old }
         ensures times { into.new ≡ self.old.times }
+        ensures flags { cancelled.new ≡ self.old.rows.cancelled }
         ensures listed { ListsMoved into.old into.new listed.new.items }
+        ensures marked { ListsMarked cancelled.old cancelled.new listed.new.items }
         ensures room { vec_capacity listed.old ≤ vec_capacity listed.new }
     {
         self.net.reveal();
         self.engine.moved().reveal();
         listed.clear();
         follow(
-            self.engine.times(),
+            Moment {
+                times: self.engine.times(),
+                rows: self.engine.rows(),
+            },
             self.engine.moved().places(),
             shown == self.since,
             into,
+            cancelled,
             listed,
         );
         let now = self.history.len();

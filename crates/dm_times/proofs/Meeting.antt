@@ -1,15 +1,16 @@
 -- Rows can be met exactly where they have no cycle; their start rows have none.
-use Rattle.std.proofs.Common.{◌∙◌}
+use Rattle.std.proofs.Common.{ℕ, List, ◌∙◌}
+use Rattle.dm_base.specs.declared.rows.DelayRow.{DelayRow}
 use Rattle.dm_network.specs.Net.{Net}
 use Rattle.dm_network.specs.Start.{IsNetwork, is_start_active}
 use Rattle.dm_network.proofs.Holding.{cycle_with}
-use Rattle.dm_rows.specs.Active.{is_active}
+use Rattle.dm_rows.specs.Active.{is_active, HasNoCycle}
 use Rattle.dm_rows.specs.Decide.{with_decisions}
 use Rattle.dm_rows.specs.Relax.{is_relaxed_active}
 use Rattle.dm_rows.specs.History.{rows_at}
-use Rattle.dm_rows.specs.Rows.{RowsValue, start_rows_of}
+use Rattle.dm_rows.specs.Rows.{RowsValue, start_rows_of, start_rows_without}
 use Rattle.dm_rows.proofs.AsGraph.{active_enter_no_passed, relaxed_enter_no_passed}
-use Rattle.dm_rows.proofs.AtStart.{start_activity_agrees}
+use Rattle.dm_rows.proofs.AtStart.{start_activity_agrees, active_at_start_binds}
 use Rattle.dm_rows.proofs.Holding.{held_is_met_exactly_without_cycle}
 use Rattle.dm_times.specs.Laws.{IsMetExactlyWithoutCycle, MetExactlyWithoutCycle, StartHasNoCycle}
 
@@ -30,9 +31,21 @@ met_exactly_without_cycle =
           (relaxed_enter_no_passed net rows path);
     }
 
-pub start_has_no_cycle : StartHasNoCycle
+pub start_has_no_cycle : (net : Net) (events activities : List DelayRow) → IsNetwork net → HasNoCycle net (start_rows_of net events activities)
 start_has_no_cycle net events activities network cycle c =
     let start : RowsValue = start_rows_of net events activities in
     network.no_start_cycle cycle
     (cycle_with net (is_active net start) (is_start_active net)
     (λ a below active. start_activity_agrees net events activities a network.formed below ∙ active) cycle c)
+
+-- with some events cancelled no more is active
+start_without_has_no_cycle : (net : Net) (events activities : List DelayRow) (ids : List ℕ) → IsNetwork net →
+    HasNoCycle net (start_rows_without net events activities ids)
+start_without_has_no_cycle net events activities ids network cycle c =
+    let start : RowsValue = start_rows_without net events activities ids in
+    network.no_start_cycle cycle
+    (cycle_with net (is_active net start) (is_start_active net)
+    (λ a below active. active_at_start_binds net events activities ids a network.formed below active) cycle c)
+
+pub starts_have_no_cycle : StartHasNoCycle
+starts_have_no_cycle = record { all_run = start_has_no_cycle; without = start_without_has_no_cycle }

@@ -9,7 +9,7 @@ use Rattle.dm_rows.specs.Decide.{with_decisions}
 use Rattle.dm_rows.specs.History.{rows_at}
 use Rattle.dm_rows.specs.Relax.{is_relaxed_active}
 use Rattle.dm_rows.specs.Resolve.{after}
-use Rattle.dm_rows.specs.Rows.{RowsValue, RowsAreWithinLimits, start_rows_of}
+use Rattle.dm_rows.specs.Rows.{RowsValue, RowsAreWithinLimits, start_rows_of, start_rows_without}
 use Rattle.dm_rows.specs.Timetable.{Meets, MeetsHolding, IsLeast}
 use Rattle.dm_rows.specs.declared.messages.Decision.{Decision}
 use Rattle.dm_rows.specs.declared.messages.Entry.{Entry}
@@ -19,6 +19,7 @@ use Rattle.dm_settle.specs.Settling.{AreEarly}
 -- the rows that messages and decisions, one after another, reach from a network's start rows
 pub data IsReached (net : Net) : RowsValue → Type 0 where
   starts : (events activities : List DelayRow) → IsReached net (start_rows_of net events activities)
+  starts_without : (events activities : List DelayRow) (ids : List ℕ) → IsReached net (start_rows_without net events activities ids)
   by_message : (rows : RowsValue) (m : Message) → IsReached net rows → IsReached net (after net rows m)
   by_decisions : (rows : RowsValue) (decisions : List Decision) → IsReached net rows →
       IsReached net (with_decisions net rows decisions)
@@ -46,10 +47,12 @@ pub record MetExactlyWithoutCycle : Type 0 where
   pub relaxed : (net : Net) (rows : RowsValue) (path : List Decision) → IsNetwork net → IsReached net rows →
       IsMetRelaxedExactlyWithoutCycle net rows path
 
--- the start rows of a network have no cycle, whatever the delays
-abbrev pub StartHasNoCycle : Type 0
-StartHasNoCycle =
-    (net : Net) (events activities : List DelayRow) → IsNetwork net → HasNoCycle net (start_rows_of net events activities)
+-- the start rows of a network have no cycle, whatever the delays and whichever events are cancelled
+pub record StartHasNoCycle : Type 0 where
+  pub all_run : (net : Net) (events activities : List DelayRow) → IsNetwork net →
+      HasNoCycle net (start_rows_of net events activities)
+  pub without : (net : Net) (events activities : List DelayRow) (ids : List ℕ) → IsNetwork net →
+      HasNoCycle net (start_rows_without net events activities ids)
 
 -- the least times of rows within the limits are below 2^38
 abbrev pub LeastTimesAreEarly : Type 0

@@ -2,11 +2,10 @@
 ghost use Rattle.std.specs.Prelude.{◌≡◌, ◌<◌, length};
 ghost use Rattle.dm_rows.specs.Rows.{IsSized};
 ghost use Rattle.dm_rows.specs.Active.{is_active};
-ghost use Rattle.dm_rows.specs.Cost.{is_dropped_change};
+ghost use Rattle.dm_rows.specs.Cost.{is_lost_change};
 
-use dm_base::ActKind;
 use dm_network::Network;
-use dm_rows::{Rows, is_active};
+use dm_rows::{Rows, is_active, is_lost_change};
 
 /// Which activities of a network a timetable is held to.
 pub trait Holding {
@@ -37,8 +36,7 @@ pub trait Charging: Holding {
         ensures { result ≡ charged self.now a };
 }
 
-/// What rows say by themselves: the active activities are held, and the dropped changes whose head has not passed are charged
-/// for.
+/// What rows say by themselves: the active activities are held, and the lost changes are charged for.
 #[derive(Clone, Copy)]
 pub struct AsRowsSay<'a> {
     pub net: &'a Network,
@@ -60,15 +58,11 @@ impl Holding for AsRowsSay<'_> {
 }
 
 impl Charging for AsRowsSay<'_> {
-    ghost use Rattle.dm_rows.specs.Cost.{is_dropped_change};
+    ghost use Rattle.dm_rows.specs.Cost.{is_lost_change};
 
-    ghost charged = { λ d. is_dropped_change d.net.now d.rows.now };
+    ghost charged = { λ d. is_lost_change d.net.now d.rows.now };
 
     fn is_charged(&self, a: usize) -> bool {
-        self.net.reveal();
-        let activity = self.net.activity(a);
-        matches!(activity.kind, ActKind::Change)
-            && !self.rows.kept(a)
-            && self.rows.passed(activity.head).is_none()
+        is_lost_change(self.net, self.rows, a)
     }
 }

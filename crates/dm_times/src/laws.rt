@@ -9,12 +9,12 @@ pub fn met_exactly_without_cycle()
     ensures { MetExactlyWithoutCycle }
 {}
 
-/// A delay, a passed event, a dropped change and a clock never make a cycle.
-pub fn delays_passes_drops_and_clocks_make_no_cycle()
+/// A delay, a passed event, a dropped change, a clock, a cancelled event and a lock never make a cycle.
+pub fn harmless_messages_make_no_cycle()
     ensures { NeverMakeCycles }
 {}
 
-/// The start rows of a network have no cycle.
+/// The start rows of a network have no cycle, whichever events are cancelled.
 pub fn start_has_no_cycle()
     ensures { StartHasNoCycle }
 {}

@@ -15,8 +15,8 @@
 //! activity comes before its tail and its span allow.
 //!
 //! Laws: rows that are reached by messages or by decisions on free choices, or are relaxed by a path, can be met exactly where
-//! they have no cycle. The start rows have none. A delay, a pass, a drop and a clock never make a cycle. In the least timetable
-//! of rows within the limits every time is below 2^38 seconds.
+//! they have no cycle. The start rows have none, whichever events are cancelled. A delay, a pass, a drop, a clock, a cancelled event
+//! and a lock never make a cycle. In the least timetable of rows within the limits every time is below 2^38 seconds.
 #![tactic(auto)]
 
 mod costing;

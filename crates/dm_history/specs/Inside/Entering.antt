@@ -21,6 +21,11 @@ use Rattle.dm_history.specs.declared.replaying.ReplayFault.TheVariants.{Refused,
 abbrev pub IsKnownFree : Net → RowsValue → Bool → Type 0
 IsKnownFree net rows known = IsTrue known → HasNoCycle net rows
 
+-- what is known of rows of a network, whichever they are, is known so far of those after the message
+abbrev pub StaysFree : Bool → Message → Bool → Type 0
+StaysFree known m result =
+    (net : Net) (rows : RowsValue) → IsSized net rows → IsKnownFree net rows known → IsKnownFree net (after net rows m) result
+
 -- the message that stands at a place is entered, and nothing refuses it
 pub record Enters (net : Net) (old new : RowsValue) (place : ℕ) (m : Message) (known : Bool) : Type 0 where
   pub sized : IsSized net new

@@ -5,7 +5,7 @@ use Rattle.dm_network.specs.Held.{is_held}
 use Rattle.dm_rows.specs.declared.messages.Flip.{Flip}
 use Rattle.dm_rows.specs.declared.messages.Flip.TheVariants.{Keep, Drop, First}
 use Rattle.dm_rows.specs.declared.messages.Change.{Change}
-use Rattle.dm_rows.specs.declared.messages.Change.TheVariants.{EventDelay, ActDelay, Passed, Recalled, Flipped, Adopted, Clock}
+use Rattle.dm_rows.specs.declared.messages.Change.TheVariants.{EventDelay, ActDelay, Passed, Recalled, Flipped, Adopted, Clock, Cancelled, Restored, Locked, Unlocked}
 use Rattle.dm_rows.specs.Active.{has_passed, is_active}
 use Rattle.dm_rows.specs.Rows.{RowsValue}
 use Rattle.dm_rows.specs.Timetable.{floor_of, span_of}
@@ -42,8 +42,12 @@ IsConcerned net (Recalled i) b = LeadsAt net i b
 IsConcerned net (Flipped flip) b = IsDecided net flip b
 IsConcerned net (Adopted flips) b = IsDecidedBefore net flips (length flips) b
 IsConcerned net (Clock t) b = ⊥
+IsConcerned net (Cancelled i) b = LeadsAt net i b
+IsConcerned net (Restored i) b = LeadsAt net i b
+IsConcerned net (Locked spot) b = ⊥
+IsConcerned net (Unlocked spot) b = ⊥
 
--- the change may move the floor of the event; a delay moves none of one that has passed
+-- the change may move the floor of the event; a delay moves none of one that has passed, and a cancelling none
 abbrev pub MovesFloor : RowsValue → Change → ℕ → Type 0
 MovesFloor rows (EventDelay e d) i = (i ≡ e) × (has_passed rows i ≡ false)
 MovesFloor rows (ActDelay a d) i = ⊥
@@ -52,6 +56,10 @@ MovesFloor rows (Recalled e) i = i ≡ e
 MovesFloor rows (Flipped flip) i = ⊥
 MovesFloor rows (Adopted flips) i = ⊥
 MovesFloor rows (Clock t) i = Unit {0}
+MovesFloor rows (Cancelled e) i = ⊥
+MovesFloor rows (Restored e) i = ⊥
+MovesFloor rows (Locked spot) i = ⊥
+MovesFloor rows (Unlocked spot) i = ⊥
 
 -- the change may move the span of the activity
 abbrev pub MovesSpan : Change → ℕ → Type 0
@@ -62,6 +70,10 @@ MovesSpan (Recalled i) b = ⊥
 MovesSpan (Flipped flip) b = ⊥
 MovesSpan (Adopted flips) b = ⊥
 MovesSpan (Clock t) b = ⊥
+MovesSpan (Cancelled e) b = ⊥
+MovesSpan (Restored e) b = ⊥
+MovesSpan (Locked spot) b = ⊥
+MovesSpan (Unlocked spot) b = ⊥
 
 -- the active activities are held, and floors and spans are those of the rows, but for what the change concerns
 pub record FollowsBut (net : Net) (rows : RowsValue) (change : Change) (given : ConstraintsValue) : Type 0 where

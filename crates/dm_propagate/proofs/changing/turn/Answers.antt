@@ -6,12 +6,12 @@ use Rattle.dm_priced.specs.Priced.{PricedValue}
 use Rattle.dm_live.specs.Live.{with_floor, with_span}
 use Rattle.dm_propagate.specs.Inside.Changing.{FollowsAt, MarksFor}
 use Rattle.dm_propagate.specs.Inside.Concern.{IsConcerned, IsDecided, IsDecidedBefore, LeadsAt, MovesFloor, MovesSpan}
-use Rattle.dm_propagate.specs.Inside.Flags.{flags_of, AreFlagsOf, MovesPass, MovesCharge, IsNamed}
-use Rattle.dm_propagate.proofs.Bringing.{floor_moved, off_or_not, times_stay, times_but, marks_one, follows_floor, follows_span, follows_floors, follows_at, followed_at, cycle_at, follows_by}
+use Rattle.dm_propagate.specs.Inside.Flags.{flags_of, AreFlagsOf, MovesPass, MovesCharge, IsNamed, IsOut}
+use Rattle.dm_propagate.proofs.Bringing.{floor_moved, off_or_not, times_stay, times_but, marks_one, marks_none, follows_still, follows_floor, follows_span, follows_floors, follows_at, followed_at, cycle_at, follows_by}
 use Rattle.dm_propagate.proofs.Concerning.{followed_by_one, cycle_of_one, by_one}
 use Rattle.dm_propagate.proofs.Flagging.{none_concerned, set_at, set_by, no_other, no_other_but, flags_stay}
 use Rattle.dm_propagate.proofs.Delays.{delay_stays}
-use Rattle.dm_propagate.proofs.Reaching.{delay_is_reached, act_is_reached, event_is_reached, recall_is_reached}
+use Rattle.dm_propagate.proofs.Reaching.{delay_is_reached, act_is_reached, event_is_reached, recall_is_reached, cancel_is_reached, restore_is_reached}
 use Rattle.dm_propagate.proofs.changing.turn.Goals as goal
 
 pub returns-in-Passed-clause-marks : goal.returns-in-Passed-clause-marks
@@ -40,21 +40,21 @@ returns-in-EventDelay-clause-flags g c =
     (sym (flags_stay c.args.priced.now c.set_floor.new.self c.set_floor.ensures.others c.set_floor.ensures.fixed_stay))
     (none_concerned c.args.day.now.net.now c.args.day.now.rows.now c.args.change.now (flags_of c.args.priced.now)
     (λ i moves. subst (λ (change : Change). MovesPass change i) c.in-EventDelay.is moves)
-    (λ a moves. subst (λ (change : Change). MovesCharge c.args.day.now.net.now change a) c.in-EventDelay.is moves) c.requires.flags)
+    (λ a moves. subst (λ (change : Change). MovesCharge c.args.day.now.net.now (IsOut c.args.day.now.rows.now c.args.priced.now.cancelled) change a) c.in-EventDelay.is moves) c.requires.flags)
 
 pub returns-in-ActDelay-clause-flags : goal.returns-in-ActDelay-clause-flags
 returns-in-ActDelay-clause-flags g c =
     subst (AreFlagsOf c.args.day.now.net.now c.args.day.now.rows.now) (sym (ap flags_of c.set_span.ensures.span))
     (none_concerned c.args.day.now.net.now c.args.day.now.rows.now c.args.change.now (flags_of c.args.priced.now)
     (λ i moves. subst (λ (change : Change). MovesPass change i) c.in-ActDelay.is moves)
-    (λ a moves. subst (λ (change : Change). MovesCharge c.args.day.now.net.now change a) c.in-ActDelay.is moves) c.requires.flags)
+    (λ a moves. subst (λ (change : Change). MovesCharge c.args.day.now.net.now (IsOut c.args.day.now.rows.now c.args.priced.now.cancelled) change a) c.in-ActDelay.is moves) c.requires.flags)
 
 pub returns-in-Clock-clause-flags : goal.returns-in-Clock-clause-flags
 returns-in-Clock-clause-flags g c =
     subst (AreFlagsOf c.args.day.now.net.now c.args.day.now.rows.now) (sym (c.move_clock.ensures.flags))
     (none_concerned c.args.day.now.net.now c.args.day.now.rows.now c.args.change.now (flags_of c.args.priced.now)
     (λ i moves. subst (λ (change : Change). MovesPass change i) c.in-Clock.is moves)
-    (λ a moves. subst (λ (change : Change). MovesCharge c.args.day.now.net.now change a) c.in-Clock.is moves) c.requires.flags)
+    (λ a moves. subst (λ (change : Change). MovesCharge c.args.day.now.net.now (IsOut c.args.day.now.rows.now c.args.priced.now.cancelled) change a) c.in-Clock.is moves) c.requires.flags)
 
 pub returns-in-Passed-clause-flags : goal.returns-in-Passed-clause-flags
 returns-in-Passed-clause-flags g c =
@@ -62,12 +62,15 @@ returns-in-Passed-clause-flags g c =
     let size = c.args.day.now.sized.passed in
     let is_event = event_is_reached c.args.day.now.rows.now c.args.change.now c.requires.reaches c.in-Passed.event _ c.in-Passed.is in
     let below : c.in-Passed.event < length c.args.priced.now.passed = omega arith in
+    let many_cancelled = c.requires.priced.as_many_cancelled in
+    let there : c.in-Passed.event < length c.args.priced.now.cancelled = omega arith in
     let many_fixed = c.requires.priced.live.as_many_fixed in
     let within : c.in-Passed.event < length c.args.priced.now.live.fixed = omega arith in
     set_at c.args.day.now.net.now c.args.day.now.rows.now c.args.change.now c.in-Passed.event
     (λ i moves. subst (λ (change : Change). MovesPass change i) c.in-Passed.is moves)
-    (λ a moves. subst (λ (change : Change). MovesCharge c.args.day.now.net.now change a) c.in-Passed.is moves)
-    (flags_of c.args.priced.now) (flags_of c.turn_event.new.priced) below within c.turn_event.ensures.fixed c.requires.flags c.turn_event.ensures.flags
+    (flags_of c.args.priced.now) (flags_of c.turn_event.new.priced)
+    (λ a moves. subst (λ (change : Change). MovesCharge c.args.day.now.net.now (IsOut c.args.day.now.rows.now c.args.priced.now.cancelled) change a) c.in-Passed.is moves)
+    below there within c.turn_event.ensures.fixed c.requires.flags c.turn_event.ensures.flags
 
 pub returns-in-Recalled-clause-flags : goal.returns-in-Recalled-clause-flags
 returns-in-Recalled-clause-flags g c =
@@ -75,19 +78,23 @@ returns-in-Recalled-clause-flags g c =
     let size = c.args.day.now.sized.passed in
     let is_event = recall_is_reached c.args.day.now.rows.now c.args.change.now c.requires.reaches c.in-Recalled.event c.in-Recalled.is in
     let below : c.in-Recalled.event < length c.args.priced.now.passed = omega arith in
+    let many_cancelled = c.requires.priced.as_many_cancelled in
+    let there : c.in-Recalled.event < length c.args.priced.now.cancelled = omega arith in
     let many_fixed = c.requires.priced.live.as_many_fixed in
     let within : c.in-Recalled.event < length c.args.priced.now.live.fixed = omega arith in
     set_at c.args.day.now.net.now c.args.day.now.rows.now c.args.change.now c.in-Recalled.event
     (λ i moves. subst (λ (change : Change). MovesPass change i) c.in-Recalled.is moves)
-    (λ a moves. subst (λ (change : Change). MovesCharge c.args.day.now.net.now change a) c.in-Recalled.is moves)
-    (flags_of c.args.priced.now) (flags_of c.turn_event-in-Recalled.new.priced) below within c.turn_event-in-Recalled.ensures.fixed c.requires.flags c.turn_event-in-Recalled.ensures.flags
+    (flags_of c.args.priced.now) (flags_of c.turn_event-in-Recalled.new.priced)
+    (λ a moves. subst (λ (change : Change). MovesCharge c.args.day.now.net.now (IsOut c.args.day.now.rows.now c.args.priced.now.cancelled) change a) c.in-Recalled.is moves)
+    below there within c.turn_event-in-Recalled.ensures.fixed c.requires.flags c.turn_event-in-Recalled.ensures.flags
 
 pub returns-in-Flipped-clause-flags : goal.returns-in-Flipped-clause-flags
 returns-in-Flipped-clause-flags g c =
     set_by c.args.day.now.net.now c.args.day.now.rows.now c.args.change.now (c.in-Flipped.flip ∷ [])
     (λ i moves. subst (λ (change : Change). MovesPass change i) c.in-Flipped.is moves)
-    (λ a moves. by_one IsNamed c.in-Flipped.flip a (subst (λ (change : Change). MovesCharge c.args.day.now.net.now change a) c.in-Flipped.is moves))
-    (flags_of c.args.priced.now) (flags_of c.turn_by_flips.new.priced) c.requires.flags c.turn_by_flips.ensures.flags
+    (flags_of c.args.priced.now) (flags_of c.turn_by_flips.new.priced)
+    (λ a moves. by_one IsNamed c.in-Flipped.flip a (subst (λ (change : Change). MovesCharge c.args.day.now.net.now (IsOut c.args.day.now.rows.now c.args.priced.now.cancelled) change a) c.in-Flipped.is moves))
+    c.requires.flags c.turn_by_flips.ensures.flags
 
 pub move_clock-requires-clause-floors : goal.move_clock-requires-clause-floors
 move_clock-requires-clause-floors g c =
@@ -291,3 +298,192 @@ returns-in-Flipped-clause-times g c =
 pub returns-in-Adopted-clause-times : goal.returns-in-Adopted-clause-times
 returns-in-Adopted-clause-times g c =
     on_ok_weaker c.turn_adopted.result (λ same. times_stay (MovesPass c.args.change.now) c.args.priced.now.live.times c.turn_adopted.new.priced.live.times same) c.turn_adopted.ensures.times
+
+pub returns-in-Cancelled-clause-flags : goal.returns-in-Cancelled-clause-flags
+returns-in-Cancelled-clause-flags g c =
+    let many = c.requires.priced.as_many_passed in
+    let size = c.args.day.now.sized.cancelled in
+    let is_event = (cancel_is_reached c.args.day.now.rows.now c.args.change.now c.requires.reaches c.in-Cancelled.event c.in-Cancelled.is).0 in
+    let below : c.in-Cancelled.event < length c.args.priced.now.passed = omega arith in
+    let many_cancelled = c.requires.priced.as_many_cancelled in
+    let there : c.in-Cancelled.event < length c.args.priced.now.cancelled = omega arith in
+    let many_fixed = c.requires.priced.live.as_many_fixed in
+    let within : c.in-Cancelled.event < length c.args.priced.now.live.fixed = omega arith in
+    set_at c.args.day.now.net.now c.args.day.now.rows.now c.args.change.now c.in-Cancelled.event
+    (λ i moves. subst (λ (change : Change). MovesPass change i) c.in-Cancelled.is moves)
+    (flags_of c.args.priced.now) (flags_of c.turn_event-in-Cancelled.new.priced)
+    (λ a moves. subst (λ (change : Change). MovesCharge c.args.day.now.net.now (IsOut c.args.day.now.rows.now c.args.priced.now.cancelled) change a) c.in-Cancelled.is moves)
+    below there within c.turn_event-in-Cancelled.ensures.fixed c.requires.flags c.turn_event-in-Cancelled.ensures.flags
+
+pub returns-in-Restored-clause-flags : goal.returns-in-Restored-clause-flags
+returns-in-Restored-clause-flags g c =
+    let many = c.requires.priced.as_many_passed in
+    let size = c.args.day.now.sized.cancelled in
+    let is_event = restore_is_reached c.args.day.now.rows.now c.args.change.now c.requires.reaches c.in-Restored.event c.in-Restored.is in
+    let below : c.in-Restored.event < length c.args.priced.now.passed = omega arith in
+    let many_cancelled = c.requires.priced.as_many_cancelled in
+    let there : c.in-Restored.event < length c.args.priced.now.cancelled = omega arith in
+    let many_fixed = c.requires.priced.live.as_many_fixed in
+    let within : c.in-Restored.event < length c.args.priced.now.live.fixed = omega arith in
+    set_at c.args.day.now.net.now c.args.day.now.rows.now c.args.change.now c.in-Restored.event
+    (λ i moves. subst (λ (change : Change). MovesPass change i) c.in-Restored.is moves)
+    (flags_of c.args.priced.now) (flags_of c.turn_event-in-Restored.new.priced)
+    (λ a moves. subst (λ (change : Change). MovesCharge c.args.day.now.net.now (IsOut c.args.day.now.rows.now c.args.priced.now.cancelled) change a) c.in-Restored.is moves)
+    below there within c.turn_event-in-Restored.ensures.fixed c.requires.flags c.turn_event-in-Restored.ensures.flags
+
+pub turn_event-requires-in-Cancelled-clause-open : goal.turn_event-requires-in-Cancelled-clause-open
+turn_event-requires-in-Cancelled-clause-open g c =
+    no_other_but c.args.day.now.net.now c.args.day.now.rows.now c.args.change.now c.in-Cancelled.event (flags_of c.args.priced.now)
+    (λ i moves. subst (λ (change : Change). MovesPass change i) c.in-Cancelled.is moves) c.requires.flags
+
+pub turn_event-requires-in-Restored-clause-open : goal.turn_event-requires-in-Restored-clause-open
+turn_event-requires-in-Restored-clause-open g c =
+    no_other_but c.args.day.now.net.now c.args.day.now.rows.now c.args.change.now c.in-Restored.event (flags_of c.args.priced.now)
+    (λ i moves. subst (λ (change : Change). MovesPass change i) c.in-Restored.is moves) c.requires.flags
+
+pub returns-in-Cancelled-clause-follows : goal.returns-in-Cancelled-clause-follows
+returns-in-Cancelled-clause-follows g c =
+    let reached = (cancel_is_reached c.args.day.now.rows.now c.args.change.now c.requires.reaches c.in-Cancelled.event c.in-Cancelled.is).0 in
+    let many = c.args.day.now.sized.cancelled in
+    let size = c.requires.priced.live.sized.floors in
+    let below : c.in-Cancelled.event < length c.args.priced.now.live.given.floors = omega arith in
+    on_ok_weaker c.turn_event-in-Cancelled.result
+    (λ turns. follows_at c.args.day.now.net.now c.args.day.now.rows.now c.args.change.now c.args.priced.now.live c.turn_event-in-Cancelled.new.priced.live c.requires.follows c.in-Cancelled.event
+    (λ b at. subst (λ (change : Change). IsConcerned c.args.day.now.net.now change b) c.in-Cancelled.is at)
+    (λ i at. absurd (subst (λ (change : Change). MovesFloor c.args.day.now.rows.now change i) c.in-Cancelled.is at))
+    (λ a at. subst (λ (change : Change). MovesSpan change a) c.in-Cancelled.is at)
+    below c.turn_event-in-Cancelled.ensures.floors turns)
+    c.turn_event-in-Cancelled.ensures.turned
+
+pub returns-in-Restored-clause-follows : goal.returns-in-Restored-clause-follows
+returns-in-Restored-clause-follows g c =
+    let reached = restore_is_reached c.args.day.now.rows.now c.args.change.now c.requires.reaches c.in-Restored.event c.in-Restored.is in
+    let many = c.args.day.now.sized.cancelled in
+    let size = c.requires.priced.live.sized.floors in
+    let below : c.in-Restored.event < length c.args.priced.now.live.given.floors = omega arith in
+    on_ok_weaker c.turn_event-in-Restored.result
+    (λ turns. follows_at c.args.day.now.net.now c.args.day.now.rows.now c.args.change.now c.args.priced.now.live c.turn_event-in-Restored.new.priced.live c.requires.follows c.in-Restored.event
+    (λ b at. subst (λ (change : Change). IsConcerned c.args.day.now.net.now change b) c.in-Restored.is at)
+    (λ i at. absurd (subst (λ (change : Change). MovesFloor c.args.day.now.rows.now change i) c.in-Restored.is at))
+    (λ a at. subst (λ (change : Change). MovesSpan change a) c.in-Restored.is at)
+    below c.turn_event-in-Restored.ensures.floors turns)
+    c.turn_event-in-Restored.ensures.turned
+
+pub returns-in-Cancelled-clause-followed : goal.returns-in-Cancelled-clause-followed
+returns-in-Cancelled-clause-followed g c =
+    let reached = (cancel_is_reached c.args.day.now.rows.now c.args.change.now c.requires.reaches c.in-Cancelled.event c.in-Cancelled.is).0 in
+    let many = c.args.day.now.sized.cancelled in
+    let size = c.requires.priced.live.sized.floors in
+    let below : c.in-Cancelled.event < length c.args.priced.now.live.given.floors = omega arith in
+    on_err_weaker c.turn_event-in-Cancelled.result
+    (λ refused. followed_at c.args.day.now.net.now c.args.day.now.rows.now c.args.change.now c.args.priced.now.live c.turn_event-in-Cancelled.new.priced.live c.requires.follows c.in-Cancelled.event
+    (λ b at. subst (λ (change : Change). IsConcerned c.args.day.now.net.now change b) c.in-Cancelled.is at)
+    (λ b at. subst (λ (change : Change). IsConcerned c.args.day.now.net.now change b) (sym c.in-Cancelled.is) at)
+    (λ i at. absurd (subst (λ (change : Change). MovesFloor c.args.day.now.rows.now change i) c.in-Cancelled.is at))
+    below c.turn_event-in-Cancelled.ensures.floors refused)
+    c.turn_event-in-Cancelled.ensures.refused
+
+pub returns-in-Restored-clause-followed : goal.returns-in-Restored-clause-followed
+returns-in-Restored-clause-followed g c =
+    let reached = restore_is_reached c.args.day.now.rows.now c.args.change.now c.requires.reaches c.in-Restored.event c.in-Restored.is in
+    let many = c.args.day.now.sized.cancelled in
+    let size = c.requires.priced.live.sized.floors in
+    let below : c.in-Restored.event < length c.args.priced.now.live.given.floors = omega arith in
+    on_err_weaker c.turn_event-in-Restored.result
+    (λ refused. followed_at c.args.day.now.net.now c.args.day.now.rows.now c.args.change.now c.args.priced.now.live c.turn_event-in-Restored.new.priced.live c.requires.follows c.in-Restored.event
+    (λ b at. subst (λ (change : Change). IsConcerned c.args.day.now.net.now change b) c.in-Restored.is at)
+    (λ b at. subst (λ (change : Change). IsConcerned c.args.day.now.net.now change b) (sym c.in-Restored.is) at)
+    (λ i at. absurd (subst (λ (change : Change). MovesFloor c.args.day.now.rows.now change i) c.in-Restored.is at))
+    below c.turn_event-in-Restored.ensures.floors refused)
+    c.turn_event-in-Restored.ensures.refused
+
+pub returns-in-Cancelled-clause-cycle : goal.returns-in-Cancelled-clause-cycle
+returns-in-Cancelled-clause-cycle g c =
+    on_err_weaker c.turn_event-in-Cancelled.result
+    (λ refused. cycle_at c.args.day.now.net.now c.args.day.now.rows.now c.args.change.now c.args.priced.now.live c.turn_event-in-Cancelled.new.priced.live c.requires.follows (LeadsAt c.args.day.now.net.now c.in-Cancelled.event)
+    (λ b at. subst (λ (change : Change). IsConcerned c.args.day.now.net.now change b) c.in-Cancelled.is at) refused)
+    c.turn_event-in-Cancelled.ensures.refused
+
+pub returns-in-Restored-clause-cycle : goal.returns-in-Restored-clause-cycle
+returns-in-Restored-clause-cycle g c =
+    on_err_weaker c.turn_event-in-Restored.result
+    (λ refused. cycle_at c.args.day.now.net.now c.args.day.now.rows.now c.args.change.now c.args.priced.now.live c.turn_event-in-Restored.new.priced.live c.requires.follows (LeadsAt c.args.day.now.net.now c.in-Restored.event)
+    (λ b at. subst (λ (change : Change). IsConcerned c.args.day.now.net.now change b) c.in-Restored.is at) refused)
+    c.turn_event-in-Restored.ensures.refused
+
+pub returns-in-Cancelled-clause-cycle_stays : goal.returns-in-Cancelled-clause-cycle_stays
+returns-in-Cancelled-clause-cycle_stays g c =
+    on_ok_weaker c.turn_event-in-Cancelled.result (λ turns. turns.cycle) c.turn_event-in-Cancelled.ensures.turned
+
+pub returns-in-Restored-clause-cycle_stays : goal.returns-in-Restored-clause-cycle_stays
+returns-in-Restored-clause-cycle_stays g c =
+    on_ok_weaker c.turn_event-in-Restored.result (λ turns. turns.cycle) c.turn_event-in-Restored.ensures.turned
+
+pub returns-in-Cancelled-clause-times : goal.returns-in-Cancelled-clause-times
+returns-in-Cancelled-clause-times g c =
+    on_ok_weaker c.turn_event-in-Cancelled.result
+    (λ keeps. times_but (λ (e : ℕ). e ≡ c.in-Cancelled.event) (MovesPass c.args.change.now) c.args.priced.now.live.times c.turn_event-in-Cancelled.new.priced.live.times
+    (λ i at. subst (λ (change : Change). MovesPass change i) (sym c.in-Cancelled.is) at) keeps)
+    c.turn_event-in-Cancelled.ensures.times
+
+pub returns-in-Restored-clause-times : goal.returns-in-Restored-clause-times
+returns-in-Restored-clause-times g c =
+    on_ok_weaker c.turn_event-in-Restored.result
+    (λ keeps. times_but (λ (e : ℕ). e ≡ c.in-Restored.event) (MovesPass c.args.change.now) c.args.priced.now.live.times c.turn_event-in-Restored.new.priced.live.times
+    (λ i at. subst (λ (change : Change). MovesPass change i) (sym c.in-Restored.is) at) keeps)
+    c.turn_event-in-Restored.ensures.times
+
+pub returns-in-Cancelled-clause-marks : goal.returns-in-Cancelled-clause-marks
+returns-in-Cancelled-clause-marks g c =
+    let rows = c.args.day.now.rows.now in
+    let reached = cancel_is_reached rows c.args.change.now c.requires.reaches c.in-Cancelled.event c.in-Cancelled.is in
+    let runs = reached.1 in
+    subst (λ (change : Change). OnOk c.turn_event-in-Cancelled.result (MarksFor c.args.day.now.net.now rows change c.args.priced.now.live
+    c.turn_event-in-Cancelled.new.priced.live c.args.steps.now c.turn_event-in-Cancelled.new.steps))
+    (sym c.in-Cancelled.is) (on_ok_weaker c.turn_event-in-Cancelled.result (λ taken. taken runs) c.turn_event-in-Cancelled.ensures.cancelled)
+
+pub returns-in-Locked-clause-follows : goal.returns-in-Locked-clause-follows
+returns-in-Locked-clause-follows g c =
+    follows_still c.args.day.now.net.now c.args.day.now.rows.now c.args.change.now c.args.priced.now.live.given c.requires.follows
+    (λ b at. subst (λ (change : Change). IsConcerned c.args.day.now.net.now change b) c.in-Locked.is at)
+    (λ i at. subst (λ (change : Change). MovesFloor c.args.day.now.rows.now change i) c.in-Locked.is at)
+    (λ a at. subst (λ (change : Change). MovesSpan change a) c.in-Locked.is at)
+
+pub returns-in-Locked-clause-flags : goal.returns-in-Locked-clause-flags
+returns-in-Locked-clause-flags g c =
+    none_concerned c.args.day.now.net.now c.args.day.now.rows.now c.args.change.now (flags_of c.args.priced.now)
+    (λ i moves. subst (λ (change : Change). MovesPass change i) c.in-Locked.is moves)
+    (λ a moves. subst (λ (change : Change). MovesCharge c.args.day.now.net.now (IsOut c.args.day.now.rows.now c.args.priced.now.cancelled) change a) c.in-Locked.is moves)
+    c.requires.flags
+
+pub returns-in-Locked-clause-marks : goal.returns-in-Locked-clause-marks
+returns-in-Locked-clause-marks g c =
+    subst (λ (change : Change). MarksFor c.args.day.now.net.now c.args.day.now.rows.now change c.args.priced.now.live c.args.priced.now.live c.args.steps.now c.args.steps.now)
+    (sym c.in-Locked.is) (marks_none c.args.priced.now.live c.args.steps.now)
+
+pub returns-in-Locked-clause-times : goal.returns-in-Locked-clause-times
+returns-in-Locked-clause-times g c =
+    times_stay (MovesPass c.args.change.now) c.args.priced.now.live.times c.args.priced.now.live.times refl
+
+pub returns-in-Unlocked-clause-follows : goal.returns-in-Unlocked-clause-follows
+returns-in-Unlocked-clause-follows g c =
+    follows_still c.args.day.now.net.now c.args.day.now.rows.now c.args.change.now c.args.priced.now.live.given c.requires.follows
+    (λ b at. subst (λ (change : Change). IsConcerned c.args.day.now.net.now change b) c.in-Unlocked.is at)
+    (λ i at. subst (λ (change : Change). MovesFloor c.args.day.now.rows.now change i) c.in-Unlocked.is at)
+    (λ a at. subst (λ (change : Change). MovesSpan change a) c.in-Unlocked.is at)
+
+pub returns-in-Unlocked-clause-flags : goal.returns-in-Unlocked-clause-flags
+returns-in-Unlocked-clause-flags g c =
+    none_concerned c.args.day.now.net.now c.args.day.now.rows.now c.args.change.now (flags_of c.args.priced.now)
+    (λ i moves. subst (λ (change : Change). MovesPass change i) c.in-Unlocked.is moves)
+    (λ a moves. subst (λ (change : Change). MovesCharge c.args.day.now.net.now (IsOut c.args.day.now.rows.now c.args.priced.now.cancelled) change a) c.in-Unlocked.is moves)
+    c.requires.flags
+
+pub returns-in-Unlocked-clause-marks : goal.returns-in-Unlocked-clause-marks
+returns-in-Unlocked-clause-marks g c =
+    subst (λ (change : Change). MarksFor c.args.day.now.net.now c.args.day.now.rows.now change c.args.priced.now.live c.args.priced.now.live c.args.steps.now c.args.steps.now)
+    (sym c.in-Unlocked.is) (marks_none c.args.priced.now.live c.args.steps.now)
+
+pub returns-in-Unlocked-clause-times : goal.returns-in-Unlocked-clause-times
+returns-in-Unlocked-clause-times g c =
+    times_stay (MovesPass c.args.change.now) c.args.priced.now.live.times c.args.priced.now.live.times refl

@@ -7,8 +7,8 @@ use Rattle.dm_propagate.proofs.changing.turn_adopted.Goals as goal
 
 pub returns-clause-flags : goal.returns-clause-flags
 returns-clause-flags g c =
-    set_by c.args.day.now.net.now c.args.day.now.rows.now (Adopted c.args.flips.now) c.args.flips.now (λ i moves. moves) (λ a moves. moves)
-    (flags_of c.args.priced.now) (flags_of c.turn_by_flips.new.priced) c.requires.flags c.turn_by_flips.ensures.flags
+    set_by c.args.day.now.net.now c.args.day.now.rows.now (Adopted c.args.flips.now) c.args.flips.now (λ i moves. moves)
+    (flags_of c.args.priced.now) (flags_of c.turn_by_flips.new.priced) (λ a moves. moves) c.requires.flags c.turn_by_flips.ensures.flags
 
 pub turn_by_flips-requires-clause-open : goal.turn_by_flips-requires-clause-open
 turn_by_flips-requires-clause-open g c =

@@ -43,6 +43,8 @@ returns-clause-flags g c = record {
       ∙ ap (λ (l : LiveValue). l.fixed) c.charge_by_flips.ensures.live;
   passed = ap (λ (f : FlagsValue). f.passed) c.take_up_by_flips.ensures.flags ∙ ap (λ (f : FlagsValue). f.passed) c.let_go_by_flips.ensures.flags
       ∙ c.charge_by_flips.ensures.passed;
+  cancelled = ap (λ (f : FlagsValue). f.cancelled) c.take_up_by_flips.ensures.flags ∙ ap (λ (f : FlagsValue). f.cancelled) c.let_go_by_flips.ensures.flags
+      ∙ c.charge_by_flips.ensures.cancelled;
   charged = subst (λ (fs : List Bool). Charges c.args.day.now.net.now c.args.day.now.rows.now (IsOfOneBefore IsNamed c.args.flips.now (length c.args.flips.now)) c.args.priced.now.charged fs)
       (sym (ap (λ (f : FlagsValue). f.charged) c.take_up_by_flips.ensures.flags ∙ ap (λ (f : FlagsValue). f.charged) c.let_go_by_flips.ensures.flags))
       c.charge_by_flips.ensures.charged;

@@ -10,7 +10,7 @@ use Rattle.dm_propagate.specs.Inside.Concern.{LeadsAt}
 use Rattle.dm_propagate.specs.Inside.Turning.{Within, LetsGo}
 use Rattle.dm_propagate.specs.Inside.Changing.{HasPlace}
 use Rattle.dm_propagate.specs.Inside.Noting.{KeepsTimesBut}
-use Rattle.dm_propagate.proofs.Turned.{IsOutcome, gone_from, outcome, has_passed}
+use Rattle.dm_propagate.proofs.Turned.{IsOutcome, gone_from, outcome, has_passed, taken_out}
 use Rattle.dm_propagate.proofs.changing.turn_event.Given as given
 use Rattle.dm_propagate.proofs.changing.turn_event.Goals as goal
 
@@ -65,6 +65,20 @@ returns-clause-passed g c =
     taken)
     c.take_up_around.ensures.taken
 
+pub returns-clause-cancelled : goal.returns-clause-cancelled
+returns-clause-cancelled g c =
+    let many = c.let_go_around.ensures.priced.live.marked.as_many_marks in
+    let event = c.requires.is_event in
+    let below : c.args.event < length c.let_go_around.new.priced.live.marks = omega arith in
+    let rows_read : c.out_row-out.new.steps ≡ c.args.steps.now + 2 = omega arith in
+    on_ok_weaker c.take_up_around.result
+    (λ taken runs out. taken_out c.args.day.now.net.now c.args.day.now.rows.now c.args.event runs out c.args.priced.now.live c.let_go_around.new.priced.live (gone g c)
+    c.set_place.new.priced.live c.take_up_around.new.priced.live c.args.steps.now c.set_place.new.steps below
+    (subst (λ (n : ℕ). HasPlace c.args.day.now.net.now c.args.day.now.rows.now c.args.event c.let_go_around.new.priced.live c.set_place.new.priced.live n c.set_place.new.steps)
+    rows_read c.set_place.ensures.place)
+    taken)
+    c.take_up_around.ensures.taken
+
 pub take_up_around-requires-clause-open : goal.take_up_around-requires-clause-open
 take_up_around-requires-clause-open g c =
     let event = c.args.event in
@@ -92,6 +106,8 @@ returns-clause-flags g c =
     flags_kept c.args.day.now.net.now c.args.day.now.rows.now c.args.event (flags_of c.args.priced.now) (flags_of c.set_flags_at.new.priced) (flags_of c.take_up_around.new.priced)
     (ap (λ (f : FlagsValue). f.passed) c.take_up_around.ensures.flags ∙ ap (λ (f : FlagsValue). f.passed) c.set_place.ensures.flags
     ∙ ap (λ (f : FlagsValue). f.passed) c.let_go_around.ensures.flags)
+    (ap (λ (f : FlagsValue). f.cancelled) c.take_up_around.ensures.flags ∙ ap (λ (f : FlagsValue). f.cancelled) c.set_place.ensures.flags
+    ∙ ap (λ (f : FlagsValue). f.cancelled) c.let_go_around.ensures.flags)
     (ap (λ (f : FlagsValue). f.charged) c.take_up_around.ensures.flags ∙ ap (λ (f : FlagsValue). f.charged) c.set_place.ensures.flags
     ∙ ap (λ (f : FlagsValue). f.charged) c.let_go_around.ensures.flags)
     c.set_flags_at.ensures.flags

@@ -9,7 +9,8 @@ loop-flip-preserved c = (
   c.charge_by_flip.ensures.priced,
   c.charge_by_flip.ensures.live ∙ c.loop-flip.invariant.1,
   c.charge_by_flip.ensures.passed ∙ c.loop-flip.invariant.2,
+  c.charge_by_flip.ensures.cancelled ∙ c.loop-flip.invariant.3,
   next_flip_charged c.args.day.now.net.now c.args.day.now.rows.now c.args.flips.now c.loop-flip.flip-index (get_or c.args.flips.now c.loop-flip.flip-index (Keep 0))
       (slice_get-get_or c.args.flips.now c.loop-flip.flip-index (Keep 0) (omega arith)) c.args.priced.now.charged c.loop-flip.priced.charged
-      c.charge_by_flip.new.priced.charged c.loop-flip.invariant.3 c.charge_by_flip.ensures.charged,
+      c.charge_by_flip.new.priced.charged c.loop-flip.invariant.4 c.charge_by_flip.ensures.charged,
 )

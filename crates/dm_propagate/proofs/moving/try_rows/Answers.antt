@@ -5,15 +5,16 @@ use Rattle.dm_propagate.specs.Inside.Altering.{change_in}
 use Rattle.dm_propagate.specs.Inside.Concern.{FollowsBut}
 use Rattle.dm_propagate.proofs.AtClock.{other_at_clock, rows_at_clock}
 use Rattle.dm_propagate.proofs.Concerning.{follows_but_after, follows_but_before}
-use Rattle.dm_propagate.specs.Inside.Flags.{flags_of, AreFlagsBut}
-use Rattle.dm_propagate.proofs.Flagging.{but_where_right, flags_but_after, flags_but_before}
+use Rattle.dm_propagate.specs.Inside.Flags.{flags_of, AreFlagsOf, AreFlagsBut}
+use Rattle.dm_propagate.proofs.Flagging.{flags_but_after, flags_but_before}
 use Rattle.dm_propagate.proofs.Following.{follows_least, follows_no_cycle, one_least}
-use Rattle.dm_propagate.proofs.Reaching.{reaches_alike}
+use Rattle.dm_propagate.proofs.Reaching.{reaches_alike, cancel_keeps_passed}
 use Rattle.dm_propagate.proofs.moving.try_rows.Goals as goal
 
 pub turn_to-outcome-requires-clause-reaches : goal.turn_to-outcome-requires-clause-reaches
 turn_to-outcome-requires-clause-reaches g c =
-    reaches_alike c.args.day.now.net.now c.args.day.now.rows.now c.args.other.now c.args.day.now.sized c.requires.other_sized (change_in c.args.what.now) c.requires.reaches
+    reaches_alike c.args.day.now.net.now c.args.day.now.rows.now c.args.other.now c.args.day.now.sized c.requires.other_sized (change_in c.args.what.now)
+    (cancel_keeps_passed c.args.day.now.rows.now c.args.other.now (change_in c.args.what.now) c.requires.other) c.requires.reaches
 
 pub turn_to-outcome-requires-clause-follows : goal.turn_to-outcome-requires-clause-follows
 turn_to-outcome-requires-clause-follows g c =
@@ -44,13 +45,12 @@ returns-clause-no_cycle g c =
 pub turn_to-outcome-requires-clause-flags : goal.turn_to-outcome-requires-clause-flags
 turn_to-outcome-requires-clause-flags g c =
     subst (λ (rows : RowsValue). AreFlagsBut c.args.day.now.net.now rows (change_in c.args.what.now) (flags_of c.args.priced.now)) (sym c.requires.other)
-    (flags_but_after c.args.day.now.net.now c.args.day.now.rows.now (change_in c.args.what.now) (flags_of c.args.priced.now) c.requires.flags)
+    (flags_but_after c.args.day.now.net.now c.reveal.ensures.network.formed.ends_are_known c.args.day.now.rows.now (change_in c.args.what.now) (flags_of c.args.priced.now) c.requires.flags)
 
 pub come_back-requires-clause-flags : goal.come_back-requires-clause-flags
 come_back-requires-clause-flags g c =
-    flags_but_before c.args.day.now.net.now c.args.day.now.rows.now (change_in c.args.what.now) (flags_of c.turn_to-outcome.new.priced)
-    (subst (λ (rows : RowsValue). AreFlagsBut c.args.day.now.net.now rows (change_in c.args.what.now) (flags_of c.turn_to-outcome.new.priced)) c.requires.other
-    (but_where_right c.args.day.now.net.now c.args.other.now (change_in c.args.what.now) (flags_of c.turn_to-outcome.new.priced) c.turn_to-outcome.ensures.flags))
+    flags_but_before c.args.day.now.net.now c.reveal.ensures.network.formed.ends_are_known c.args.day.now.rows.now (change_in c.args.what.now) (flags_of c.turn_to-outcome.new.priced)
+    (subst (λ (rows : RowsValue). AreFlagsOf c.args.day.now.net.now rows (flags_of c.turn_to-outcome.new.priced)) c.requires.other c.turn_to-outcome.ensures.flags)
 
 pub turn_to-outcome-requires-clause-clock : goal.turn_to-outcome-requires-clause-clock
 turn_to-outcome-requires-clause-clock g c =

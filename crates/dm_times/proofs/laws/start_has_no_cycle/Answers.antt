@@ -1,5 +1,5 @@
-use Rattle.dm_times.proofs.Meeting.{start_has_no_cycle}
+use Rattle.dm_times.proofs.Meeting.{starts_have_no_cycle}
 use Rattle.dm_times.proofs.laws.start_has_no_cycle.Goals as goal
 
 pub returns : goal.returns
-returns c = start_has_no_cycle
+returns c = starts_have_no_cycle

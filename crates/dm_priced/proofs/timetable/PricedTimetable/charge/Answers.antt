@@ -5,14 +5,14 @@ use Rattle.dm_priced.proofs.timetable.PricedTimetable.charge.Goals as goal
 
 pub overflow_sub-self : goal.overflow_sub-self
 overflow_sub-self c =
-    charge_holds c.args.net.now (record { live = c.self.inside.live; passed = c.self.inside.passed.items; beside = c.self.inside.beside.items; charged = c.self.inside.charged.items; sums = record { lateness = c.self.inside.lateness; charged = c.self.inside.charged_weight; missed = c.self.inside.missed_weight } })
+    charge_holds c.args.net.now (record { live = c.self.inside.live; passed = c.self.inside.passed.items; cancelled = c.self.inside.cancelled.items; beside = c.self.inside.beside.items; charged = c.self.inside.charged.items; sums = record { lateness = c.self.inside.lateness; charged = c.self.inside.charged_weight; missed = c.self.inside.missed_weight } })
     (subst (IsPriced c.args.net.now) (sym c.self.view_is) c.requires.priced) c.args.a c.args.charged c.is_charged.result c.requires.is_activity c.activity.result.now
     c.weight_if-before.result c.weight_if-after.result c.activity.ensures (subst (λ (v : PricedValue). c.is_charged.result ≡ is_flagged v.charged c.args.a) (sym c.self.view_is) c.is_charged.ensures)
     c.weight_if-before.ensures c.weight_if-after.ensures
 
 pub returns-clause-priced : goal.returns-clause-priced
 returns-clause-priced c =
-    charge_is_priced c.args.net.now (record { live = c.self.inside.live; passed = c.self.inside.passed.items; beside = c.self.inside.beside.items; charged = c.self.inside.charged.items; sums = record { lateness = c.self.inside.lateness; charged = c.self.inside.charged_weight; missed = c.self.inside.missed_weight } })
+    charge_is_priced c.args.net.now (record { live = c.self.inside.live; passed = c.self.inside.passed.items; cancelled = c.self.inside.cancelled.items; beside = c.self.inside.beside.items; charged = c.self.inside.charged.items; sums = record { lateness = c.self.inside.lateness; charged = c.self.inside.charged_weight; missed = c.self.inside.missed_weight } })
     (subst (IsPriced c.args.net.now) (sym c.self.view_is) c.requires.priced) c.args.a c.args.charged c.is_charged.result c.requires.is_activity c.activity.result.now
     c.weight_if-before.result c.weight_if-after.result c.activity.ensures (subst (λ (v : PricedValue). c.is_charged.result ≡ is_flagged v.charged c.args.a) (sym c.self.view_is) c.is_charged.ensures)
     c.weight_if-before.ensures c.weight_if-after.ensures

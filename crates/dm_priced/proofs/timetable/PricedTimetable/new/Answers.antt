@@ -5,8 +5,8 @@ use Rattle.dm_priced.proofs.timetable.PricedTimetable.new.Goals as goal
 
 pub returns-clause-priced : goal.returns-clause-priced
 returns-clause-priced c =
-    new_is_priced c.args.net.now c.args.live c.in_ok-passed.passed.items c.in_ok-beside.beside.items c.in_ok-charged.charged.items c.lateness_of-lateness.result c.times-2.result.now
-    c.requires (search rules) (search rules) (search rules) c.lateness_of-lateness.ensures c.times-2.ensures
+    new_is_priced c.args.net.now c.args.live c.in_ok-passed.passed.items c.in_ok-cancelled.cancelled.items c.in_ok-beside.beside.items c.in_ok-charged.charged.items c.lateness_of-lateness.result c.times-2.result.now
+    c.requires (search rules) (search rules) (search rules) (search rules) c.lateness_of-lateness.ensures c.times-2.ensures
 
 pub invariant_of-result : goal.invariant_of-result
 invariant_of-result c =

@@ -1,8 +1,9 @@
-use Rattle.std.proofs.Common.{replicate, false, ap, ◌∙◌, sym, arith}
+use Rattle.std.proofs.Common.{◌≡◌, length, replicate, false, ap, subst, ◌∙◌, sym, arith}
 use Rattle.dm_propagate.specs.Engine.{EngineValue, times_of}
 use Rattle.dm_propagate.proofs.Following.{engine_least}
 use Rattle.dm_rows.specs.History.{rows_at}
-use Rattle.dm_table.proofs.Kept.{kept_still}
+use Rattle.dm_table.proofs.Kept.{kept_still, first_rows_sized}
+use Rattle.dm_table.specs.Value.{TableValue}
 use Rattle.dm_table.proofs.Noting.{noted_anew}
 use Rattle.dm_table.proofs.table.Table.follow_times.Goals as goal
 
@@ -22,3 +23,13 @@ invariant_of-self c =
       c.self.invariant.2,
       c.self.invariant.3,
     )
+
+pub follow-requires-clause-as_many_flags : goal.follow-requires-clause-as_many_flags
+follow-requires-clause-as_many_flags c =
+    let t = c.self.inside in
+    let kept = c.self.invariant.0 in
+    let flags = subst (λ (v : TableValue). c.args.cancelled.now ≡ (rows_at v.network v.start v.history c.args.shown).cancelled) (sym c.self.view_is)
+    c.requires.flags in
+    let least = engine_least t.net.now t.engine c.reveal.ensures.network.formed.ends_are_known kept.is_engine in
+    ap length flags ∙ (first_rows_sized t.net.now t.start t.history.entries c.args.shown kept.sized).cancelled
+    ∙ sym (ap length c.times.ensures ∙ least.meets.size)

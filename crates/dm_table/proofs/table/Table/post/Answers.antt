@@ -20,10 +20,10 @@ invariant_of-self g c =
       subst (λ (h : List Entry). IsKept t.net.now t.start t.penalty h c.enter-entered.new.engine) (sym (ap (λ (h : HistoryValue). h.entries) c.push.ensures))
           (kept_next t.net.now t.start t.penalty t.history.entries t.engine c.self.invariant.0 c.args.entry accepted c.enter-entered.new.engine
           c.in-Ok.ensures.engine c.in-Ok.ensures.rows),
-      subst (λ (h : List Entry). AreNoted t.net.now t.start h t.since c.enter-entered.new.engine.moved.flags (times_of c.enter-entered.new.engine))
+      subst (λ (h : List Entry). AreNoted t.net.now t.start h t.since c.enter-entered.new.engine.moved.flags c.enter-entered.new.engine.rows (times_of c.enter-entered.new.engine))
           (sym (ap (λ (h : HistoryValue). h.entries) c.push.ensures))
-          (noted_next t.net.now t.start t.history.entries t.since t.engine.moved.flags (times_of t.engine) c.self.invariant.1 c.args.entry
-          c.enter-entered.new.engine.moved.flags (times_of c.enter-entered.new.engine) c.in-Ok.ensures.moved),
+          (noted_next t.net.now t.start t.history.entries t.since t.engine.moved.flags t.engine.rows (times_of t.engine) c.self.invariant.1 c.args.entry
+          c.enter-entered.new.engine.moved.flags c.enter-entered.new.engine.rows (times_of c.enter-entered.new.engine) c.in-Ok.ensures.moved c.in-Ok.ensures.cancelled),
       c.in-Ok.ensures.empty,
       omega (arith, c.self.invariant.3, c.in-Ok.ensures.room),
     )
