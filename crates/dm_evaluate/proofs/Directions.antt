@@ -21,6 +21,7 @@ pub record IsSettledFrom (turned after : PricedValue) : Type 0 where
   pub cycle : after.live.order.cycle ≡ turned.live.order.cycle
   pub fixed : after.live.fixed ≡ turned.live.fixed
   pub passed : after.passed ≡ turned.passed
+  pub cancelled : after.cancelled ≡ turned.cancelled
   pub charged : after.charged ≡ turned.charged
 
 pub settled_from : (turned after : PricedValue) →
@@ -32,6 +33,7 @@ settled_from turned after is = record {
   cycle = ap (λ (v : PricedValue). v.live.order.cycle) is;
   fixed = ap (λ (v : PricedValue). v.live.fixed) is;
   passed = ap (λ (v : PricedValue). v.passed) is;
+  cancelled = ap (λ (v : PricedValue). v.cancelled) is;
   charged = ap (λ (v : PricedValue). v.charged) is;
 }
 
@@ -76,6 +78,7 @@ module _ (net : Net) (p tail : ℕ) (row : List ℕ) (row_is : row ≡ places_ou
         ];
     charged = λ b below. ap (λ (c : List Bool). is_held c b) (settled.charged ∙ turns.keeps.charged);
     passed = settled.passed ∙ turns.keeps.passed;
+    cancelled = settled.cancelled ∙ turns.keeps.cancelled;
     fixed = settled.fixed ∙ turns.keeps.fixed;
     floors = settled.floors ∙ turns.keeps.floors;
     spans = settled.spans ∙ turns.keeps.spans;
@@ -94,6 +97,7 @@ module _ (net : Net) (p tail : ℕ) (row : List ℕ) (row_is : row ≡ places_ou
           ];
       charged = λ b below. ap (λ (c : List Bool). is_held c b) (settled.charged ∙ turns.keeps.charged ∙ is.keeps.charged);
       passed = settled.passed ∙ turns.keeps.passed ∙ is.keeps.passed;
+      cancelled = settled.cancelled ∙ turns.keeps.cancelled ∙ is.keeps.cancelled;
       fixed = settled.fixed ∙ turns.keeps.fixed ∙ is.keeps.fixed;
       floors = settled.floors ∙ turns.keeps.floors ∙ is.keeps.floors;
       spans = settled.spans ∙ turns.keeps.spans ∙ is.keeps.spans;

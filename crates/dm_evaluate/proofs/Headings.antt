@@ -24,7 +24,7 @@ among_before row n b (k, lt, is) = (k, omega arith, is)
 
 module _ (net : Net) (p : ℕ) where
   keeps_all : (among : ℕ → Type 0) (priced : PricedValue) → KeepsBut net p among priced priced
-  keeps_all among priced = record { same = λ b. inl refl; floors = refl; spans = refl; times = refl; fixed = refl; passed = refl; charged = refl }
+  keeps_all among priced = record { same = λ b. inl refl; floors = refl; spans = refl; times = refl; fixed = refl; passed = refl; cancelled = refl; charged = refl }
 
   keeps_then : (P Q R : ℕ → Type 0) (one two three : PricedValue) → ((b : ℕ) → P b → R b) → ((b : ℕ) → Q b → R b) →
       KeepsBut net p P one two → KeepsBut net p Q two three → KeepsBut net p R one three
@@ -38,6 +38,7 @@ module _ (net : Net) (p : ℕ) where
     times = k.times ∙ h.times;
     fixed = k.fixed ∙ h.fixed;
     passed = k.passed ∙ h.passed;
+    cancelled = k.cancelled ∙ h.cancelled;
     charged = k.charged ∙ h.charged;
   }
 
@@ -101,6 +102,7 @@ module _ (net : Net) (p : ℕ) where
           times = times;
           fixed = fixed;
           passed = ap (λ (v : PricedValue). v.passed) others;
+          cancelled = ap (λ (v : PricedValue). v.cancelled) others;
           charged = ap (λ (v : PricedValue). v.charged) others;
         };
         done = λ b is mine. held b ∙ set_on now.live.given.held a b value is below;
@@ -117,6 +119,7 @@ module _ (net : Net) (p : ℕ) where
       times = ap (λ (v : LiveValue). v.times) live;
       fixed = ap (λ (v : LiveValue). v.fixed) live;
       passed = ap (λ (v : PricedValue). v.passed) others;
+      cancelled = ap (λ (v : PricedValue). v.cancelled) others;
       charged = ap (λ (v : PricedValue). v.charged) others;
     };
     flags = slice_set now.live.given.held a true;

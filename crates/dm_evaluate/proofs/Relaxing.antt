@@ -7,7 +7,7 @@ use Rattle.dm_priced.specs.Priced.{PricedValue, priced_cost}
 use Rattle.dm_priced.proofs.Pricing.{costs_as_charged}
 use Rattle.dm_rows.specs.declared.messages.Decision.{Decision}
 use Rattle.dm_rows.specs.Decide.{with_decisions}
-use Rattle.dm_rows.specs.Relax.{is_relaxed_active, is_relaxed_dropped}
+use Rattle.dm_rows.specs.Relax.{is_relaxed_active, is_relaxed_lost}
 use Rattle.dm_rows.specs.Rows.{RowsValue}
 use Rattle.dm_rows.proofs.AsGraph.{relaxed_enter_no_passed}
 use Rattle.dm_times.specs.Constraints.{AreConstraintsHolding}
@@ -31,7 +31,7 @@ module _ (net : Net) (rows : RowsValue) (path : List Decision) (priced : PricedV
 
   pub relaxed_cost : EndsAreKnown net → (penalty : ℕ) → priced_cost net priced penalty ≡ relaxed_cost_of net rows path priced.live.times penalty
   relaxed_cost known penalty =
-      costs_as_charged net (with_decisions net rows path) (is_relaxed_dropped net rows path) priced known evaluates.price penalty
+      costs_as_charged net (with_decisions net rows path) (is_relaxed_lost net rows path) priced known evaluates.price penalty
 
   pub no_relaxed_cycle : HasNoRelaxedCycle net rows path
   no_relaxed_cycle =

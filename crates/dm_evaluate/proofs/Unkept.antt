@@ -4,13 +4,14 @@ use Rattle.std.specs.Prelude.{◌==◌}
 use Rattle.std.specs.List.{range_with_len}
 use Rattle.std.proofs.lemmas.Bool.{cases_lt, and_parts, and_from, eq-eqb, eqb-true, both_ways}
 use Rattle.std.proofs.lemmas.List.{get_or_past}
-use Rattle.dm_network.specs.Net.{Net, activity_at, pair_at, is_change}
+use Rattle.dm_network.specs.Net.{Net, activity_at, pair_at}
 use Rattle.dm_rows.specs.Cost.{comes_too_early}
 use Rattle.dm_rows.specs.Decide.{with_decisions, is_free_change}
 use Rattle.dm_rows.specs.Relax.{is_of_pair, is_unmet_from, has_unmet_from, is_undecided_change, is_undecided_pair}
 use Rattle.dm_rows.specs.Rows.{RowsValue}
 use Rattle.dm_rows.specs.Timetable.{span_of}
 use Rattle.dm_paths.proofs.Agreeing.{passes_one, span_same}
+use Rattle.dm_tree.proofs.Freed.{free_change_is}
 use Rattle.dm_paths.proofs.Setting.{differs_in_none, differs_with}
 use Rattle.dm_priced.specs.Priced.{is_flagged}
 use Rattle.dm_priced.specs.Priced as priced
@@ -95,7 +96,7 @@ module _ (net : Net) (e : EvaluatorValue) (is : IsEvaluatorOf net e) where
     each = λ a on early.
         let f = flagged_below (is_undecided_change net e.rows e.path) (length net.activities) e.changes is.changes a on in
         let free = (and_parts (is_free_change net e.rows a) _ f.1).0 in
-        let change = (and_parts (is_change (activity_at net a).kind) _ free).0 in
+        let change = (free_change_is net e.rows a free).change in
         is.marked.changes a f.0 change (early_same net e.rows e.priced.live.given.spans (times_of e) spans_are a f.0 ∙ early);
   }
 

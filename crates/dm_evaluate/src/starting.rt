@@ -3,10 +3,10 @@ ghost use Rattle.std.specs.Prelude.{ℕ, ◌≡◌, ◌<◌, false, [], length, 
 ghost use Rattle.dm_live.specs.Live.{IsAtRest};
 ghost use Rattle.dm_order.specs.Orders.{IsOrderOf};
 ghost use Rattle.dm_priced.specs.Priced.{IsPriced, is_flagged};
-ghost use Rattle.dm_rows.specs.Relax.{is_relaxed_active};
+ghost use Rattle.dm_rows.specs.Relax.{is_relaxed_active, is_relaxed_lost};
 ghost use Rattle.dm_rows.specs.Rows.{IsSized};
 ghost use Rattle.dm_times.specs.Faults.{RefusesHolding};
-ghost use Rattle.dm_evaluate.specs.Inside.Starting.{IsHeldToRoot, HasRootCycle, IsRoot, HasPassedTo};
+ghost use Rattle.dm_evaluate.specs.Inside.Starting.{IsHeldToRoot, HasRootCycle, IsRoot, HasPassedTo, HasCancelledTo, ChargesLostTo};
 
 use dm_base::Steps;
 use dm_live::LiveTimetable;
@@ -14,7 +14,7 @@ use dm_network::Network;
 use dm_order::{Order, OrderFault};
 use dm_paths::binds;
 use dm_priced::PricedTimetable;
-use dm_rows::{Rows, start_rows};
+use dm_rows::{Rows, is_free_change, is_lost_change, start_rows};
 use dm_settle::{NoTimes, least_times};
 use dm_times::{Holding, constraints_holding};
 use std::alloc::{AllocError, Global};
@@ -84,11 +84,14 @@ fn root_cycle(alloc: Global, net: &Network, rows: &Rows) -> NoTimes
     }
 }
 
-/// Takes the events as passed that have, and settles a timetable.
+/// Takes the events as passed that have and as cancelled that are, charges for what is lost though nothing is decided, and settles
+/// a timetable.
 fn settle<L: Ledger>(priced: &mut PricedTimetable, net: &Network, rows: &Rows, blank: Blank)
     requires priced { IsPriced net.now priced.old }
     requires sized { IsSized net.now rows.now }
     requires none { (i : ℕ) → is_flagged priced.old.passed i ≡ false }
+    requires none_cancelled { (i : ℕ) → is_flagged priced.old.cancelled i ≡ false }
+    requires none_charged { (a : ℕ) → is_flagged priced.old.charged a ≡ false }
     requires name { blank.name ≡ L.name }
     requires parts { blank.parts ≡ L.parts }
     requires has_a_part { 0 < blank.parts }
@@ -97,15 +100,73 @@ fn settle<L: Ledger>(priced: &mut PricedTimetable, net: &Network, rows: &Rows, b
     ensures given { priced.new.live.given ≡ priced.old.live.given }
     ensures fixed { priced.new.live.fixed ≡ priced.old.live.fixed }
     ensures passed { HasPassedTo rows.now (length net.now.events) priced.new.passed }
-    ensures charged { priced.new.charged ≡ priced.old.charged }
+    ensures cancelled { HasCancelledTo rows.now (length net.now.events) priced.new.cancelled }
+    ensures charged { ChargesLostTo net.now rows.now (length net.now.activities) priced.new.charged }
 {
     let mut steps = Steps::<L>::new(blank);
     set_passed(priced, net, rows, &mut steps);
+    set_cancelled(priced, net, rows, &mut steps);
+    charge_lost(priced, net, rows);
     priced.settle(net, &mut steps);
 }
 
+/// Takes each event as cancelled that is, where none is taken so before.
+#[tactic(auto, using(crate::proofs::Rooted::none_flagged, crate::proofs::Rooted::unflagged_next, crate::proofs::Rooted::flagged_next))]
+fn set_cancelled<L: Ledger>(
+    priced: &mut PricedTimetable,
+    net: &Network,
+    rows: &Rows,
+    steps: &mut Steps<L>,
+)
+    requires priced { IsPriced net.now priced.old }
+    requires sized { IsSized net.now rows.now }
+    requires none { (i : ℕ) → is_flagged priced.old.cancelled i ≡ false }
+    ensures priced { IsPriced net.now priced.new }
+    ensures live { priced.new.live ≡ priced.old.live }
+    ensures passed { priced.new.passed ≡ priced.old.passed }
+    ensures cancelled { HasCancelledTo rows.now (length net.now.events) priced.new.cancelled }
+    ensures charged { priced.new.charged ≡ priced.old.charged }
+{
+    for i in 0..net.events() {
+        if !rows.cancelled(i) {
+            continue;
+        }
+        let out = net.out_row(i, steps);
+        priced.cancel(net, i, true, out);
+    }
+}
+
+/// Charges for the changes that are lost and not free: they are locked, or have a cancelled end.
+#[tactic(auto, using(crate::proofs::Rooted::none_flagged, crate::proofs::Rooted::unflagged_next, crate::proofs::Rooted::flagged_next))]
+fn charge_lost(priced: &mut PricedTimetable, net: &Network, rows: &Rows)
+    requires priced { IsPriced net.now priced.old }
+    requires sized { IsSized net.now rows.now }
+    requires none { (a : ℕ) → is_flagged priced.old.charged a ≡ false }
+    ensures priced { IsPriced net.now priced.new }
+    ensures live { priced.new.live ≡ priced.old.live }
+    ensures passed { priced.new.passed ≡ priced.old.passed }
+    ensures cancelled { priced.new.cancelled ≡ priced.old.cancelled }
+    ensures charged { ChargesLostTo net.now rows.now (length net.now.activities) priced.new.charged }
+{
+    for a in 0..net.activities() {
+        if is_lost_for_good(net, rows, a) {
+            priced.charge(net, a, true);
+        }
+    }
+}
+
+/// Whether an activity is a lost change that no path may decide: it is not free.
+#[tactic(auto, using(crate::proofs::Rooted::root_lost))]
+fn is_lost_for_good(net: &Network, rows: &Rows, a: usize) -> bool
+    requires sized { IsSized net.now rows.now }
+    requires is_activity { a < length net.now.activities }
+    ensures { result ≡ is_relaxed_lost net.now rows.now [] a }
+{
+    is_lost_change(net, rows, a) && !is_free_change(net, rows, a)
+}
+
 /// Takes each event as passed that has, where none is taken so before.
-#[tactic(auto, using(crate::proofs::Rooted::none_passed, crate::proofs::Rooted::open_next, crate::proofs::Rooted::passed_next))]
+#[tactic(auto, using(crate::proofs::Rooted::none_flagged, crate::proofs::Rooted::unflagged_next, crate::proofs::Rooted::flagged_next))]
 fn set_passed<L: Ledger>(
     priced: &mut PricedTimetable,
     net: &Network,
@@ -118,6 +179,7 @@ fn set_passed<L: Ledger>(
     ensures priced { IsPriced net.now priced.new }
     ensures live { priced.new.live ≡ priced.old.live }
     ensures passed { HasPassedTo rows.now (length net.now.events) priced.new.passed }
+    ensures cancelled { priced.new.cancelled ≡ priced.old.cancelled }
     ensures charged { priced.new.charged ≡ priced.old.charged }
 {
     for i in 0..net.events() {

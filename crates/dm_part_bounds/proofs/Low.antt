@@ -17,7 +17,7 @@ use Rattle.dm_tree.specs.declared.forms.Node.{Node}
 use Rattle.dm_tree.specs.declared.forms.Node.TheVariants.{Inner, Cycle, Bound, Open, Hole}
 use Rattle.dm_tree.specs.Trees.{Shape, leaf, branch, preorder, IsProper, IsWhole, IsNoHole, StandsAt}
 use Rattle.dm_tree.specs.Plans.{Task, is_set, CostsRelaxed, IsOptimal}
-use Rattle.dm_paths.proofs.Setting.{differs_in_none, differs_with}
+use Rattle.dm_paths.proofs.Setting.{differs_in_none, differs_with, locks_of}
 use Rattle.dm_search.specs.Laws.{IsTask, CostsWithin}
 use Rattle.dm_search.proofs.Leaves.{Fact, HasLowLeaf, has_low_leaf, from_map}
 use Rattle.dm_search.proofs.Optimal.{chosen, has_base}
@@ -83,8 +83,11 @@ module _ (task : Task) (is : IsTask task) (other : Net) (d : DifferInWeights tas
       event_delays = is.sized.event_delays ∙ as_many_events task.net other d;
       act_delays = is.sized.act_delays ∙ as_many_activities task.net other d;
       passed = is.sized.passed ∙ as_many_events task.net other d;
+      cancelled = is.sized.cancelled ∙ as_many_events task.net other d;
       kept = is.sized.kept ∙ as_many_activities task.net other d;
+      locked_changes = is.sized.locked_changes ∙ as_many_activities task.net other d;
       small_first = is.sized.small_first ∙ as_many_pairs task.net other d;
+      locked_pairs = is.sized.locked_pairs ∙ as_many_pairs task.net other d;
     };
     free = subst (λ cs. All (Contains cs) task.allowed) (same_free task.net other d task.rows) is.free;
     once = is.once;
@@ -123,7 +126,8 @@ tree_is_low : (task : Task) → IsTask task → (shape : Shape) → IsProper sha
     CostsWithin task ds c → HasLowLeaf shape c
 tree_is_low task is shape proper whole facts ds c h =
     has_low_leaf task is.network is.sized (with_decisions task.net task.rows ds)
-    (differs_with task.net task.rows task.rows ds (differs_in_none task.rows)) h.cost.no_cycle c h.cost.cost shape task.base proper whole facts
+    (differs_with task.net task.rows task.rows ds (differs_in_none task.rows))
+    (locks_of task.net is.network task.rows is.sized ds h.decides.free) h.cost.no_cycle c h.cost.cost shape task.base proper whole facts
     is.base (has_base task is ds h.decides h.allowed)
 
 module _ (task : Task) (is : IsTask task) where

@@ -1,6 +1,6 @@
 -- A true plan is a true plan by one part of all terms.
 use Rattle.std.proofs.Common.{◌≡◌, ℕ, ◌+◌, ◌*◌, ◌-◌, ◌<◌, ◌≤◌, Bool, true, false, cond, eqb, List, [], ◌∷◌, ◌++◌, length, map, refl, sym, ap, subst, ◌∙◌, ◌⊎◌, ◌↔◌, inl, inr, arith}
-use Rattle.std.specs.Prelude.{All, not, ◌&&◌, filter, sum_by, get_or, ◌==◌, if◌then◌else◌}
+use Rattle.std.specs.Prelude.{All, not, ◌&&◌, ◌||◌, filter, sum_by, get_or, ◌==◌, if◌then◌else◌}
 use Rattle.std.specs.List.{range_with_len}
 use Rattle.std.specs.List.Sorted.{IsStrictlyIncreasing}
 use Rattle.std.proofs.lemmas.Bool.{eqb-true, eq-eqb, and_parts, or_left}
@@ -17,11 +17,11 @@ use Rattle.dm_network.specs.Start.{IsNetwork}
 use Rattle.dm_network.proofs.Keys.{rises_between}
 use Rattle.dm_rows.specs.declared.messages.Choice.{Choice}
 use Rattle.dm_rows.specs.declared.messages.Decision.{Decision}
-use Rattle.dm_rows.specs.Rows.{RowsValue, kept_at}
-use Rattle.dm_rows.specs.Active.{has_passed}
-use Rattle.dm_rows.specs.Cost.{is_arrival, event_cost, charged_weight, is_dropped_change, comes_too_early}
+use Rattle.dm_rows.specs.Rows.{RowsValue, is_cancelled, kept_at}
+use Rattle.dm_rows.specs.Active.{has_passed, has_cancelled_end}
+use Rattle.dm_rows.specs.Cost.{is_arrival, event_cost, cancelled_weight, charged_weight, is_lost_change, comes_too_early}
 use Rattle.dm_rows.specs.Decide.{with_decisions}
-use Rattle.dm_rows.specs.Relax.{is_undecided_change, is_relaxed_dropped}
+use Rattle.dm_rows.specs.Relax.{is_undecided_change, is_relaxed_lost}
 use Rattle.dm_rows.specs.Timetable.{time_at}
 use Rattle.dm_tree.specs.declared.forms.Mark.TheVariants.{Optimal, Open as OpenMark}
 use Rattle.dm_tree.specs.declared.forms.Node.{Node}
@@ -39,7 +39,7 @@ use Rattle.dm_parts.specs.declared.parts.Part.{Part}
 use Rattle.dm_parts.specs.Shares.{within, beside, has_arrival, has_change, have_arrival, have_change, NamesArrival, NamesChange, IsShare}
 use Rattle.dm_parts.specs.Parts.{task_beside, as_node, IsTrueBranch, IsTruePart, IsTruePlanByParts}
 use Rattle.dm_parts.proofs.Alike.{map_map, is_missed, same_kind, in_common, within_differs, beside_differs}
-use Rattle.dm_parts.proofs.Adding.{sum_same, sum_of_nothing, alone_is_apart, late_beside, charged_beside, relaxed}
+use Rattle.dm_parts.proofs.Adding.{sum_same, sum_of_nothing, alone_is_apart, late_beside, cancelled_beside, charged_beside, relaxed}
 use Rattle.dm_part_bounds.specs.OnePart.{arrives, changes, all_terms, part_node, in_one_part}
 use Rattle.dm_part_bounds.specs.Laws.{OnePartWillDo}
 
@@ -120,8 +120,8 @@ taken_or_free true counts w h = refl
 taken_or_free false false w h = refl
 taken_or_free false true w h = let e : false ≡ true = h refl in cc
 
-three_nothings : {a b c : ℕ} (p : ℕ) → a ≡ 0 → b ≡ p * 0 → c ≡ p * 0 → a + b + c ≡ 0
-three_nothings p e f g = omega (arith, e, f, g)
+four_nothings : {a b c d : ℕ} (p : ℕ) → a ≡ 0 → b ≡ p * 0 → c ≡ p * 0 → d ≡ p * 0 → a + b + c + d ≡ 0
+four_nothings p e f g h = omega (arith, e, f, g, h)
 
 module _ (net : Net) where
   has_each_arrival : (i : ℕ) → i < length net.events → is_arrival (event_at net i).kind ≡ true → have_arrival (all_terms net ∷ []) (event_at net i).id ≡ true
@@ -142,14 +142,25 @@ module _ (net : Net) where
       (eq-eqb (get_or (all_terms net).changes c.0 id).0 id.0 (ap (λ (e : ActId). e.0) c.2)) in
       or_left (has_change (all_terms net) id) false found
 
-  no_lateness : (x : List ℕ) →
-      sum_by (event_cost (beside net (all_terms net ∷ [])) x) (range_with_len 0 (length (beside net (all_terms net ∷ [])).events)) ≡ 0
-  no_lateness x =
-      late_beside net (all_terms net ∷ []) (alone_is_apart (all_terms net)) x
-      ∙ nothing_adds_up (λ i. cond (have_arrival (all_terms net ∷ []) (event_at net i).id) 0 (event_cost net x i)) (length net.events)
+  no_lateness : (rows : RowsValue) (x : List ℕ) →
+      sum_by (event_cost (beside net (all_terms net ∷ [])) rows x) (range_with_len 0 (length (beside net (all_terms net ∷ [])).events)) ≡ 0
+  no_lateness rows x =
+      late_beside net (all_terms net ∷ []) (alone_is_apart (all_terms net)) rows x
+      ∙ nothing_adds_up (λ i. cond (have_arrival (all_terms net ∷ []) (event_at net i).id) 0 (event_cost net rows x i)) (length net.events)
       (λ i lt.
-      taken_or_free (have_arrival (all_terms net ∷ []) (event_at net i).id) (is_arrival (event_at net i).kind)
-      ((event_at net i).weight * (time_at x i - (event_at net i).time)) (has_each_arrival i lt))
+      taken_or_free (have_arrival (all_terms net ∷ []) (event_at net i).id) (is_arrival (event_at net i).kind && not (is_cancelled rows i))
+      ((event_at net i).weight * (time_at x i - (event_at net i).time))
+      (λ is. has_each_arrival i lt (and_parts (is_arrival (event_at net i).kind) (not (is_cancelled rows i)) is).0))
+
+  no_cancelled : (rows : RowsValue) →
+      sum_by (cancelled_weight (beside net (all_terms net ∷ [])) rows) (range_with_len 0 (length (beside net (all_terms net ∷ [])).events)) ≡ 0
+  no_cancelled rows =
+      cancelled_beside net (all_terms net ∷ []) (alone_is_apart (all_terms net)) rows
+      ∙ nothing_adds_up (λ i. cond (have_arrival (all_terms net ∷ []) (event_at net i).id) 0 (cancelled_weight net rows i)) (length net.events)
+      (λ i lt.
+      taken_or_free (have_arrival (all_terms net ∷ []) (event_at net i).id) (is_arrival (event_at net i).kind && is_cancelled rows i)
+      (event_at net i).weight
+      (λ is. has_each_arrival i lt (and_parts (is_arrival (event_at net i).kind) (is_cancelled rows i) is).0))
 
   no_charge : (charged : ℕ → Bool) → ((a : ℕ) → charged a ≡ true → is_change (activity_at (beside net (all_terms net ∷ [])) a).kind ≡ true) →
       sum_by (charged_weight (beside net (all_terms net ∷ [])) charged) (range_with_len 0 (length (beside net (all_terms net ∷ [])).activities)) ≡ 0
@@ -162,31 +173,33 @@ module _ (net : Net) where
       (ap is_change (same_kind net (beside net (all_terms net ∷ [])) (beside_differs net (all_terms net ∷ [])) a) ∙ are_changes a is)))
 
   -- what a relaxed problem charges for, and what is missed, are changes
-  dropped_is_change : (other : Net) (rows : RowsValue) (path : List Decision) (a : ℕ) → is_relaxed_dropped other rows path a ≡ true →
+  dropped_is_change : (other : Net) (rows : RowsValue) (path : List Decision) (a : ℕ) → is_relaxed_lost other rows path a ≡ true →
       is_change (activity_at other a).kind ≡ true
   dropped_is_change other rows path a h =
       let q : RowsValue = with_decisions other rows path in
       let act = activity_at other a in
-      let both = and_parts (is_dropped_change other q a) (not (is_undecided_change other rows path a)) h in
-      let two = and_parts (is_change act.kind && not (kept_at q a)) (not (has_passed q act.head)) both.0 in
-      (and_parts (is_change act.kind) (not (kept_at q a)) two.0).0
+      let both = and_parts (is_lost_change other q a) (not (is_undecided_change other rows path a)) h in
+      let two = and_parts (is_change act.kind && not (has_passed q act.head)) (not (kept_at q a) || has_cancelled_end other q a) both.0 in
+      (and_parts (is_change act.kind) (not (has_passed q act.head)) two.0).0
 
   missed_is_change : (other : Net) (rows : RowsValue) (x : List ℕ) (a : ℕ) → is_missed other rows x a ≡ true → is_change (activity_at other a).kind ≡ true
   missed_is_change other rows x a h =
       let act = activity_at other a in
-      let both = and_parts (is_change act.kind && has_passed rows act.head) (comes_too_early other rows x a) h in
+      let both = and_parts (is_change act.kind && has_passed rows act.head) (is_cancelled rows act.tail || comes_too_early other rows x a) h in
       (and_parts (is_change act.kind) (has_passed rows act.head) both.0).0
 
   nothing_beside : (rows : RowsValue) (path : List Decision) (x : List ℕ) (penalty : ℕ) →
       relaxed_cost_of (beside net (all_terms net ∷ [])) rows path x penalty ≡ 0
   nothing_beside rows path x penalty =
       let other : Net = beside net (all_terms net ∷ []) in
-      let late = no_lateness x in
-      let dear : penalty * sum_by (charged_weight other (is_relaxed_dropped other rows path)) (range_with_len 0 (length other.activities)) ≡ penalty * 0 =
-      ap (λ n. penalty * n) (no_charge (is_relaxed_dropped other rows path) (dropped_is_change other rows path)) in
+      let late = no_lateness (with_decisions other rows path) x in
+      let gone : penalty * sum_by (cancelled_weight other (with_decisions other rows path)) (range_with_len 0 (length other.events)) ≡ penalty * 0 =
+      ap (λ n. penalty * n) (no_cancelled (with_decisions other rows path)) in
+      let dear : penalty * sum_by (charged_weight other (is_relaxed_lost other rows path)) (range_with_len 0 (length other.activities)) ≡ penalty * 0 =
+      ap (λ n. penalty * n) (no_charge (is_relaxed_lost other rows path) (dropped_is_change other rows path)) in
       let lost : penalty * sum_by (charged_weight other (is_missed other (with_decisions other rows path) x)) (range_with_len 0 (length other.activities)) ≡ penalty * 0 =
       ap (λ n. penalty * n) (no_charge (is_missed other (with_decisions other rows path) x) (missed_is_change other (with_decisions other rows path) x)) in
-      three_nothings penalty late dear lost
+      four_nothings penalty late gone dear lost
 
   -- so all terms cost what the cost is
   all_costs : (rows : RowsValue) (path : List Decision) (x : List ℕ) (penalty : ℕ) →

@@ -1,6 +1,6 @@
 -- The costs within shares and the cost beside them add up.
 use Rattle.std.proofs.Common.{◌≡◌, ℕ, zero, suc, ◌+◌, ◌-◌, ◌*◌, ◌<◌, Bool, true, false, cond, List, [], ◌∷◌, length, Some, refl, sym, ap, subst, ◌∙◌, arith}
-use Rattle.std.specs.Prelude.{◌||◌, Contains, sum_by, slice_get, ◌==◌}
+use Rattle.std.specs.Prelude.{not, ◌&&◌, ◌||◌, Contains, sum_by, slice_get, ◌==◌}
 use Rattle.std.specs.List.{range_with_len, list_any}
 use Rattle.std.proofs.Math.Nat.{mul-add}
 use Rattle.std.proofs.lemmas.Bool.{eqb-true}
@@ -12,11 +12,11 @@ use Rattle.dm_network.specs.declared.parts.Event.{Event}
 use Rattle.dm_network.specs.declared.parts.Activity.{Activity}
 use Rattle.dm_network.specs.Net.{Net, no_event, no_activity, event_at, activity_at}
 use Rattle.dm_rows.specs.declared.messages.Decision.{Decision}
-use Rattle.dm_rows.specs.Rows.{RowsValue}
+use Rattle.dm_rows.specs.Rows.{RowsValue, is_cancelled}
 use Rattle.dm_rows.specs.Timetable.{time_at}
-use Rattle.dm_rows.specs.Cost.{is_arrival, event_cost, charged_weight, is_dropped_change, cost_charging, cost_of}
+use Rattle.dm_rows.specs.Cost.{is_arrival, event_cost, cancelled_weight, charged_weight, is_lost_change, cost_charging, cost_of}
 use Rattle.dm_rows.specs.Decide.{with_decisions}
-use Rattle.dm_rows.specs.Relax.{is_relaxed_dropped}
+use Rattle.dm_rows.specs.Relax.{is_relaxed_lost}
 use Rattle.dm_tree.specs.Relaxed.{relaxed_cost_of}
 use Rattle.dm_paths.proofs.Agreeing.{passes_one}
 use Rattle.dm_parts.specs.declared.shares.Share.{Share}
@@ -115,22 +115,27 @@ all_taken {X} test f xs one (i ∷ places) =
     let e'' = sum_by-cons f i places in
     omega (arith, later, here, each, e, e', e'')
 
--- three sums that add up, of which two are multiplied
-costs_join : {X : Type 0} (f late dear lost : X → ℕ) (xs : List X) (p late_left dear_left lost_left all_late all_dear all_lost : ℕ) →
-    ((x : X) → f x ≡ late x + p * dear x + p * lost x) → sum_by late xs + late_left ≡ all_late → sum_by dear xs + dear_left ≡ all_dear →
-    sum_by lost xs + lost_left ≡ all_lost →
-    sum_by f xs + (late_left + p * dear_left + p * lost_left) ≡ all_late + p * all_dear + p * all_lost
-costs_join {X} f late dear lost xs p late_left dear_left lost_left all_late all_dear all_lost each a b c =
-    let e : sum_by f xs ≡ sum_by (λ x. late x + p * dear x + p * lost x) xs = ap (λ (g : X → ℕ). sum_by g xs) (agreeing each) in
-    let two = sum_of_sums (λ x. late x + p * dear x) (λ x. p * lost x) xs in
-    let one = sum_of_sums late (λ x. p * dear x) xs in
-    let d = sum_of_products p dear xs in
-    let l = sum_of_products p lost xs in
-    let b' : p * (sum_by dear xs + dear_left) ≡ p * all_dear = ap (λ n. p * n) b in
-    let c' : p * (sum_by lost xs + lost_left) ≡ p * all_lost = ap (λ n. p * n) c in
-    let b'' = mul-add p (sum_by dear xs) dear_left in
-    let c'' = mul-add p (sum_by lost xs) lost_left in
-    omega (arith, e, two, one, d, l, a, b', c', b'', c'')
+-- four sums that add up, of which three are multiplied
+costs_join : {X : Type 0} (f late gone dear lost : X → ℕ) (xs : List X)
+    (p late_left gone_left dear_left lost_left all_late all_gone all_dear all_lost : ℕ) →
+    ((x : X) → f x ≡ late x + p * gone x + p * dear x + p * lost x) → sum_by late xs + late_left ≡ all_late →
+    sum_by gone xs + gone_left ≡ all_gone → sum_by dear xs + dear_left ≡ all_dear → sum_by lost xs + lost_left ≡ all_lost →
+    sum_by f xs + (late_left + p * gone_left + p * dear_left + p * lost_left) ≡ all_late + p * all_gone + p * all_dear + p * all_lost
+costs_join {X} f late gone dear lost xs p late_left gone_left dear_left lost_left all_late all_gone all_dear all_lost each a b c d =
+    let e : sum_by f xs ≡ sum_by (λ x. late x + p * gone x + p * dear x + p * lost x) xs = ap (λ (g : X → ℕ). sum_by g xs) (agreeing each) in
+    let three = sum_of_sums (λ x. late x + p * gone x + p * dear x) (λ x. p * lost x) xs in
+    let two = sum_of_sums (λ x. late x + p * gone x) (λ x. p * dear x) xs in
+    let one = sum_of_sums late (λ x. p * gone x) xs in
+    let g' = sum_of_products p gone xs in
+    let d' = sum_of_products p dear xs in
+    let l' = sum_of_products p lost xs in
+    let b' : p * (sum_by gone xs + gone_left) ≡ p * all_gone = ap (λ n. p * n) b in
+    let c' : p * (sum_by dear xs + dear_left) ≡ p * all_dear = ap (λ n. p * n) c in
+    let e' : p * (sum_by lost xs + lost_left) ≡ p * all_lost = ap (λ n. p * n) d in
+    let b'' = mul-add p (sum_by gone xs) gone_left in
+    let c'' = mul-add p (sum_by dear xs) dear_left in
+    let e'' = mul-add p (sum_by lost xs) lost_left in
+    omega (arith, e, three, two, one, g', d', l', a, b', c', e', b'', c'', e'')
 
 -- a weight that is kept or not, in a product and under a test
 kept_product : (arrives kept : Bool) (w late : ℕ) → cond arrives (cond kept w 0 * late) 0 ≡ cond kept (cond arrives (w * late) 0) 0
@@ -197,28 +202,55 @@ module _ (net : Net) (shares : List Share) (apart : AreApart shares) where
       let id : ActId = (activity_at net i).id in
       apart.changes m n a b id at at' (lists_change a id pa) (lists_change b id pb)
 
-  -- weight times lateness
-  pub late_within : (x : List ℕ) (share : Share) →
-      sum_by (event_cost (within net share) x) (range_with_len 0 (length (within net share).events))
-      ≡ sum_by (λ i. cond (has_arrival share (event_at net i).id) (event_cost net x i) 0) (range_with_len 0 (length net.events))
-  late_within x share =
-      ap (λ n. sum_by (event_cost (within net share) x) (range_with_len 0 n)) (length-map net.events (event_within share))
-      ∙ sum_same (event_cost (within net share) x) (λ i. cond (has_arrival share (event_at net i).id) (event_cost net x i) 0) 0 (length net.events)
+  -- weight times lateness of what is not cancelled
+  pub late_within : (rows : RowsValue) (x : List ℕ) (share : Share) →
+      sum_by (event_cost (within net share) rows x) (range_with_len 0 (length (within net share).events))
+      ≡ sum_by (λ i. cond (has_arrival share (event_at net i).id) (event_cost net rows x i) 0) (range_with_len 0 (length net.events))
+  late_within rows x share =
+      ap (λ n. sum_by (event_cost (within net share) rows x) (range_with_len 0 n)) (length-map net.events (event_within share))
+      ∙ sum_same (event_cost (within net share) rows x) (λ i. cond (has_arrival share (event_at net i).id) (event_cost net rows x i) 0) 0 (length net.events)
       (λ i lt.
       let e : Event = event_at net i in
-      ap (λ y. cond (is_arrival y.kind) (y.weight * (time_at x i - y.time)) 0) (get_or-map (event_within share) net.events i no_event no_event (omega (arith, lt)))
-      ∙ kept_product (is_arrival e.kind) (has_arrival share e.id) e.weight (time_at x i - e.time))
+      ap (λ y. cond (is_arrival y.kind && not (is_cancelled rows i)) (y.weight * (time_at x i - y.time)) 0)
+      (get_or-map (event_within share) net.events i no_event no_event (omega (arith, lt)))
+      ∙ kept_product (is_arrival e.kind && not (is_cancelled rows i)) (has_arrival share e.id) e.weight (time_at x i - e.time))
 
-  pub late_beside : (x : List ℕ) →
-      sum_by (event_cost (beside net shares) x) (range_with_len 0 (length (beside net shares).events))
-      ≡ sum_by (λ i. cond (have_arrival shares (event_at net i).id) 0 (event_cost net x i)) (range_with_len 0 (length net.events))
-  late_beside x =
-      ap (λ n. sum_by (event_cost (beside net shares) x) (range_with_len 0 n)) (length-map net.events (event_beside shares))
-      ∙ sum_same (event_cost (beside net shares) x) (λ i. cond (have_arrival shares (event_at net i).id) 0 (event_cost net x i)) 0 (length net.events)
+  pub late_beside : (rows : RowsValue) (x : List ℕ) →
+      sum_by (event_cost (beside net shares) rows x) (range_with_len 0 (length (beside net shares).events))
+      ≡ sum_by (λ i. cond (have_arrival shares (event_at net i).id) 0 (event_cost net rows x i)) (range_with_len 0 (length net.events))
+  late_beside rows x =
+      ap (λ n. sum_by (event_cost (beside net shares) rows x) (range_with_len 0 n)) (length-map net.events (event_beside shares))
+      ∙ sum_same (event_cost (beside net shares) rows x) (λ i. cond (have_arrival shares (event_at net i).id) 0 (event_cost net rows x i)) 0 (length net.events)
       (λ i lt.
       let e : Event = event_at net i in
-      ap (λ y. cond (is_arrival y.kind) (y.weight * (time_at x i - y.time)) 0) (get_or-map (event_beside shares) net.events i no_event no_event (omega (arith, lt)))
-      ∙ left_product (is_arrival e.kind) (have_arrival shares e.id) e.weight (time_at x i - e.time))
+      ap (λ y. cond (is_arrival y.kind && not (is_cancelled rows i)) (y.weight * (time_at x i - y.time)) 0)
+      (get_or-map (event_beside shares) net.events i no_event no_event (omega (arith, lt)))
+      ∙ left_product (is_arrival e.kind && not (is_cancelled rows i)) (have_arrival shares e.id) e.weight (time_at x i - e.time))
+
+  -- weights of cancelled arrivals
+  pub cancelled_within : (rows : RowsValue) (share : Share) →
+      sum_by (cancelled_weight (within net share) rows) (range_with_len 0 (length (within net share).events))
+      ≡ sum_by (λ i. cond (has_arrival share (event_at net i).id) (cancelled_weight net rows i) 0) (range_with_len 0 (length net.events))
+  cancelled_within rows share =
+      ap (λ n. sum_by (cancelled_weight (within net share) rows) (range_with_len 0 n)) (length-map net.events (event_within share))
+      ∙ sum_same (cancelled_weight (within net share) rows) (λ i. cond (has_arrival share (event_at net i).id) (cancelled_weight net rows i) 0) 0 (length net.events)
+      (λ i lt.
+      let e : Event = event_at net i in
+      ap (λ y. cond (is_arrival y.kind && is_cancelled rows i) y.weight 0)
+      (get_or-map (event_within share) net.events i no_event no_event (omega (arith, lt)))
+      ∙ kept_weight (is_arrival e.kind && is_cancelled rows i) (has_arrival share e.id) e.weight)
+
+  pub cancelled_beside : (rows : RowsValue) →
+      sum_by (cancelled_weight (beside net shares) rows) (range_with_len 0 (length (beside net shares).events))
+      ≡ sum_by (λ i. cond (have_arrival shares (event_at net i).id) 0 (cancelled_weight net rows i)) (range_with_len 0 (length net.events))
+  cancelled_beside rows =
+      ap (λ n. sum_by (cancelled_weight (beside net shares) rows) (range_with_len 0 n)) (length-map net.events (event_beside shares))
+      ∙ sum_same (cancelled_weight (beside net shares) rows) (λ i. cond (have_arrival shares (event_at net i).id) 0 (cancelled_weight net rows i)) 0 (length net.events)
+      (λ i lt.
+      let e : Event = event_at net i in
+      ap (λ y. cond (is_arrival y.kind && is_cancelled rows i) y.weight 0)
+      (get_or-map (event_beside shares) net.events i no_event no_event (omega (arith, lt)))
+      ∙ left_weight (is_arrival e.kind && is_cancelled rows i) (have_arrival shares e.id) e.weight)
 
   -- weights that are charged for
   pub charged_within : (charged : ℕ → Bool) (share : Share) →
@@ -245,17 +277,29 @@ module _ (net : Net) (shares : List Share) (apart : AreApart shares) where
       ap (λ y. cond (charged a) y.weight 0) (get_or-map (activity_beside shares) net.activities a no_activity no_activity (omega (arith, lt)))
       ∙ left_weight (charged a) (have_change shares e.id) e.weight)
 
-  lateness_adds_up : (x : List ℕ) →
-      sum_by (λ share. sum_by (event_cost (within net share) x) (range_with_len 0 (length (within net share).events))) shares
-      + sum_by (event_cost (beside net shares) x) (range_with_len 0 (length (beside net shares).events))
-      ≡ sum_by (event_cost net x) (range_with_len 0 (length net.events))
-  lateness_adds_up x =
-      ap (λ (f : Share → ℕ). sum_by f shares + sum_by (event_cost (beside net shares) x) (range_with_len 0 (length (beside net shares).events)))
-      (agreeing (late_within x))
+  lateness_adds_up : (rows : RowsValue) (x : List ℕ) →
+      sum_by (λ share. sum_by (event_cost (within net share) rows x) (range_with_len 0 (length (within net share).events))) shares
+      + sum_by (event_cost (beside net shares) rows x) (range_with_len 0 (length (beside net shares).events))
+      ≡ sum_by (event_cost net rows x) (range_with_len 0 (length net.events))
+  lateness_adds_up rows x =
+      ap (λ (f : Share → ℕ). sum_by f shares + sum_by (event_cost (beside net shares) rows x) (range_with_len 0 (length (beside net shares).events)))
+      (agreeing (late_within rows x))
       ∙ ap
-      (λ k. sum_by (λ share. sum_by (λ i. cond (has_arrival share (event_at net i).id) (event_cost net x i) 0) (range_with_len 0 (length net.events))) shares + k)
-      (late_beside x)
-      ∙ all_taken (λ share i. has_arrival share (event_at net i).id) (event_cost net x) shares arrival_once (range_with_len 0 (length net.events))
+      (λ k. sum_by (λ share. sum_by (λ i. cond (has_arrival share (event_at net i).id) (event_cost net rows x i) 0) (range_with_len 0 (length net.events))) shares + k)
+      (late_beside rows x)
+      ∙ all_taken (λ share i. has_arrival share (event_at net i).id) (event_cost net rows x) shares arrival_once (range_with_len 0 (length net.events))
+
+  cancelled_adds_up : (rows : RowsValue) →
+      sum_by (λ share. sum_by (cancelled_weight (within net share) rows) (range_with_len 0 (length (within net share).events))) shares
+      + sum_by (cancelled_weight (beside net shares) rows) (range_with_len 0 (length (beside net shares).events))
+      ≡ sum_by (cancelled_weight net rows) (range_with_len 0 (length net.events))
+  cancelled_adds_up rows =
+      ap (λ (f : Share → ℕ). sum_by f shares + sum_by (cancelled_weight (beside net shares) rows) (range_with_len 0 (length (beside net shares).events)))
+      (agreeing (cancelled_within rows))
+      ∙ ap
+      (λ k. sum_by (λ share. sum_by (λ i. cond (has_arrival share (event_at net i).id) (cancelled_weight net rows i) 0) (range_with_len 0 (length net.events))) shares + k)
+      (cancelled_beside rows)
+      ∙ all_taken (λ share i. has_arrival share (event_at net i).id) (cancelled_weight net rows) shares arrival_once (range_with_len 0 (length net.events))
 
   charges_add_up : (charged : ℕ → Bool) →
       sum_by (λ share. sum_by (charged_weight (within net share) charged) (range_with_len 0 (length (within net share).activities))) shares
@@ -272,17 +316,21 @@ module _ (net : Net) (shares : List Share) (apart : AreApart shares) where
       (range_with_len 0 (length net.activities))
 
   -- the sums that a cost is made of
-  abbrev late_in : Net → List ℕ → ℕ
-  late_in n x = sum_by (event_cost n x) (range_with_len 0 (length n.events))
+  abbrev late_in : Net → RowsValue → List ℕ → ℕ
+  late_in n rows x = sum_by (event_cost n rows x) (range_with_len 0 (length n.events))
+
+  abbrev cancelled_in : Net → RowsValue → ℕ
+  cancelled_in n rows = sum_by (cancelled_weight n rows) (range_with_len 0 (length n.events))
 
   abbrev charged_in : Net → (ℕ → Bool) → ℕ
   charged_in n charged = sum_by (charged_weight n charged) (range_with_len 0 (length n.activities))
 
   pub cost_is : (n : Net) (rows : RowsValue) (charged : ℕ → Bool) (x : List ℕ) (penalty : ℕ) → DifferInWeights net n →
       cost_charging n rows charged x penalty
-      ≡ late_in n x + penalty * charged_in n charged + penalty * charged_in n (is_missed net rows x)
+      ≡ late_in n rows x + penalty * cancelled_in n rows + penalty * charged_in n charged + penalty * charged_in n (is_missed net rows x)
   cost_is n rows charged x penalty d =
-      ap (λ (t : ℕ → Bool). late_in n x + penalty * charged_in n charged + penalty * charged_in n t) (sym (agreeing (same_missed net n d rows x)))
+      ap (λ (t : ℕ → Bool). late_in n rows x + penalty * cancelled_in n rows + penalty * charged_in n charged + penalty * charged_in n t)
+      (sym (agreeing (same_missed net n d rows x)))
 
   pub adds_up : (rows : RowsValue) (charged : ℕ → Bool) (x : List ℕ) (penalty : ℕ) →
       cost_charging net rows charged x penalty
@@ -290,12 +338,14 @@ module _ (net : Net) (shares : List Share) (apart : AreApart shares) where
       + cost_charging (beside net shares) rows charged x penalty
   adds_up rows charged x penalty =
       let missed : ℕ → Bool = is_missed net rows x in
-      sym (costs_join (λ share. cost_charging (within net share) rows charged x penalty) (λ share. late_in (within net share) x)
+      sym (costs_join (λ share. cost_charging (within net share) rows charged x penalty) (λ share. late_in (within net share) rows x)
+      (λ share. cancelled_in (within net share) rows)
       (λ share. charged_in (within net share) charged) (λ share. charged_in (within net share) missed) shares penalty
-      (late_in (beside net shares) x) (charged_in (beside net shares) charged) (charged_in (beside net shares) missed)
-      (late_in net x) (charged_in net charged) (charged_in net missed)
+      (late_in (beside net shares) rows x) (cancelled_in (beside net shares) rows)
+      (charged_in (beside net shares) charged) (charged_in (beside net shares) missed)
+      (late_in net rows x) (cancelled_in net rows) (charged_in net charged) (charged_in net missed)
       (λ share. cost_is (within net share) rows charged x penalty (within_differs net share))
-      (lateness_adds_up x) (charges_add_up charged) (charges_add_up missed))
+      (lateness_adds_up rows x) (cancelled_adds_up rows) (charges_add_up charged) (charges_add_up missed))
       ∙ ap (λ k. sum_by (λ share. cost_charging (within net share) rows charged x penalty) shares + k)
       (sym (cost_is (beside net shares) rows charged x penalty (beside_differs net shares)))
 
@@ -303,28 +353,28 @@ module _ (net : Net) (shares : List Share) (apart : AreApart shares) where
       cost_of net rows x penalty
       ≡ sum_by (λ share. cost_of (within net share) rows x penalty) shares + cost_of (beside net shares) rows x penalty
   costs rows x penalty =
-      adds_up rows (is_dropped_change net rows) x penalty
-      ∙ ap (λ (f : Share → ℕ). sum_by f shares + cost_charging (beside net shares) rows (is_dropped_change net rows) x penalty)
+      adds_up rows (is_lost_change net rows) x penalty
+      ∙ ap (λ (f : Share → ℕ). sum_by f shares + cost_charging (beside net shares) rows (is_lost_change net rows) x penalty)
       (agreeing (λ share. ap (λ (t : ℕ → Bool). cost_charging (within net share) rows t x penalty)
       (agreeing (same_dropped net (within net share) (within_differs net share) rows))))
       ∙ ap (λ (t : ℕ → Bool). sum_by (λ share. cost_of (within net share) rows x penalty) shares + cost_charging (beside net shares) rows t x penalty)
       (agreeing (same_dropped net (beside net shares) (beside_differs net shares) rows))
 
   relaxed_in : (n : Net) (rows : RowsValue) (path : List Decision) (x : List ℕ) (penalty : ℕ) → DifferInWeights net n →
-      cost_charging n (with_decisions net rows path) (is_relaxed_dropped net rows path) x penalty ≡ relaxed_cost_of n rows path x penalty
+      cost_charging n (with_decisions net rows path) (is_relaxed_lost net rows path) x penalty ≡ relaxed_cost_of n rows path x penalty
   relaxed_in n rows path x penalty d =
       ap (λ (t : ℕ → Bool). cost_charging n (with_decisions net rows path) t x penalty) (agreeing (same_relaxed_dropped net n d rows path))
-      ∙ ap (λ (r : RowsValue). cost_charging n r (is_relaxed_dropped n rows path) x penalty) (same_with net n d rows path)
+      ∙ ap (λ (r : RowsValue). cost_charging n r (is_relaxed_lost n rows path) x penalty) (same_with net n d rows path)
 
   pub relaxed : (rows : RowsValue) (path : List Decision) (x : List ℕ) (penalty : ℕ) →
       relaxed_cost_of net rows path x penalty
       ≡ sum_by (λ share. relaxed_cost_of (within net share) rows path x penalty) shares
       + relaxed_cost_of (beside net shares) rows path x penalty
   relaxed rows path x penalty =
-      adds_up (with_decisions net rows path) (is_relaxed_dropped net rows path) x penalty
+      adds_up (with_decisions net rows path) (is_relaxed_lost net rows path) x penalty
       ∙ ap
       (λ (f : Share → ℕ). sum_by f shares
-      + cost_charging (beside net shares) (with_decisions net rows path) (is_relaxed_dropped net rows path) x penalty)
+      + cost_charging (beside net shares) (with_decisions net rows path) (is_relaxed_lost net rows path) x penalty)
       (agreeing (λ share. relaxed_in (within net share) rows path x penalty (within_differs net share)))
       ∙ ap (λ k. sum_by (λ share. relaxed_cost_of (within net share) rows path x penalty) shares + k)
       (relaxed_in (beside net shares) rows path x penalty (beside_differs net shares))

@@ -1,6 +1,6 @@
 -- What networks that differ in weights alone have in common.
 use Rattle.std.proofs.Common.{◌≡◌, ℕ, ◌+◌, ◌<◌, Bool, false, cond, List, [], ◌∷◌, length, map, Option, Some, None, refl, sym, ap, subst, ◌∙◌, arith}
-use Rattle.std.specs.Prelude.{not, ◌&&◌, IsSome, fold, filter, position, slice_index_or, option_map, ◌==◌, ◌++◌, nat_lt, nat_le, if◌then◌else◌}
+use Rattle.std.specs.Prelude.{not, ◌&&◌, ◌||◌, IsSome, fold, filter, position, slice_index_or, option_map, ◌==◌, ◌++◌, nat_lt, nat_le, if◌then◌else◌}
 use Rattle.std.specs.List.{range_with_len, list_any, prefix_len}
 use Rattle.std.specs.List.Sorted.{IsStrictlyIncreasing}
 use Rattle.std.proofs.lemmas.List.{length-map}
@@ -21,13 +21,13 @@ use Rattle.dm_rows.specs.declared.messages.Decision.{Decision}
 use Rattle.dm_rows.specs.declared.messages.Decision.TheVariants.{Keep, Drop, First}
 use Rattle.dm_rows.specs.declared.messages.Flip.{Flip}
 use Rattle.dm_rows.specs.declared.messages.Flip.TheVariants.{Keep as KeepFlip, Drop as DropFlip}
-use Rattle.dm_rows.specs.Rows.{RowsValue, act_delay_at, kept_at}
-use Rattle.dm_rows.specs.Active.{has_passed, binds_in_pair, binds, is_active}
+use Rattle.dm_rows.specs.Rows.{RowsValue, act_delay_at, is_cancelled, kept_at, is_locked_change, is_locked_pair}
+use Rattle.dm_rows.specs.Active.{has_passed, has_cancelled_end, binds_in_pair, binds, is_active}
 use Rattle.dm_rows.specs.Timetable.{time_at, span_of, MeetsHolding, IsLeastHolding}
-use Rattle.dm_rows.specs.Cost.{is_dropped_change, comes_too_early}
+use Rattle.dm_rows.specs.Cost.{is_lost_change, comes_too_early}
 use Rattle.dm_rows.specs.Resolve.{first_named, flip_named}
-use Rattle.dm_rows.specs.Decide.{is_free_change, is_free_pair, change_choice, pair_choice, free_changes_of, free_pairs_of, free_choices_of, with_flip, with_decisions}
-use Rattle.dm_rows.specs.Relax.{is_decided, is_undecided_change, is_undecided_pair, is_of_undecided, is_relaxed_active, is_relaxed_dropped, is_of_pair, is_unmet_from, has_unmet_from, is_violated_change, is_violated_pair, violated_choices_of}
+use Rattle.dm_rows.specs.Decide.{is_ahead, is_free_change, is_free_pair, change_choice, pair_choice, free_changes_of, free_pairs_of, free_choices_of, with_flip, with_decisions}
+use Rattle.dm_rows.specs.Relax.{is_decided, is_undecided_change, is_undecided_pair, is_of_undecided, is_relaxed_active, is_relaxed_lost, is_of_pair, is_unmet_from, has_unmet_from, is_violated_change, is_violated_pair, violated_choices_of}
 use Rattle.dm_parts.specs.declared.shares.Share.{Share}
 use Rattle.dm_parts.specs.Shares.{event_within, activity_within, event_beside, activity_beside, within, beside}
 use Rattle.dm_parts.specs.Weights.{weighed_event, weighed_activity, DifferInWeights}
@@ -59,7 +59,8 @@ places_same f g p q n m e t s = λ i. map (e i) (filter (t i) (range_with_len 0 
 -- a change that its passed head has missed for good
 abbrev pub is_missed : Net → RowsValue → List ℕ → ℕ → Bool
 is_missed net rows x a =
-    is_change (activity_at net a).kind && has_passed rows (activity_at net a).head && comes_too_early net rows x a
+    is_change (activity_at net a).kind && has_passed rows (activity_at net a).head
+    && (is_cancelled rows (activity_at net a).tail || comes_too_early net rows x a)
 
 module _ (net other : Net) (d : DifferInWeights net other) where
   pub event_alike : (i : ℕ) → weighed_event 0 (event_at net i) ≡ weighed_event 0 (event_at other i)
@@ -146,13 +147,15 @@ module _ (net other : Net) (d : DifferInWeights net other) where
 
   pub same_active : (rows : RowsValue) (a : ℕ) → is_active net rows a ≡ is_active other rows a
   same_active rows a =
-      ap (λ x. if has_passed rows x.head then false else binds net rows x.kind x.pair x.tail a) (activity_alike a)
-      ∙ ap (λ b. if has_passed rows (activity_at other a).head then false else b)
+      ap (λ x. if is_cancelled rows x.tail || is_cancelled rows x.head then false
+      else if has_passed rows x.head then false else binds net rows x.kind x.pair x.tail a) (activity_alike a)
+      ∙ ap (λ b. if has_cancelled_end other rows a then false else if has_passed rows (activity_at other a).head then false else b)
       (same_binds rows (activity_at other a).kind (activity_at other a).pair (activity_at other a).tail a)
 
-  pub same_dropped : (rows : RowsValue) (a : ℕ) → is_dropped_change net rows a ≡ is_dropped_change other rows a
+  pub same_dropped : (rows : RowsValue) (a : ℕ) → is_lost_change net rows a ≡ is_lost_change other rows a
   same_dropped rows a =
-      ap (λ x. is_change x.kind && not (kept_at rows a) && not (has_passed rows x.head)) (activity_alike a)
+      ap (λ x. is_change x.kind && not (has_passed rows x.head)
+      && (not (kept_at rows a) || (is_cancelled rows x.tail || is_cancelled rows x.head))) (activity_alike a)
 
   pub same_span : (rows : RowsValue) (a : ℕ) → span_of net rows a ≡ span_of other rows a
   same_span rows a = let e = same_lower a in omega (arith, e)
@@ -168,10 +171,13 @@ module _ (net other : Net) (d : DifferInWeights net other) where
       ∙ ap (λ x. PairChoice (event_at other (pair_at other p).small).id x.id) (event_alike (pair_at other p).large)
 
   same_free_change : (rows : RowsValue) (a : ℕ) → is_free_change net rows a ≡ is_free_change other rows a
-  same_free_change rows a = ap (λ x. is_change x.kind && not (has_passed rows x.head)) (activity_alike a)
+  same_free_change rows a =
+      ap (λ x. is_change x.kind && not (has_passed rows x.head) && not (is_cancelled rows x.tail || is_cancelled rows x.head)
+      && not (is_locked_change rows a)) (activity_alike a)
 
   same_free_pair : (rows : RowsValue) (p : ℕ) → is_free_pair net rows p ≡ is_free_pair other rows p
-  same_free_pair rows p = ap (λ x. not (has_passed rows x.small) && not (has_passed rows x.large)) (pair_alike p)
+  same_free_pair rows p =
+      ap (λ x. is_ahead rows x.small && is_ahead rows x.large && not (is_locked_pair rows p)) (pair_alike p)
 
   pub same_free : (rows : RowsValue) → free_choices_of net rows ≡ free_choices_of other rows
   same_free rows =
@@ -210,11 +216,11 @@ module _ (net other : Net) (d : DifferInWeights net other) where
       (same_active (with_decisions net rows path) a ∙ ap (λ r. is_active other r a) (same_with rows path))
 
   pub same_relaxed_dropped : (rows : RowsValue) (path : List Decision) (a : ℕ) →
-      is_relaxed_dropped net rows path a ≡ is_relaxed_dropped other rows path a
+      is_relaxed_lost net rows path a ≡ is_relaxed_lost other rows path a
   same_relaxed_dropped rows path a =
       ap (λ b. b && not (is_undecided_change net rows path a))
-      (same_dropped (with_decisions net rows path) a ∙ ap (λ r. is_dropped_change other r a) (same_with rows path))
-      ∙ ap (λ b. is_dropped_change other (with_decisions other rows path) a && not b) (same_undecided_change rows path a)
+      (same_dropped (with_decisions net rows path) a ∙ ap (λ r. is_lost_change other r a) (same_with rows path))
+      ∙ ap (λ b. is_lost_change other (with_decisions other rows path) a && not b) (same_undecided_change rows path a)
 
   -- cycles
   there : (held : ℕ → Bool) (a : ℕ) → Binds (arcs_of net held) a → BindsIn (arcs_of net held) (arcs_of other held) a
@@ -257,8 +263,9 @@ module _ (net other : Net) (d : DifferInWeights net other) where
 
   pub same_missed : (rows : RowsValue) (x : List ℕ) (a : ℕ) → is_missed net rows x a ≡ is_missed other rows x a
   same_missed rows x a =
-      ap (λ y. is_change y.kind && has_passed rows y.head && comes_too_early net rows x a) (activity_alike a)
-      ∙ ap (λ b. is_change (activity_at other a).kind && has_passed rows (activity_at other a).head && b) (same_early rows x a)
+      ap (λ y. is_change y.kind && has_passed rows y.head && (is_cancelled rows y.tail || comes_too_early net rows x a)) (activity_alike a)
+      ∙ ap (λ b. is_change (activity_at other a).kind && has_passed rows (activity_at other a).head
+      && (is_cancelled rows (activity_at other a).tail || b)) (same_early rows x a)
 
   same_unmet : (rows : RowsValue) (x : List ℕ) (p tail a : ℕ) → is_unmet_from net rows x p tail a ≡ is_unmet_from other rows x p tail a
   same_unmet rows x p tail a =

@@ -14,13 +14,13 @@ use Rattle.dm_network.specs.Net.{Net, event_at, activity_at, event_place, activi
 use Rattle.dm_network.specs.Start.{IsNetwork}
 use Rattle.dm_network.proofs.Keys.{rises_between}
 use Rattle.dm_rows.specs.Rows.{RowsValue}
-use Rattle.dm_rows.specs.Cost.{event_cost, charged_weight, missed_weight, cost_charging}
+use Rattle.dm_rows.specs.Cost.{event_cost, cancelled_weight, charged_weight, missed_weight, cost_charging}
 use Rattle.dm_paths.proofs.Agreeing.{passes_one}
 use Rattle.dm_parts.specs.declared.shares.Share.{Share}
 use Rattle.dm_parts.specs.Shares.{has_arrival, has_change, within, IsShare}
-use Rattle.dm_parts.specs.Sums.{at_place, lateness_of, charged_of, missed_of, CostsWithinAreSums}
+use Rattle.dm_parts.specs.Sums.{at_place, lateness_of, cancelled_of, charged_of, missed_of, CostsWithinAreSums}
 use Rattle.dm_parts.proofs.Alike.{is_missed, within_differs}
-use Rattle.dm_parts.proofs.Adding.{sum_same, sum_of_nothing, sum_of_sums, alone_is_apart, late_within, charged_within, cost_is}
+use Rattle.dm_parts.proofs.Adding.{sum_same, sum_of_nothing, sum_of_sums, alone_is_apart, late_within, cancelled_within, charged_within, cost_is}
 
 -- no sum behind the place
 above : (a place : ℕ) → a ≤ place → (place ≡ a → ⊥) → a + 1 ≤ place
@@ -162,20 +162,24 @@ module _ (net : Net) (network : IsNetwork net) where
 
     within_adds : (rows : RowsValue) (charged : ℕ → Bool) (x : List ℕ) (penalty : ℕ) →
         cost_charging (within net share) rows charged x penalty
-        ≡ lateness_of net share x + penalty * charged_of net share charged + penalty * missed_of net share rows x
+        ≡ lateness_of net share rows x + penalty * cancelled_of net share rows + penalty * charged_of net share charged
+        + penalty * missed_of net share rows x
     within_adds rows charged x penalty =
         let apart = alone_is_apart share in
-        let late = late_within net (share ∷ []) apart x share ∙ arrivals_add (event_cost net x) in
+        let late = late_within net (share ∷ []) apart rows x share ∙ arrivals_add (event_cost net rows x) in
+        let gone = cancelled_within net (share ∷ []) apart rows share ∙ arrivals_add (cancelled_weight net rows) in
         let dear = charged_within net (share ∷ []) apart charged share ∙ changes_add (charged_weight net charged) in
         let lost = charged_within net (share ∷ []) apart (is_missed net rows x) share ∙ changes_add (missed_weight net rows x) in
         cost_is net (share ∷ []) apart (within net share) rows charged x penalty (within_differs net share)
-        ∙ three_same penalty late dear lost
+        ∙ four_same penalty late gone dear lost
       where
-        three_same : {a b c a' b' c' : ℕ} (p : ℕ) → a ≡ a' → b ≡ b' → c ≡ c' → a + p * b + p * c ≡ a' + p * b' + p * c'
-        three_same p e f g =
+        four_same : {a b c d a' b' c' d' : ℕ} (p : ℕ) → a ≡ a' → b ≡ b' → c ≡ c' → d ≡ d' →
+            a + p * b + p * c + p * d ≡ a' + p * b' + p * c' + p * d'
+        four_same p e f g h =
             let f' = ap (λ n. p * n) f in
             let g' = ap (λ n. p * n) g in
-            omega (arith, e, f', g')
+            let h' = ap (λ n. p * n) h in
+            omega (arith, e, f', g', h')
 
 pub costs_within_are_sums : CostsWithinAreSums
 costs_within_are_sums net share rows charged x penalty network is = within_adds net network share is rows charged x penalty

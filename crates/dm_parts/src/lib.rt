@@ -1,7 +1,7 @@
 //! A cost's terms parted into shares, and plans that are proved good part by part.
 //!
-//! It stands on dm_tree, and on dm_paths for lemmas. A cost is a sum: weight times lateness of each arrival, and the penalty for
-//! each missed change. A [`Share`] is some of these terms. A [`Part`] is a share with a tree of choices that shows how little the
+//! It stands on dm_tree, and on dm_paths for lemmas. A cost is a sum: what each arrival costs, late or cancelled, and the penalty
+//! for each missed change. A [`Share`] is some of these terms. A [`Part`] is a share with a tree of choices that shows how little the
 //! share can cost, whatever the rest costs. The bounds of the parts and the cost of what stands in no share add up to a bound of
 //! the whole, and nothing is asked of how the shares were chosen. No time and no cost is computed here.
 //!

@@ -9,7 +9,7 @@ use Rattle.dm_rows.specs.declared.messages.Flip.{Flip}
 use Rattle.dm_rows.specs.declared.messages.Flip.TheVariants.{Keep, Drop, First}
 use Rattle.dm_rows.specs.Rows.{RowsValue, IsSized}
 use Rattle.dm_rows.specs.Decide.{IsChoiceList}
-use Rattle.dm_rows.specs.Relax.{is_of_pair, is_relaxed_active, is_relaxed_dropped}
+use Rattle.dm_rows.specs.Relax.{is_of_pair, is_relaxed_active, is_relaxed_lost}
 use Rattle.dm_paths.specs.Decisions.{AddsDecision, IsOfChange, IsOfPair, IsFlipOf}
 use Rattle.dm_paths.specs.Decisions.{is_directed, is_held_by, is_charged_by}
 use Rattle.dm_paths.proofs.Paths.{relaxed_same, dropped_same, change_decided, change_not_of, change_bound_before, change_dropped_before, change_binds, change_dropped, pair_no_change, pair_not_of, pair_bound_before, pair_binds}
@@ -116,21 +116,21 @@ module _ (net : Net) (network : IsNetwork net) (rows : RowsValue) (sized : IsSiz
   held_differs (First p small) is b below = orders_at p small is b below
 
   pub charge_differs : (flip : Flip) → IsFlipOf net rows d flip → (b : ℕ) → b < length net.activities →
-      DiffersAt (is_charged_by flip b) (is_relaxed_dropped net rows path b) (is_relaxed_dropped net rows other b)
+      DiffersAt (is_charged_by flip b) (is_relaxed_lost net rows path b) (is_relaxed_lost net rows other b)
   charge_differs (Keep a) is b below =
-      nowhere (is_relaxed_dropped net rows path b) (is_relaxed_dropped net rows other b)
-      (alike_at (is_relaxed_dropped net rows path) (is_relaxed_dropped net rows other) a b
+      nowhere (is_relaxed_lost net rows path b) (is_relaxed_lost net rows other b)
+      (alike_at (is_relaxed_lost net rows path) (is_relaxed_lost net rows other) a b
       (change_dropped_before net network rows sized path other list other_list d adds a true is)
       (change_dropped net network rows sized path other list other_list d adds a true is)
       (λ ne. dropped_same net network rows sized path other list other_list d adds b below
       ((change_decided net network rows sized path other list other_list d adds a true is).apart b below ne)))
   charge_differs (Drop a) is b below =
-      at_one (is_relaxed_dropped net rows path) (is_relaxed_dropped net rows other) a b
+      at_one (is_relaxed_lost net rows path) (is_relaxed_lost net rows other) a b
       (change_dropped_before net network rows sized path other list other_list d adds a false is)
       (change_dropped net network rows sized path other list other_list d adds a false is)
       (λ ne. dropped_same net network rows sized path other list other_list d adds b below
       ((change_decided net network rows sized path other list other_list d adds a false is).apart b below ne))
   charge_differs (First p small) is b below =
-      nowhere (is_relaxed_dropped net rows path b) (is_relaxed_dropped net rows other b)
+      nowhere (is_relaxed_lost net rows path b) (is_relaxed_lost net rows other b)
       (dropped_same net network rows sized path other list other_list d adds b below
       (pair_no_change net network rows sized path other list other_list d adds p small is b))

@@ -1,23 +1,26 @@
 -- What binds and what is charged for in the relaxed problems of two paths of which the second has one decision more.
 use Rattle.std.proofs.Common.{◌≡◌, ℕ, ◌<◌, Bool, true, false, List, [], ◌∷◌, length, Option, Some, None, refl, sym, ap, subst, ◌∙◌, inl, inr, arith}
-use Rattle.std.specs.Prelude.{Contains, not, ◌&&◌, ◌==◌}
+use Rattle.std.specs.Prelude.{Contains, not, ◌&&◌, ◌||◌, ◌==◌}
 use Rattle.std.specs.List.{list_any}
-use Rattle.std.proofs.lemmas.Bool.{cases_Bool, not-true, not_from_true, not_from_false, and_from, and_parts, and_right, or_left, or_right, cond-true, cond-false, both_ways, false_from_ne_true}
+use Rattle.std.proofs.lemmas.Bool.{cases_Bool, not_from_true, not_from_false, and_from, and_right, or_left, or_right, cond-true, cond-false, both_ways, false_from_ne_true}
 use Rattle.dm_base.specs.declared.rows.ActKind.{ActKind}
 use Rattle.dm_base.specs.declared.rows.ActKind.TheVariants.{Drive, Wait, Turnaround, Change, Headway}
-use Rattle.dm_network.specs.Net.{Net, activity_at, pair_at, is_change, is_headway}
+use Rattle.dm_network.specs.Net.{Net, activity_at, is_change, is_headway}
 use Rattle.dm_network.specs.Start.{IsNetwork, first_event}
 use Rattle.dm_rows.specs.declared.messages.Decision.{Decision}
 use Rattle.dm_rows.specs.declared.messages.Choice.{Choice}
-use Rattle.dm_rows.specs.Rows.{RowsValue, IsSized, kept_at, small_first_at}
-use Rattle.dm_rows.specs.Active.{has_passed, is_active, binds}
-use Rattle.dm_rows.specs.Cost.{is_dropped_change}
+use Rattle.dm_rows.specs.Rows.{RowsValue, IsSized, is_cancelled, kept_at, small_first_at}
+use Rattle.dm_rows.specs.Active.{has_passed, has_cancelled_end, is_active, binds}
+use Rattle.dm_rows.specs.Cost.{is_lost_change}
 use Rattle.dm_rows.specs.Decide.{IsChoiceList, is_free_change, is_free_pair, change_choice, pair_choice, choice_of, with_decisions}
-use Rattle.dm_rows.specs.Relax.{is_same_choice, is_decided, is_undecided_change, is_undecided_pair, is_of_undecided, is_relaxed_active, is_relaxed_dropped}
+use Rattle.dm_rows.specs.Relax.{is_same_choice, is_decided, is_undecided_change, is_undecided_pair, is_of_undecided, is_relaxed_active, is_relaxed_lost}
+use Rattle.dm_paths.proofs.Flagged.{and_true}
 use Rattle.dm_paths.proofs.Naming.{change_decides, pair_decides, one_change, one_pair}
+use Rattle.dm_rows.proofs.Running.{active_runs, both_run}
 use Rattle.dm_rows.proofs.Sides.{same_choice, same_itself}
-use Rattle.dm_paths.proofs.Setting.{DiffersInDecisions, HasDecision, differs_in_none, differs_with, has_each, has_kept, has_first, in_front}
-use Rattle.dm_paths.proofs.Agreeing.{passes_one, PairJoins, pair_joins, change_has_no_pair, has_passed_same, active_same, kept_agrees, decided_change}
+use Rattle.dm_tree.proofs.Freed.{IsFreeChangeAt, free_change_is, IsFreePairAt, free_pair_is}
+use Rattle.dm_paths.proofs.Setting.{DiffersInDecisions, KeepsLocked, HasDecision, differs_in_none, differs_with, locks_of, has_each, has_kept, has_first, in_front}
+use Rattle.dm_paths.proofs.Agreeing.{passes_one, PairJoins, pair_joins, change_has_no_pair, has_passed_same, cancelled_end_same, active_same, lost_same}
 use Rattle.dm_paths.specs.Decisions.{AddsDecision, is_of, IsOfChange, IsOfPair}
 
 -- what one element of a list passes, some element passes
@@ -64,11 +67,6 @@ pub record DecidesOne (path other : List Decision) (d : Decision) (of : ℕ → 
   pub after : (free k && not (is_decided other (of k))) ≡ false
   pub apart : (j : ℕ) → j < n → (j ≡ k → ⊥) → is_same_choice (choice_of d) (of j) ≡ false
 
-three : (c k p : Bool) → (c && p) ≡ false → (c && k && p) ≡ false
-three true true p h = h
-three true false p h = refl
-three false k p h = refl
-
 change_kind : (k : ActKind) → is_change k ≡ true → k ≡ Change
 change_kind Drive h = cc
 change_kind Wait h = cc
@@ -87,6 +85,9 @@ module _ (net : Net) (network : IsNetwork net) (rows : RowsValue) (sized : IsSiz
     (list : IsChoiceList net rows path) (other_list : IsChoiceList net rows other) (d : Decision) (adds : AddsDecision path other d) where
   over : (ds : List Decision) → DiffersInDecisions rows (with_decisions net rows ds)
   over ds = differs_with net rows rows ds (differs_in_none rows)
+
+  locks : (ds : List Decision) → IsChoiceList net rows ds → KeepsLocked rows (with_decisions net rows ds)
+  locks ds is = locks_of net network rows sized ds is.free
 
   has_p : (e : Decision) → Contains path e → HasDecision net (with_decisions net rows path) e
   has_p e h = has_each net network rows sized path list e h
@@ -122,37 +123,28 @@ module _ (net : Net) (network : IsNetwork net) (rows : RowsValue) (sized : IsSiz
         | inl t ↦ cond-true v false ao (same ∙ t) ∙ sym (cond-true u false ap_ t)
         | inr f ↦
             cond-false v false ao (same ∙ f)
-            ∙ sym (active_same net network rows path (with_decisions net rows path) (with_decisions net rows other) (over path) (over other) has_p has_o a below f)
+            ∙ sym (active_same net network rows path (with_decisions net rows path) (with_decisions net rows other) (over path) (over other) has_p has_o
+            (locks path list) (locks other other_list) a below f)
             ∙ sym (cond-false u false ap_ f)
       ]
 
   -- and is charged for in both or in neither
   pub dropped_same : (a : ℕ) → a < length net.activities → is_same_choice (choice_of d) (change_choice net a) ≡ false →
-      is_relaxed_dropped net rows other a ≡ is_relaxed_dropped net rows path a
+      is_relaxed_lost net rows other a ≡ is_relaxed_lost net rows path a
   dropped_same a below apart =
-      let act = activity_at net a in
       let q : RowsValue = with_decisions net rows path in
       let s : RowsValue = with_decisions net rows other in
-      let change : Bool = is_change act.kind in
       let u : Bool = is_undecided_change net rows path a in
       let v : Bool = is_undecided_change net rows other a in
       let same : v ≡ u = undecided_change_same a apart in
-      let pq : has_passed q act.head ≡ has_passed rows act.head = has_passed_same rows q (over path) act.head in
-      let ps : has_passed s act.head ≡ has_passed rows act.head = has_passed_same rows s (over other) act.head in
-      let dq : Bool = is_dropped_change net q a in
-      let ds : Bool = is_dropped_change net s a in
-      let dropped : ds ≡ dq → (ds && not v) ≡ (dq && not u) = λ e. ap (λ b. b && not v) e ∙ ap (λ b. dq && not b) same in
+      let lq : Bool = is_lost_change net q a in
+      let ls : Bool = is_lost_change net s a in
       elim (cases_Bool u) [
-        | inl t ↦ and_right ds (not v) (not_from_true v (same ∙ t)) ∙ sym (and_right dq (not u) (not_from_true u t))
-        | inr f ↦ elim (cases_Bool (is_free_change net rows a)) [
-          | inl free ↦
-              let decided = decided_change net network rows path q s (over path) (over other) has_p has_o a free f in
-              let kept : kept_at q a ≡ kept_at s a = kept_agrees net network rows path q s (over path) (over other) has_p has_o a below decided in
-              dropped (ap (λ k. change && not k && not (has_passed s act.head)) (sym kept) ∙ ap (λ p. change && not (kept_at q a) && not p) (ps ∙ sym pq))
-          | inr fixed ↦
-              dropped (three change (not (kept_at s a)) (not (has_passed s act.head)) (ap (λ p. change && not p) ps ∙ fixed)
-              ∙ sym (three change (not (kept_at q a)) (not (has_passed q act.head)) (ap (λ p. change && not p) pq ∙ fixed)))
-        ]
+        | inl t ↦ and_right ls (not v) (not_from_true v (same ∙ t)) ∙ sym (and_right lq (not u) (not_from_true u t))
+        | inr f ↦
+            let lost : lq ≡ ls =
+            lost_same net network rows path q s (over path) (over other) has_p has_o (locks path list) (locks other other_list) a below f in
+            ap (λ b. b && not v) (sym lost) ∙ ap (λ b. lq && not b) same
       ]
 
   decides_one : (of : ℕ → Choice) (free : ℕ → Bool) (n k : ℕ) → choice_of d ≡ of k → free k ≡ true → ((j : ℕ) → j < n → of k ≡ of j → k ≡ j) →
@@ -170,14 +162,20 @@ module _ (net : Net) (network : IsNetwork net) (rows : RowsValue) (sized : IsSiz
     pub decides_change : choice_of d ≡ change_choice net a
     decides_change = ap choice_of is.is ∙ change_decides net network a kept
 
-    no_pair : (activity_at net a).pair ≡ None
-    no_pair = change_has_no_pair net network a is.is_activity (and_parts (is_change (activity_at net a).kind) (not (has_passed rows (activity_at net a).head)) is.free).0
+    free : IsFreeChangeAt net rows a
+    free = free_change_is net rows a is.free
 
-    head_free : has_passed rows (activity_at net a).head ≡ false
-    head_free = not-true (has_passed rows (activity_at net a).head) (and_parts (is_change (activity_at net a).kind) (not (has_passed rows (activity_at net a).head)) is.free).1
+    no_pair : (activity_at net a).pair ≡ None
+    no_pair = change_has_no_pair net network a is.is_activity free.change
+
+    head_free : has_passed (with_decisions net rows other) (activity_at net a).head ≡ false
+    head_free = has_passed_same rows (with_decisions net rows other) (over other) (activity_at net a).head ∙ free.ahead
+
+    ends_run : has_cancelled_end net (with_decisions net rows other) a ≡ false
+    ends_run = cancelled_end_same rows (with_decisions net rows other) (over other) net a ∙ free.runs
 
     kind_is : (activity_at net a).kind ≡ Change
-    kind_is = change_kind (activity_at net a).kind (and_parts (is_change (activity_at net a).kind) (not (has_passed rows (activity_at net a).head)) is.free).0
+    kind_is = change_kind (activity_at net a).kind free.change
 
     pub change_decided : DecidesOne path other d (change_choice net) (is_free_change net rows) (length net.activities) a
     change_decided =
@@ -199,9 +197,9 @@ module _ (net : Net) (network : IsNetwork net) (rows : RowsValue) (sized : IsSiz
         cond-true (is_of_undecided net rows path a (activity_at net a).pair) false (is_active net (with_decisions net rows path) a)
         (ap (is_of_undecided net rows path a) no_pair ∙ change_decided.before)
 
-    pub change_dropped_before : is_relaxed_dropped net rows path a ≡ false
+    pub change_dropped_before : is_relaxed_lost net rows path a ≡ false
     change_dropped_before =
-        and_right (is_dropped_change net (with_decisions net rows path) a) (not (is_undecided_change net rows path a))
+        and_right (is_lost_change net (with_decisions net rows path) a) (not (is_undecided_change net rows path a))
         (not_from_true (is_undecided_change net rows path a) change_decided.before)
 
     kept_is : kept_at (with_decisions net rows other) a ≡ kept
@@ -215,24 +213,26 @@ module _ (net : Net) (network : IsNetwork net) (rows : RowsValue) (sized : IsSiz
         let act = activity_at net a in
         cond-false (is_of_undecided net rows other a act.pair) false (is_active net s a)
         (ap (is_of_undecided net rows other a) no_pair ∙ change_decided.after)
-        ∙ cond-false (has_passed s act.head) false (binds net s act.kind act.pair act.tail a) (has_passed_same rows s (over other) act.head ∙ head_free)
+        ∙ active_runs net s a ends_run
+        ∙ cond-false (has_passed s act.head) false (binds net s act.kind act.pair act.tail a) head_free
         ∙ ap (λ k. binds net s k act.pair act.tail a) kind_is
         ∙ kept_is
 
-    pub change_dropped : is_relaxed_dropped net rows other a ≡ not kept
+    pub change_dropped : is_relaxed_lost net rows other a ≡ not kept
     change_dropped =
         let s : RowsValue = with_decisions net rows other in
         let act = activity_at net a in
-        ap (λ b. is_dropped_change net s a && not b) change_decided.after
-        ∙ and_true (is_dropped_change net s a)
-        ∙ ap (λ k. is_change k && not (kept_at s a) && not (has_passed s act.head)) kind_is
-        ∙ ap (λ k. not k && not (has_passed s act.head)) kept_is
-        ∙ ap (λ p. not kept && not p) (has_passed_same rows s (over other) act.head ∙ head_free)
-        ∙ and_true (not kept)
+        ap (λ b. is_lost_change net s a && not b) change_decided.after
+        ∙ and_true (is_lost_change net s a)
+        ∙ ap (λ k. is_change k && not (has_passed s act.head) && (not (kept_at s a) || has_cancelled_end net s a)) kind_is
+        ∙ ap (λ p. not p && (not (kept_at s a) || has_cancelled_end net s a)) head_free
+        ∙ ap (λ (e : Bool). not (kept_at s a) || e) ends_run
+        ∙ or_false (not (kept_at s a))
+        ∙ ap not kept_is
       where
-        and_true : (b : Bool) → (b && true) ≡ b
-        and_true true = refl
-        and_true false = refl
+        or_false : (b : Bool) → (b || false) ≡ b
+        or_false true = refl
+        or_false false = refl
 
   -- the decision of a pair
   module _ (p : ℕ) (small : Bool) (is : IsOfPair net rows d p small) where
@@ -264,17 +264,24 @@ module _ (net : Net) (network : IsNetwork net) (rows : RowsValue) (sized : IsSiz
       joins : PairJoins net b p
       joins = pair_joins net network b p below its
 
-      frees : (has_passed rows (pair_at net p).small ≡ false) × (has_passed rows (pair_at net p).large ≡ false)
-      frees =
-          let both = and_parts (not (has_passed rows (pair_at net p).small)) (not (has_passed rows (pair_at net p).large)) is.free in
-          (not-true (has_passed rows (pair_at net p).small) both.0, not-true (has_passed rows (pair_at net p).large) both.1)
+      frees : IsFreePairAt net rows p
+      frees = free_pair_is net rows p is.free
 
       ends_free : (has_passed rows (activity_at net b).tail ≡ false) × (has_passed rows (activity_at net b).head ≡ false)
       ends_free =
           elim joins.ends [
-            | inl e ↦ (ap (has_passed rows) (sym e.0) ∙ frees.0, ap (has_passed rows) (sym e.1) ∙ frees.1)
-            | inr e ↦ (ap (has_passed rows) (sym e.1) ∙ frees.1, ap (has_passed rows) (sym e.0) ∙ frees.0)
+            | inl e ↦ (ap (has_passed rows) (sym e.0) ∙ frees.small_ahead, ap (has_passed rows) (sym e.1) ∙ frees.large_ahead)
+            | inr e ↦ (ap (has_passed rows) (sym e.1) ∙ frees.large_ahead, ap (has_passed rows) (sym e.0) ∙ frees.small_ahead)
           ]
+
+      headway_runs : has_cancelled_end net (with_decisions net rows other) b ≡ false
+      headway_runs =
+          let runs : has_cancelled_end net rows b ≡ false =
+          elim joins.ends [
+            | inl e ↦ both_run _ _ (ap (is_cancelled rows) (sym e.0) ∙ frees.small_runs) (ap (is_cancelled rows) (sym e.1) ∙ frees.large_runs)
+            | inr e ↦ both_run _ _ (ap (is_cancelled rows) (sym e.1) ∙ frees.large_runs) (ap (is_cancelled rows) (sym e.0) ∙ frees.small_runs)
+          ] in
+          cancelled_end_same rows (with_decisions net rows other) (over other) net b ∙ runs
 
       first_is : small_first_at (with_decisions net rows other) p ≡ small
       first_is =
@@ -287,6 +294,7 @@ module _ (net : Net) (network : IsNetwork net) (rows : RowsValue) (sized : IsSiz
           let act = activity_at net b in
           cond-false (is_of_undecided net rows other b act.pair) false (is_active net s b)
           (ap (is_of_undecided net rows other b) its ∙ pair_decided.after)
+          ∙ active_runs net s b headway_runs
           ∙ cond-false (has_passed s act.head) false (binds net s act.kind act.pair act.tail b) (has_passed_same rows s (over other) act.head ∙ ends_free.1)
           ∙ ap (λ k. binds net s k act.pair act.tail b) (headway_kind act.kind joins.headway)
           ∙ ap (λ o. binds net s Headway o act.tail b) its

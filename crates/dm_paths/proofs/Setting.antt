@@ -11,12 +11,13 @@ use Rattle.dm_network.specs.Start.{IsNetwork}
 use Rattle.dm_rows.specs.declared.messages.Decision.{Decision}
 use Rattle.dm_rows.specs.declared.messages.Flip.{Flip}
 use Rattle.dm_rows.specs.declared.messages.Flip.TheVariants.{Keep, Drop, First}
-use Rattle.dm_rows.specs.Rows.{RowsValue, IsSized, kept_at, small_first_at}
+use Rattle.dm_rows.specs.Rows.{RowsValue, IsSized, kept_at, small_first_at, is_locked_change, is_locked_pair}
 use Rattle.dm_rows.specs.Reach.{ReachesFlip}
 use Rattle.dm_rows.specs.Resolve.{flip_named}
 use Rattle.dm_rows.specs.Decide.{free_choices_of, change_choice, pair_choice, choice_of, with_flip, with_decisions, IsChoiceList}
 use Rattle.dm_rows.specs.Relax.{is_same_choice}
 use Rattle.dm_tree.specs.Plans.{is_set}
+use Rattle.dm_tree.proofs.Freed.{free_change_is, free_pair_is}
 use Rattle.dm_paths.specs.Decisions.{change_decision, pair_decision, ReachesNet}
 use Rattle.dm_paths.proofs.Naming.{Names, of_change, of_pair, names, change_flip, change_flips, pair_flips, change_decides, pair_decides}
 use Rattle.dm_rows.proofs.Sides.{same_choice, same_itself}
@@ -26,23 +27,61 @@ pub record DiffersInDecisions (rows r : RowsValue) : Type 0 where
   pub event_delays : r.event_delays ≡ rows.event_delays
   pub act_delays : r.act_delays ≡ rows.act_delays
   pub passed : r.passed ≡ rows.passed
+  pub cancelled : r.cancelled ≡ rows.cancelled
+  pub locked_changes : r.locked_changes ≡ rows.locked_changes
+  pub locked_pairs : r.locked_pairs ≡ rows.locked_pairs
   pub clock : r.clock ≡ rows.clock
   pub kept : length r.kept ≡ length rows.kept
   pub small_first : length r.small_first ≡ length rows.small_first
 
 pub differs_in_none : (rows : RowsValue) → DiffersInDecisions rows rows
-differs_in_none rows = record { event_delays = refl; act_delays = refl; passed = refl; clock = refl; kept = refl; small_first = refl }
+differs_in_none rows =
+    record {
+      event_delays = refl;
+      act_delays = refl;
+      passed = refl;
+      cancelled = refl;
+      locked_changes = refl;
+      locked_pairs = refl;
+      clock = refl;
+      kept = refl;
+      small_first = refl;
+    }
+
+-- lists of decisions that are as long as those before
+with_lists : (rows r : RowsValue) (kept small_first : List Bool) → length kept ≡ length r.kept → length small_first ≡ length r.small_first →
+    DiffersInDecisions rows r → DiffersInDecisions rows (record r { kept = kept; small_first = small_first })
+with_lists rows r kept small_first as_kept as_first h =
+    record {
+      event_delays = h.event_delays;
+      act_delays = h.act_delays;
+      passed = h.passed;
+      cancelled = h.cancelled;
+      locked_changes = h.locked_changes;
+      locked_pairs = h.locked_pairs;
+      clock = h.clock;
+      kept = as_kept ∙ h.kept;
+      small_first = as_first ∙ h.small_first;
+    }
 
 pub differs_after : (rows r : RowsValue) (flip : Option Flip) → DiffersInDecisions rows r → DiffersInDecisions rows (with_flip r flip)
 differs_after rows r None h = h
-differs_after rows r (Some (Keep a)) h = record { event_delays = h.event_delays; act_delays = h.act_delays; passed = h.passed; clock = h.clock; kept = length-set r.kept a true ∙ h.kept; small_first = h.small_first }
-differs_after rows r (Some (Drop a)) h = record { event_delays = h.event_delays; act_delays = h.act_delays; passed = h.passed; clock = h.clock; kept = length-set r.kept a false ∙ h.kept; small_first = h.small_first }
-differs_after rows r (Some (First p small)) h = record { event_delays = h.event_delays; act_delays = h.act_delays; passed = h.passed; clock = h.clock; kept = h.kept; small_first = length-set r.small_first p small ∙ h.small_first }
+differs_after rows r (Some (Keep a)) h = with_lists rows r (set r.kept a true) r.small_first (length-set r.kept a true) refl h
+differs_after rows r (Some (Drop a)) h = with_lists rows r (set r.kept a false) r.small_first (length-set r.kept a false) refl h
+differs_after rows r (Some (First p small)) h = with_lists rows r r.kept (set r.small_first p small) refl (length-set r.small_first p small) h
 
 pub differs_with : (net : Net) (rows r : RowsValue) (ds : List Decision) → DiffersInDecisions rows r →
     DiffersInDecisions rows (with_decisions net r ds)
 differs_with net rows r [] h = h
 differs_with net rows r (d ∷ ds) h = differs_with net rows (with_flip r (flip_named net d)) ds (differs_after rows r (flip_named net d) h)
+
+-- what is locked is decided as in the other rows
+pub record KeepsLocked (rows r : RowsValue) : Type 0 where
+  pub kept : (a : ℕ) → is_locked_change rows a ≡ true → kept_at r a ≡ kept_at rows a
+  pub small_first : (p : ℕ) → is_locked_pair rows p ≡ true → small_first_at r p ≡ small_first_at rows p
+
+pub keeps_all : (rows : RowsValue) → KeepsLocked rows rows
+keeps_all rows = record { kept = λ a locked. refl; small_first = λ p locked. refl }
 
 -- a flip within the network is within rows of its size
 pub reaches_rows : (net : Net) (rows : RowsValue) (flip : Flip) → IsSized net rows → ReachesNet net flip → ReachesFlip rows flip
@@ -137,6 +176,25 @@ module _ (net : Net) (network : IsNetwork net) where
     unfolding after_d
     kept_after_pair p a small below = rw (pair_flips net network p small below) refl
 
+    -- a decision of a free choice leaves what is locked
+    locks_after : KeepsLocked rows r → (d : Decision) → Names net rows d → KeepsLocked rows (after_d r d)
+    locks_after locks d (of_change a kept below free is) =
+        let unlocked : is_locked_change rows a ≡ false = (free_change_is net rows a free).unlocked in
+        subst (λ x. KeepsLocked rows (after_d r x)) (sym is)
+        (record {
+          kept = λ b locked. kept_after_other a b kept below
+              (λ same. both_ways (is_locked_change rows b) (ap (is_locked_change rows) same ∙ unlocked) locked) ∙ locks.kept b locked;
+          small_first = λ p locked. first_after_change a p kept below ∙ locks.small_first p locked;
+        })
+    locks_after locks d (of_pair p small below free is) =
+        let unlocked : is_locked_pair rows p ≡ false = (free_pair_is net rows p free).unlocked in
+        subst (λ x. KeepsLocked rows (after_d r x)) (sym is)
+        (record {
+          kept = λ a locked. kept_after_pair p a small below ∙ locks.kept a locked;
+          small_first = λ q locked. first_after_other p q small below
+              (λ same. both_ways (is_locked_pair rows q) (ap (is_locked_pair rows) same ∙ unlocked) locked) ∙ locks.small_first q locked;
+        })
+
     -- the decision that was set last is there
     now_there : (d : Decision) → Names net rows d → HasDecision net (after_d r d) d
     now_there d (of_change a kept below free is) =
@@ -206,6 +264,20 @@ module _ (net : Net) (network : IsNetwork net) where
               ]
             ]
       ]
+
+  -- decisions of free choices leave what is locked
+  pub locks_with : (rows : RowsValue) → IsSized net rows → (ds : List Decision) (r : RowsValue) → DiffersInDecisions rows r → KeepsLocked rows r →
+      All (λ e. Contains (free_choices_of net rows) (choice_of e)) ds → KeepsLocked rows (with_decisions net r ds)
+  unfolding after_d
+  locks_with rows sized [] r over locks free = locks
+  locks_with rows sized (d ∷ ds) r over locks free =
+      locks_with rows sized ds (with_flip r (flip_named net d)) (differs_after rows r (flip_named net d) over)
+      (locks_after rows sized r over locks d (names net rows d (All-head (λ x. Contains (free_choices_of net rows) (choice_of x)) d ds free)))
+      (All-tail (λ x. Contains (free_choices_of net rows) (choice_of x)) d ds free)
+
+  pub locks_of : (rows : RowsValue) → IsSized net rows → (ds : List Decision) → All (λ e. Contains (free_choices_of net rows) (choice_of e)) ds →
+      KeepsLocked rows (with_decisions net rows ds)
+  locks_of rows sized ds free = locks_with rows sized ds rows (differs_in_none rows) (keeps_all rows) free
 
 -- of a choice list no two decisions decide one choice
 pub one_decides : (net : Net) (rows : RowsValue) (ds : List Decision) → IsChoiceList net rows ds → (d e : Decision) → Contains ds d →

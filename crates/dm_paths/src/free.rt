@@ -59,7 +59,7 @@ fn is_of_free(net: &Network, rows: &Rows, a: usize) -> bool
     }
 }
 
-/// Which activities are changes whose head has not passed.
+/// Which activities are free changes.
 fn free_changes(alloc: Global, net: &Network, rows: &Rows) -> Result<Vec<bool>, AllocError>
     requires { IsSized net.now rows.now }
     ensures { IfOk result (λ flags. AreFlags (is_undecided_change net.now rows.now []) (length net.now.activities) flags.items) }
@@ -71,7 +71,7 @@ fn free_changes(alloc: Global, net: &Network, rows: &Rows) -> Result<Vec<bool>, 
     Ok(flags)
 }
 
-/// Of which pairs neither event has passed.
+/// Which pairs are free.
 fn free_pairs(alloc: Global, net: &Network, rows: &Rows) -> Result<Vec<bool>, AllocError>
     requires { IsSized net.now rows.now }
     ensures { IfOk result (λ flags. AreFlags (is_undecided_pair net.now rows.now []) (length net.now.pairs) flags.items) }

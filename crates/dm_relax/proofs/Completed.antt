@@ -1,9 +1,9 @@
 -- Rows that have every decision of the completion have the relaxed times and the relaxed cost.
-use Rattle.std.proofs.Common.{◌≡◌, ℕ, ◌+◌, ◌<◌, ◌≤◌, Bool, true, false, cond, List, length, get_or, Option, Some, None, IsSome, refl, sym, ap, subst, ◌∙◌, ◌⊎◌, inl, inr, arith}
-use Rattle.std.specs.Prelude.{Contains, not, ◌&&◌, ◌==◌, nat_lt, sum_by, slice_index_or}
+use Rattle.std.proofs.Common.{◌≡◌, ℕ, ◌+◌, ◌*◌, ◌<◌, ◌≤◌, Bool, true, false, cond, List, length, get_or, Option, Some, None, IsSome, refl, sym, ap, subst, ◌∙◌, ◌⊎◌, inl, inr, arith}
+use Rattle.std.specs.Prelude.{Contains, not, ◌&&◌, ◌||◌, ◌==◌, nat_lt, sum_by, slice_index_or}
 use Rattle.std.specs.List.{range_with_len}
 use Rattle.std.proofs.Math.Nat.{mul-le-mul_left}
-use Rattle.std.proofs.lemmas.Bool.{cases_Bool, both_ways, not-true, not_from_false, and_from, and_parts, and_cases, false_from_ne_true, ltb-true, ltb-false, eqb-true, eq-eqb, cond-true, cond-false}
+use Rattle.std.proofs.lemmas.Bool.{cases_Bool, both_ways, not_from_true, not_from_false, and_from, and_parts, and_cases, or_from, false_from_ne_true, ltb-true, ltb-false, eqb-true, eq-eqb, cond-true, cond-false}
 use Rattle.std.proofs.lemmas.List.Elements.{Contains-append_left, Contains-append_right}
 use Rattle.std.proofs.lemmas.List.Folds.{list_any_at}
 use Rattle.std.proofs.lemmas.List.FromFn.{length-range_with_len, get_or-range_with_len}
@@ -14,20 +14,22 @@ use Rattle.dm_network.specs.Net.{Net, event_at, activity_at, pair_at, is_change,
 use Rattle.dm_network.specs.Pairs.{pair_place, IsHeadwayFrom, FormPair}
 use Rattle.dm_network.specs.Start.{IsNetwork, first_event}
 use Rattle.dm_rows.specs.declared.messages.Decision.{Decision}
-use Rattle.dm_rows.specs.Rows.{RowsValue, IsSized, kept_at, small_first_at, passed_at}
-use Rattle.dm_rows.specs.Active.{has_passed, is_active, binds, HasNoCycle}
+use Rattle.dm_rows.specs.Rows.{RowsValue, IsSized, kept_at, small_first_at, passed_at, is_cancelled}
+use Rattle.dm_rows.specs.Active.{has_passed, has_cancelled_end, is_active, binds, HasNoCycle}
 use Rattle.dm_rows.specs.Timetable.{time_at, span_of, planned_time, IsLeast, Meets, graph_holding, graph_of}
-use Rattle.dm_rows.specs.Cost.{charged_weight, is_dropped_change, missed_weight, comes_too_early, cost_of}
+use Rattle.dm_rows.specs.Cost.{is_arrival, lateness, event_cost, cancelled_weight, charged_weight, is_lost_change, missed_weight, comes_too_early, cost_of}
 use Rattle.dm_rows.specs.Decide.{change_choice, pair_choice, is_free_change, is_free_pair, with_decisions, IsChoiceList}
-use Rattle.dm_rows.specs.Relax.{is_decided, is_undecided_change, is_undecided_pair, is_of_undecided, is_relaxed_active, is_relaxed_dropped, is_of_pair, is_unmet_from, has_unmet_from, is_violated_change, is_violated_pair}
+use Rattle.dm_rows.specs.Relax.{is_decided, is_undecided_change, is_undecided_pair, is_of_undecided, is_relaxed_active, is_relaxed_lost, is_of_pair, is_unmet_from, has_unmet_from, is_violated_change, is_violated_pair}
 use Rattle.dm_rows.proofs.AsGraph.{least_to_graph, least_from_graph, to_graph, relaxed_enter_no_passed, active_enter_no_passed}
+use Rattle.dm_rows.proofs.Running.{active_is_open, active_runs, both_run}
+use Rattle.dm_tree.proofs.Freed.{free_change_is, free_pair_is}
 use Rattle.dm_tree.specs.Relaxed.{relaxed_cost_of}
 use Rattle.dm_times.proofs.Meeting.{rows_are_met}
 use Rattle.dm_relax.specs.Complete.{completed_kept, completed_small_first, completed_change, completed_pair, completion_of}
 use Rattle.dm_relax.specs.Laws.{ViolatesNothing}
 use Rattle.dm_paths.proofs.Naming.{pair_found, pair_found_back}
-use Rattle.dm_paths.proofs.Setting.{DiffersInDecisions, HasDecision, differs_in_none, differs_with, has_each, has_kept, has_first}
-use Rattle.dm_paths.proofs.Agreeing.{pair_joins, active_same, has_passed_same, passed_same, span_same, kept_agrees, decided_change}
+use Rattle.dm_paths.proofs.Setting.{DiffersInDecisions, KeepsLocked, HasDecision, differs_in_none, differs_with, locks_of, has_each, has_kept, has_first}
+use Rattle.dm_paths.proofs.Agreeing.{pair_joins, active_same, lost_same, has_passed_same, passed_same, cancelled_same, cancelled_end_same, span_same}
 use Rattle.dm_relax.proofs.Bounding.{sum-le, if_weight, asks_no_more, costs_no_more}
 use Rattle.dm_paths.proofs.Apart.{listed}
 use Rattle.dm_relax.proofs.Completion.{cases_option, change_completed, pair_completed, completion_holds}
@@ -50,9 +52,12 @@ headway_pair net network i j a p h found =
 
 module _ (net : Net) (network : IsNetwork net) (rows : RowsValue) (sized : IsSized net rows) (path : List Decision) (x : List ℕ)
     (is_path : IsChoiceList net rows path) (nothing : ViolatesNothing net rows path x) (s : RowsValue) (over_s : DiffersInDecisions rows s)
-    (has_all : (d : Decision) → Contains (completion_of net rows path x) d → HasDecision net s d) where
+    (locks_s : KeepsLocked rows s) (has_all : (d : Decision) → Contains (completion_of net rows path x) d → HasDecision net s d) where
   q_over : DiffersInDecisions rows (with_decisions net rows path)
   q_over = differs_with net rows rows path (differs_in_none rows)
+
+  locks_q : KeepsLocked rows (with_decisions net rows path)
+  locks_q = locks_of net network rows sized path is_path.free
 
   has_q : (d : Decision) → Contains path d → HasDecision net (with_decisions net rows path) d
   has_q d h = has_each net network rows sized path is_path d h
@@ -178,13 +183,15 @@ module _ (net : Net) (network : IsNetwork net) (rows : RowsValue) (sized : IsSiz
       let small : ℕ = (pair_at net p).small in
       let large : ℕ = (pair_at net p).large in
       let j = pair_joins net network a p below is in
-      let parts = active_parts (has_passed s act.head) (binds net s act.kind act.pair act.tail a) active in
+      let opened = active_is_open net s a active in
+      let parts = active_parts (has_passed s act.head) (binds net s act.kind act.pair act.tail a)
+      (sym (active_runs net s a (both_run _ _ opened.1 opened.2)) ∙ active) in
       let free : is_free_pair net rows p ≡ true = (and_parts (is_free_pair net rows p) (not (is_decided path (pair_choice net p))) undecided).0 in
-      let ends = and_parts (not (has_passed rows small)) (not (has_passed rows large)) free in
+      let ends = free_pair_is net rows p free in
       let free_tail : has_passed rows act.tail ≡ false =
       elim j.ends [
-        | inl e ↦ ap (has_passed rows) (sym e.0) ∙ not-true (has_passed rows small) ends.0
-        | inr e ↦ ap (has_passed rows) (sym e.1) ∙ not-true (has_passed rows large) ends.1
+        | inl e ↦ ap (has_passed rows) (sym e.0) ∙ ends.small_ahead
+        | inr e ↦ ap (has_passed rows) (sym e.1) ∙ ends.large_ahead
       ] in
       let bound : binds net s act.kind (Some p) act.tail a ≡ true = subst (λ o. binds net s act.kind o act.tail a ≡ true) is parts.1 in
       let first : act.tail ≡ first_event net p (small_first_at s p) =
@@ -217,7 +224,7 @@ module _ (net : Net) (network : IsNetwork net) (rows : RowsValue) (sized : IsSiz
       elim (cases_Bool (is_of_undecided net rows path a (activity_at net a).pair)) [
         | inl undecided ↦ let m = undecided_is_met a below undecided active in omega arith
         | inr decided ↦
-            let in_q : is_active net q a ≡ true = active_same net network rows path q s q_over over_s has_q has_s a below decided ∙ active in
+            let in_q : is_active net q a ≡ true = active_same net network rows path q s q_over over_s has_q has_s locks_q locks_s a below decided ∙ active in
             let held : is_relaxed_active net rows path a ≡ true =
             cond-false (is_of_undecided net rows path a (activity_at net a).pair) false (is_active net q a) decided ∙ in_q in
             let m = nothing.least.meets.along a below held in
@@ -251,7 +258,7 @@ module _ (net : Net) (network : IsNetwork net) (rows : RowsValue) (sized : IsSiz
   completed_least =
       least_from_graph net s (is_active net s) x network.formed.ends_are_known nothing.least.meets.size (active_enter_no_passed net s)
       (least_for_more (graph_holding net (with_decisions net rows path) (is_relaxed_active net rows path)) (graph_of net s)
-      (asks_no_more net network rows path s over_s has_q has_s) (time_at x)
+      (asks_no_more net network rows path s over_s locks_q locks_s has_q has_s) (time_at x)
       (least_to_graph net (with_decisions net rows path) (is_relaxed_active net rows path) x network.formed.ends_are_known
       (relaxed_enter_no_passed net rows path) nothing.least)
       (to_graph net s (is_active net s) x completed_meets))
@@ -259,28 +266,37 @@ module _ (net : Net) (network : IsNetwork net) (rows : RowsValue) (sized : IsSiz
   pub completed_has_no_cycle : HasNoCycle net s
   completed_has_no_cycle = (rows_are_met net s network).0 (x, completed_meets)
 
-  -- a change that is dropped then is dropped by the path
-  charged_back : (a : ℕ) → a < length net.activities → is_dropped_change net s a ≡ true → is_relaxed_dropped net rows path a ≡ true
+  -- a change that is lost then is lost by the path
+  charged_back : (a : ℕ) → a < length net.activities → is_lost_change net s a ≡ true → is_relaxed_lost net rows path a ≡ true
   charged_back a below h =
       let act = activity_at net a in
       let q : RowsValue = with_decisions net rows path in
       let change : Bool = is_change act.kind in
-      let dropped = and_parts (change && not (kept_at s a)) (not (has_passed s act.head)) h in
-      let kind = and_parts change (not (kept_at s a)) dropped.0 in
-      let head : not (has_passed rows act.head) ≡ true = ap not (sym (has_passed_same rows s over_s act.head)) ∙ dropped.1 in
-      let free : is_free_change net rows a ≡ true = and_from change (not (has_passed rows act.head)) kind.0 head in
+      let lost = and_parts (change && not (has_passed s act.head)) (not (kept_at s a) || has_cancelled_end net s a) h in
       let settled : is_undecided_change net rows path a ≡ false =
       false_from_ne_true (is_undecided_change net rows path a)
       (λ u.
+      let free : is_free_change net rows a ≡ true =
+      (and_parts (is_free_change net rows a) (not (is_decided path (change_choice net a))) u).0 in
       let kept : kept_at s a ≡ true = kept_s a below free ∙ cond-true (is_undecided_change net rows path a) true (kept_at q a) u in
-      both_ways (kept_at s a) (not-true (kept_at s a) kind.1) kept) in
-      let decided = decided_change net network rows path q s q_over over_s has_q has_s a free settled in
-      let same : kept_at q a ≡ kept_at s a = kept_agrees net network rows path q s q_over over_s has_q has_s a below decided in
-      and_from (is_dropped_change net q a) (not (is_undecided_change net rows path a))
-      (and_from (change && not (kept_at q a)) (not (has_passed q act.head))
-      (and_from change (not (kept_at q a)) kind.0 (ap not same ∙ kind.1))
-      (ap not (has_passed_same rows q q_over act.head) ∙ head))
+      let runs : has_cancelled_end net s a ≡ false =
+      cancelled_end_same rows s over_s net a ∙ (free_change_is net rows a free).runs in
+      both_ways (not (kept_at s a) || has_cancelled_end net s a)
+      (or_from (not (kept_at s a)) (has_cancelled_end net s a) (not_from_true (kept_at s a) kept) runs) lost.1) in
+      and_from (is_lost_change net q a) (not (is_undecided_change net rows path a))
+      (lost_same net network rows path q s q_over over_s has_q has_s locks_q locks_s a below settled ∙ h)
       (not_from_false (is_undecided_change net rows path a) settled)
+
+  -- what is cancelled is, then and before
+  gone_back : (i : ℕ) → is_cancelled s i ≡ is_cancelled (with_decisions net rows path) i
+  gone_back i = cancelled_same rows s over_s i ∙ sym (cancelled_same rows (with_decisions net rows path) q_over i)
+
+  late_back : (i : ℕ) → event_cost net s x i ≡ event_cost net (with_decisions net rows path) x i
+  late_back i =
+      ap (λ b. cond (is_arrival (event_at net i).kind && not b) ((event_at net i).weight * lateness net x i) 0) (gone_back i)
+
+  cancelled_back : (i : ℕ) → cancelled_weight net s i ≡ cancelled_weight net (with_decisions net rows path) i
+  cancelled_back i = ap (λ b. cond (is_arrival (event_at net i).kind && b) (event_at net i).weight 0) (gone_back i)
 
   missed_back : (a : ℕ) → missed_weight net s x a ≤ missed_weight net (with_decisions net rows path) x a
   missed_back a =
@@ -289,22 +305,30 @@ module _ (net : Net) (network : IsNetwork net) (rows : RowsValue) (sized : IsSiz
       let passed : has_passed s act.head ≡ has_passed q act.head = has_passed_same rows s over_s act.head ∙ sym (has_passed_same rows q q_over act.head) in
       let span : span_of net s a ≡ span_of net q a = span_same rows s over_s net a ∙ sym (span_same rows q q_over net a) in
       let same : missed_weight net s x a ≡ missed_weight net q x a =
-      ap (λ b. cond (is_change act.kind && b && comes_too_early net s x a) act.weight 0) passed
-      ∙ ap (λ n. cond (is_change act.kind && has_passed q act.head && nat_lt (time_at x act.head) (time_at x act.tail + n)) act.weight 0) span in
+      ap (λ b. cond (is_change act.kind && b && (is_cancelled s act.tail || comes_too_early net s x a)) act.weight 0) passed
+      ∙ ap (λ b. cond (is_change act.kind && has_passed q act.head && (b || comes_too_early net s x a)) act.weight 0) (gone_back act.tail)
+      ∙ ap (λ n. cond (is_change act.kind && has_passed q act.head
+      && (is_cancelled q act.tail || nat_lt (time_at x act.head) (time_at x act.tail + n))) act.weight 0) span in
       omega arith
 
   pub completed_costs : (penalty : ℕ) → cost_of net s x penalty ≡ relaxed_cost_of net rows path x penalty
   completed_costs penalty =
       let q : RowsValue = with_decisions net rows path in
+      let n : ℕ = length net.events in
       let m : ℕ = length net.activities in
       let one : relaxed_cost_of net rows path x penalty ≤ cost_of net s x penalty =
-      costs_no_more net network rows path s over_s has_q has_s x x nothing.least completed_least penalty in
-      let dropped : sum_by (charged_weight net (is_dropped_change net s)) (range_with_len 0 m) ≤ sum_by (charged_weight net (is_relaxed_dropped net rows path)) (range_with_len 0 m) =
+      costs_no_more net network rows path s over_s locks_q locks_s has_q has_s x x nothing.least completed_least penalty in
+      let dropped : sum_by (charged_weight net (is_lost_change net s)) (range_with_len 0 m) ≤ sum_by (charged_weight net (is_relaxed_lost net rows path)) (range_with_len 0 m) =
       sum-le _ _ 0 m (λ a low high.
-      if_weight (is_dropped_change net s a) (is_relaxed_dropped net rows path a) (activity_at net a).weight (charged_back a (omega arith))) in
+      if_weight (is_lost_change net s a) (is_relaxed_lost net rows path a) (activity_at net a).weight (charged_back a (omega arith))) in
       let misses : sum_by (missed_weight net s x) (range_with_len 0 m) ≤ sum_by (missed_weight net q x) (range_with_len 0 m) =
       sum-le _ _ 0 m (λ a low high. missed_back a) in
+      let late : sum_by (event_cost net s x) (range_with_len 0 n) ≤ sum_by (event_cost net q x) (range_with_len 0 n) =
+      sum-le _ _ 0 n (λ i low high. let e = late_back i in omega arith) in
+      let gone : sum_by (cancelled_weight net s) (range_with_len 0 n) ≤ sum_by (cancelled_weight net q) (range_with_len 0 n) =
+      sum-le _ _ 0 n (λ i low high. let e = cancelled_back i in omega arith) in
+      let c = mul-le-mul_left penalty gone in
       let d = mul-le-mul_left penalty dropped in
       let e = mul-le-mul_left penalty misses in
-      let other : cost_of net s x penalty ≤ relaxed_cost_of net rows path x penalty = omega (arith, d, e) in
+      let other : cost_of net s x penalty ≤ relaxed_cost_of net rows path x penalty = omega (arith, late, c, d, e) in
       omega (arith, one, other)

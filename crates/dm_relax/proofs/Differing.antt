@@ -13,7 +13,7 @@ use Rattle.dm_relax.specs.Complete.{completion_of}
 use Rattle.dm_paths.specs.Decisions.{differs_from}
 use Rattle.dm_relax.specs.Laws.{DifferencesComplete}
 use Rattle.dm_paths.proofs.Naming.{names}
-use Rattle.dm_paths.proofs.Setting.{HasDecision, differs_in_none, differs_with, there_with, one_decides, in_front}
+use Rattle.dm_paths.proofs.Setting.{HasDecision, differs_in_none, differs_with, locks_of, there_with, one_decides, in_front}
 use Rattle.dm_relax.proofs.Completion.{completion_decides, completion_is_list}
 use Rattle.dm_relax.proofs.Completed.{completed_least, completed_has_no_cycle, completed_costs}
 
@@ -63,6 +63,7 @@ differences_complete net rows path x network sized list nothing =
     let free : All (λ e. Contains (free_choices_of net rows) (choice_of e)) new =
     All-filter differ (λ e. Contains (free_choices_of net rows) (choice_of e)) ds whole.free in
     let over_s = differs_with net rows rows new (differs_in_none rows) in
+    let locks_s = locks_of net network rows sized new free in
     let has_all : (d : Decision) → Contains ds d → HasDecision net s d =
     λ d h.
     there_with net network rows sized new rows d (differs_in_none rows)
@@ -75,7 +76,7 @@ differences_complete net rows path x network sized list nothing =
     record {
       in_order = subst (λ cs. AreSomeOf cs (map choice_of new)) (completion_decides net network rows sized path x list) (some_pass differ ds);
       differ = filter_passes differ ds;
-      no_cycle = completed_has_no_cycle net network rows sized path x list nothing s over_s has_all;
-      least = completed_least net network rows sized path x list nothing s over_s has_all;
-      cost = completed_costs net network rows sized path x list nothing s over_s has_all;
+      no_cycle = completed_has_no_cycle net network rows sized path x list nothing s over_s locks_s has_all;
+      least = completed_least net network rows sized path x list nothing s over_s locks_s has_all;
+      cost = completed_costs net network rows sized path x list nothing s over_s locks_s has_all;
     }

@@ -7,14 +7,14 @@ use Rattle.dm_rows.specs.Rows.{RowsValue}
 use Rattle.dm_rows.specs.Timetable.{IsLeastHolding}
 use Rattle.dm_rows.specs.Cost.{cost_charging}
 use Rattle.dm_rows.specs.Decide.{with_decisions}
-use Rattle.dm_rows.specs.Relax.{is_relaxed_active, is_relaxed_dropped}
+use Rattle.dm_rows.specs.Relax.{is_relaxed_active, is_relaxed_lost}
 use Rattle.dm_relax.specs.Relaxed.{IsRelaxed, first_violated}
 
 module _ (net : Net) (rows : RowsValue) (path : List Decision) (set : RowsValue) (penalty : ℕ) (times : List ℕ) (cost : ℕ) (violated : Option Choice) where
   Gives : Net → RowsValue → List Decision → Type 0
   Gives n r p =
       set ≡ with_decisions n r p → IsLeastHolding net set (is_relaxed_active n r p) times →
-      cost ≡ cost_charging net set (is_relaxed_dropped n r p) times penalty → violated ≡ first_violated n r p times →
+      cost ≡ cost_charging net set (is_relaxed_lost n r p) times penalty → violated ≡ first_violated n r p times →
       IsRelaxed net rows path penalty (record { times = times; cost = cost; violated = violated })
 
   for_itself : Gives net rows path
@@ -22,13 +22,13 @@ module _ (net : Net) (rows : RowsValue) (path : List Decision) (set : RowsValue)
   for_itself is least costs first =
       record {
         times = subst (λ s. IsLeastHolding net s (is_relaxed_active net rows path) times) is least;
-        cost = costs ∙ ap (λ s. cost_charging net s (is_relaxed_dropped net rows path) times penalty) is;
+        cost = costs ∙ ap (λ s. cost_charging net s (is_relaxed_lost net rows path) times penalty) is;
         violated = first;
       }
 
   pub relaxed_from : (n : Net) (r : RowsValue) (p : List Decision) → n ≡ net → r ≡ rows → p ≡ path →
       set ≡ with_decisions n r p → IsLeastHolding net set (is_relaxed_active n r p) times →
-      cost ≡ cost_charging net set (is_relaxed_dropped n r p) times penalty → violated ≡ first_violated n r p times →
+      cost ≡ cost_charging net set (is_relaxed_lost n r p) times penalty → violated ≡ first_violated n r p times →
       IsRelaxed net rows path penalty (record { times = times; cost = cost; violated = violated })
   unfolding Gives
   relaxed_from n r p en er ep =

@@ -84,9 +84,9 @@ impl Holding for Relaxation<'_> {
 }
 
 impl Charging for Relaxation<'_> {
-    ghost use Rattle.dm_rows.specs.Relax.{is_relaxed_dropped};
+    ghost use Rattle.dm_rows.specs.Relax.{is_relaxed_lost};
 
-    ghost charged = { λ r. is_relaxed_dropped r.net.now r.rows.now r.path.now };
+    ghost charged = { λ r. is_relaxed_lost r.net.now r.rows.now r.path.now };
 
     fn is_charged(&self, a: usize) -> bool {
         let as_set = AsRowsSay {

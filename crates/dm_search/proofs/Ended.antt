@@ -19,7 +19,7 @@ use Rattle.dm_tree.specs.Plans.{Task, IsTrueInner, IsTrueCycle, IsTrueBound, IsT
 use Rattle.dm_tree.specs.Inside.Filling.{visits}
 use Rattle.dm_tree.specs.Inside.Assembling.{seen}
 use Rattle.dm_tree.proofs.Standing.{visits_below, visits_filled, stands_among}
-use Rattle.dm_paths.proofs.Setting.{in_front, differs_in_none, differs_with}
+use Rattle.dm_paths.proofs.Setting.{in_front, differs_in_none, differs_with, locks_of}
 use Rattle.dm_search.specs.Finish.{IsKnown}
 use Rattle.dm_search.specs.Laws.{IsTask}
 use Rattle.dm_search.specs.Inside.Ending.{closed, carried, least_with, bound_of, is_open, mark_of, IsPlanOf}
@@ -202,7 +202,8 @@ module _ (task : Task) (is : IsTask task) (nodes : List Node) (cost limit : ℕ)
       let r : RowsValue = with_decisions task.net task.rows best in
       let are = stands.are_best in
       let list = chosen task is best are.choices in
-      has_low_leaf task is.network is.sized r (differs_with task.net task.rows task.rows best (differs_in_none task.rows)) are.costs.no_cycle cost are.costs.cost
+      has_low_leaf task is.network is.sized r (differs_with task.net task.rows task.rows best (differs_in_none task.rows))
+      (locks_of task.net is.network task.rows is.sized best list.0.free) are.costs.no_cycle cost are.costs.cost
       shape task.base proper whole (λ q n s. fact_at q n (final_at q n s)) is.base (has_base task is best list.0 list.1)
 
   -- what a leaf carries stands there

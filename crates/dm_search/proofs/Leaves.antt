@@ -24,7 +24,7 @@ use Rattle.dm_rows.specs.Sides.{first_decision, second_decision}
 use Rattle.dm_tree.specs.Relaxed.{RelaxedCosts, IsRelaxedCycle, IsViolated, relaxed_cost_of}
 use Rattle.dm_tree.specs.Plans.{Task}
 use Rattle.dm_paths.proofs.Naming.{from_place, change_decides, pair_decides}
-use Rattle.dm_paths.proofs.Setting.{DiffersInDecisions, HasDecision, has_each, kept_has, first_has, in_front}
+use Rattle.dm_paths.proofs.Setting.{DiffersInDecisions, HasDecision, has_each, kept_has, first_has, in_front, locks_of, KeepsLocked}
 use Rattle.dm_paths.proofs.Apart.{listed, Apart, apart_append, choice_list_from}
 use Rattle.dm_relax.proofs.Bounding.{costs_no_more, relaxed_has_no_cycle}
 use Rattle.dm_relax.proofs.Completion.{is_decided_by}
@@ -183,17 +183,21 @@ pub record HasLowLeaf (shape : Shape) (c : ℕ) : Type 0 where
   pub low : cost ≤ c
 
 module _ (task : Task) (network : IsNetwork task.net) (sized : IsSized task.net task.rows) (r : RowsValue) (over : DiffersInDecisions task.rows r)
+    (locks : KeepsLocked task.rows r)
     (none : HasNoCycle task.net r) (c : ℕ) (costs : Costs task.net r task.penalty c) where
   has_own : (path : List Decision) → IsChoiceList task.net task.rows path → (d : Decision) → Contains path d →
       HasDecision task.net (with_decisions task.net task.rows path) d
   has_own path list d h = has_each task.net network task.rows sized path list d h
+
+  own_locks : (path : List Decision) → IsChoiceList task.net task.rows path → KeepsLocked task.rows (with_decisions task.net task.rows path)
+  own_locks path list = locks_of task.net network task.rows sized path list.free
 
   -- what a path that the rows have costs when relaxed
   relaxed_is_low : (path : List Decision) (k : ℕ) → IsChoiceList task.net task.rows path → ((d : Decision) → Contains path d → HasDecision task.net r d) →
       RelaxedCosts task.net task.rows path task.penalty k → k ≤ c
   relaxed_is_low path k list has low =
       let le : relaxed_cost_of task.net task.rows path low.times task.penalty ≤ cost_of task.net r costs.times task.penalty =
-      costs_no_more task.net network task.rows path r over (has_own path list) has low.times costs.times low.least costs.least task.penalty in
+      costs_no_more task.net network task.rows path r over (own_locks path list) locks (has_own path list) has low.times costs.times low.least costs.least task.penalty in
       subst (λ n. k ≤ n) (sym costs.cost) (subst (λ n. n ≤ cost_of task.net r costs.times task.penalty) (sym low.cost) le)
 
   has_more : (path : List Decision) (d : Decision) → ((e : Decision) → Contains path e → HasDecision task.net r e) → HasDecision task.net r d →
@@ -210,7 +214,7 @@ module _ (task : Task) (network : IsNetwork task.net) (sized : IsSized task.net 
   has_low_leaf (leaf Hole) path proper whole facts list has = elim whole [ ]
   has_low_leaf (leaf Cycle) path proper whole facts list has =
       let f = fact_here task path Cycle (facts [] Cycle refl) in
-      absurd (relaxed_has_no_cycle task.net network task.rows path r over (has_own path list) has none f.0 f.1)
+      absurd (relaxed_has_no_cycle task.net network task.rows path r over (own_locks path list) locks (has_own path list) has none f.0 f.1)
   has_low_leaf (leaf (Bound k)) path proper whole facts list has =
       record { path = []; cost = k; stands = inl refl; low = relaxed_is_low path k list has (fact_here task path (Bound k) (facts [] (Bound k) refl)) }
   has_low_leaf (leaf (Open k)) path proper whole facts list has =

@@ -21,7 +21,7 @@ use Rattle.dm_tree.specs.declared.plans.Plan.{Plan}
 use Rattle.dm_tree.specs.Trees.{StandsAt, preorder}
 use Rattle.dm_tree.specs.Plans.{Task, whole_task, AreSomeOf, HasNoOpen, IsTruePlan, IsOptimal}
 use Rattle.dm_paths.proofs.Naming.{names}
-use Rattle.dm_paths.proofs.Setting.{HasDecision, differs_in_none, differs_with, there_with, in_front}
+use Rattle.dm_paths.proofs.Setting.{HasDecision, differs_in_none, differs_with, there_with, in_front, locks_of}
 use Rattle.dm_paths.proofs.Apart.{Apart, free_are_apart, apart_once, choice_list_from, in_map}
 use Rattle.dm_relax.proofs.BoundLaw.{all_from}
 use Rattle.dm_search.specs.Laws.{IsTask, CostsWithin, OptimalPlansAreOptimal}
@@ -103,7 +103,8 @@ module _ (task : Task) (is : IsTask task) where
   pub bound_is_low : (plan : Plan) (ds : List Decision) (c : ℕ) → IsTruePlan task plan → CostsWithin task ds c → plan.bound ≤ c
   bound_is_low plan ds c p costs =
       let r : RowsValue = with_decisions task.net task.rows ds in
-      let low = has_low_leaf task is.network is.sized r (differs_with task.net task.rows task.rows ds (differs_in_none task.rows)) costs.cost.no_cycle c costs.cost.cost
+      let low = has_low_leaf task is.network is.sized r (differs_with task.net task.rows task.rows ds (differs_in_none task.rows))
+      (locks_of task.net is.network task.rows is.sized ds costs.decides.free) costs.cost.no_cycle c costs.cost.cost
       p.shape task.base p.proper p.whole (fact_of plan p) is.base (has_base ds costs.decides costs.allowed) in
       let le = low.low in
       elim low.stands [

@@ -25,7 +25,7 @@ use Rattle.dm_evaluate.proofs.Lists.{without_at}
 use Rattle.dm_paths.proofs.Apart.{got_is_in}
 use Rattle.dm_relax.proofs.BoundLaw.{all_from}
 use Rattle.dm_rows.proofs.Sides.{same_itself}
-use Rattle.dm_paths.proofs.Setting.{has_each, differs_in_none, differs_with}
+use Rattle.dm_paths.proofs.Setting.{has_each, differs_in_none, differs_with, locks_of}
 use Rattle.dm_relax.proofs.Bounding.{relaxed_is_active, held_in_relaxed}
 use Rattle.dm_search.specs.declared.steps.Outcome.{Outcome}
 use Rattle.dm_search.specs.Steps.{HasRelaxedCycle, IsPruned, IsOutcome, IsBranch, IsBranchOn, IsFoundThere, IsChosenBy, IsHinted, IsByHint}
@@ -83,6 +83,7 @@ module _ (net : Net) (network : IsNetwork net) (rows : RowsValue) (sized : IsSiz
       let both = held_in_relaxed (is_of_undecided net rows front a (activity_at net a).pair) (is_active net (with_decisions net rows front) a) h in
       let active : is_active net (with_decisions net rows (front ++ rest)) a ≡ true =
       relaxed_is_active net network rows front (with_decisions net rows (front ++ rest)) (differs_with net rows rows (front ++ rest) (differs_in_none rows))
+      (locks_of net network rows sized front front_is.free) (locks_of net network rows sized (front ++ rest) list.free)
       (has_each net network rows sized front front_is)
       (λ d c. has_each net network rows sized (front ++ rest) list d (Contains-append_left front rest d c)) a below h in
       let fewer : is_of_undecided net rows (front ++ rest) a (activity_at net a).pair ≡ false = undecided_fewer a (activity_at net a).pair both.0 in

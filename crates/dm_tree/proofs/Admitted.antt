@@ -1,10 +1,10 @@
 -- Free choices without a cycle are refused for nothing, where the history has room.
-use Rattle.std.proofs.Common.{◌≡◌, ℕ, zero, suc, ◌+◌, ◌<◌, ◌⊎◌, Bool, true, false, cond, not, ltb, eqb, List, [], ◌∷◌, ◌++◌, length, map, get_or, Option, Some, None, is_some, refl, ap, subst, ◌∙◌, arith, inl, inr, position, slice_get}
+use Rattle.std.proofs.Common.{◌≡◌, ℕ, zero, suc, ◌+◌, ◌<◌, ◌⊎◌, Bool, true, false, cond, ltb, eqb, List, [], ◌∷◌, ◌++◌, length, map, get_or, Option, Some, None, is_some, refl, ap, subst, ◌∙◌, arith, inl, inr, position, slice_get}
 use Rattle.std.specs.Prelude.{All, IsSome, filter}
 use Rattle.std.specs.List.{range_with_len, position_or_len}
 use Rattle.std.specs.List.Sorted.{IsStrictlyIncreasing}
 use Rattle.std.specs.Option.{IsSomeAnd, option_and_then, option_map}
-use Rattle.std.proofs.lemmas.Bool.{and_parts, not-true, eq-eqb, ne_eqb, lt-ltb}
+use Rattle.std.proofs.lemmas.Bool.{both_ways, eq-eqb, ne_eqb, lt-ltb}
 use Rattle.std.proofs.lemmas.List.{get_or-map, length-map}
 use Rattle.std.proofs.lemmas.List.Sums.{position_or_len_is}
 use Rattle.std.proofs.lemmas.Option.{slice_get-get_or}
@@ -26,16 +26,17 @@ use Rattle.dm_rows.specs.declared.messages.Choice.TheVariants.{Change, Pair}
 use Rattle.dm_rows.specs.declared.messages.Flip.TheVariants.{Keep as KeepFlip, Drop as DropFlip}
 use Rattle.dm_rows.specs.declared.messages.Message.TheVariants.{Adopt}
 use Rattle.dm_rows.specs.declared.messages.Refusal.{Refusal}
-use Rattle.dm_rows.specs.declared.messages.Refusal.TheVariants.{UnknownEvent, UnknownActivity, UnknownChange, UnknownPair, Passed, Cycle, Full, OutOfMemory}
-use Rattle.dm_rows.specs.Rows.{RowsValue, passed_at}
-use Rattle.dm_rows.specs.Active.{has_passed, IsCycle, HasNoCycle}
+use Rattle.dm_rows.specs.declared.messages.Refusal.TheVariants.{UnknownEvent, UnknownActivity, UnknownChange, UnknownPair, Passed, Cancelled, Locked, Cycle, Full, OutOfMemory}
+use Rattle.dm_rows.specs.Rows.{RowsValue, passed_at, is_cancelled, is_locked_change, is_locked_pair}
+use Rattle.dm_rows.specs.Active.{has_cancelled_end, IsCycle, HasNoCycle}
 use Rattle.dm_rows.specs.Resolve.{named_pair, flip_named}
 use Rattle.dm_rows.specs.Decide.{is_free_change, is_free_pair, change_choice, pair_choice, free_choices_of, choice_of, with_decisions}
-use Rattle.dm_rows.specs.Refuse.{passed_time, HeadHasPassed, RefusesChange, RefusesFirst, PassesDecision, PassesAtOnce, Refuses}
+use Rattle.dm_rows.specs.Refuse.{passed_time, HeadHasPassed, IsFirstCancelled, IsChangeAhead, HasCancelledEnd, NeitherHasPassed, PairSuchThat, RefusesChange, RefusesFirst, PassesDecision, PassesAtOnce, Refuses}
 use Rattle.dm_rows.proofs.PairEnds.{small_is_event, large_is_event}
 use Rattle.dm_rows.proofs.Setting.{adopt_sets_decisions}
 use Rattle.dm_tree.specs.Plans.{AreSomeOf}
 use Rattle.dm_tree.specs.Laws.{TruePlansAreAdmitted}
+use Rattle.dm_tree.proofs.Freed.{free_change_is, ends_run, free_pair_is}
 
 -- ---- what stands in lists
 
@@ -117,12 +118,14 @@ activity_is_found net network a id within is = key_is_found (λ (x : Activity). 
 
 -- ---- changes
 
--- the id is that of a change whose head has not passed
+-- the id is that of a change whose head has not passed, whose ends are not cancelled, and that is not locked
 record IsFreeChange (net : Net) (rows : RowsValue) (id : ActId) : Type 0 where
   place : ℕ
   found : activity_place net id ≡ Some place
   change : is_change (activity_at net place).kind ≡ true
   not_passed : passed_at rows (activity_at net place).head ≡ None
+  runs : has_cancelled_end net rows place ≡ false
+  unlocked : is_locked_change rows place ≡ false
 
 none_from : (o : Option ℕ) → is_some o ≡ false → o ≡ None
 none_from None h = refl
@@ -132,18 +135,29 @@ free_change : (net : Net) (rows : RowsValue) → IsNetwork net → (id : ActId) 
 free_change net rows network id s =
     elim (free_at net rows (Change id) s) [
       | inl c ↦
-          let parts = and_parts (is_change (activity_at net c.place).kind) (not (has_passed rows (activity_at net c.place).head)) c.passes in
+          let free = free_change_is net rows c.place c.passes in
           let e : Change (activity_at net c.place).id ≡ Change id = c.is_choice in
           let is : (activity_at net c.place).id ≡ id = cc in
           record {
             place = c.place;
             found = activity_is_found net network c.place id c.below is;
-            change = parts.0;
-            not_passed = none_from (passed_at rows (activity_at net c.place).head) (not-true (has_passed rows (activity_at net c.place).head) parts.1);
+            change = free.change;
+            not_passed = none_from (passed_at rows (activity_at net c.place).head) free.ahead;
+            runs = free.runs;
+            unlocked = free.unlocked;
           }
       | inr c ↦
           let e : Pair (event_at net (pair_at net c.place).small).id (event_at net (pair_at net c.place).large).id ≡ Change id = c.is_choice in
           absurd (cc)
+    ]
+
+-- of two events that run neither is the first that is cancelled
+none_cancelled : (net : Net) (rows : RowsValue) (x y : ℕ) (e : EventId) → is_cancelled rows x ≡ false → is_cancelled rows y ≡ false →
+    IsFirstCancelled net rows x y e → ⊥
+none_cancelled net rows x y e one other h =
+    elim h [
+      | inl l ↦ both_ways (is_cancelled rows x) one l.0
+      | inr r ↦ both_ways (is_cancelled rows y) other r.1
     ]
 
 at_some : {X : Type 0} (o : Option X) (x : X) (P : X → Type 0) → o ≡ Some x → IsSomeAnd o P → P x
@@ -159,11 +173,19 @@ change_passes net rows id f (Passed e t) h =
     let not_passed = f.not_passed in
     let other = at_some (activity_place net id) f.place (λ x. (is_change (activity_at net x).kind ≡ true) × HeadHasPassed net rows x e t) f.found h in
     let passed = other.1.1 in cc
+change_passes net rows id f (Cancelled e) h =
+    let ends = ends_run net rows f.place f.runs in
+    let other = at_some (activity_place net id) f.place (λ x. IsChangeAhead net rows x × HasCancelledEnd net rows x e) f.found h in
+    none_cancelled net rows (activity_at net f.place).tail (activity_at net f.place).head e ends.0 ends.1 other.1
+change_passes net rows id f (Locked c) h =
+    let other = at_some (activity_place net id) f.place
+    (λ x. IsChangeAhead net rows x × (has_cancelled_end net rows x ≡ false) × (is_locked_change rows x ≡ true)) f.found h.0 in
+    both_ways (is_locked_change rows f.place) f.unlocked other.2
 change_passes net rows id f _ h = h
 
 -- ---- pairs
 
--- the ids are those of the events of a pair, of which neither has passed
+-- the ids are those of the events of a pair, of which neither has passed or is cancelled, and that is not locked
 record IsFreePair (net : Net) (rows : RowsValue) (i j : EventId) : Type 0 where
   one : ℕ
   other : ℕ
@@ -173,6 +195,9 @@ record IsFreePair (net : Net) (rows : RowsValue) (i j : EventId) : Type 0 where
   found : pair_place net one other ≡ Some place
   one_not_passed : passed_at rows one ≡ None
   other_not_passed : passed_at rows other ≡ None
+  one_runs : is_cancelled rows one ≡ false
+  other_runs : is_cancelled rows other ≡ false
+  unlocked : is_locked_pair rows place ≡ false
 
 in_order : (net : Net) → IsPaired net → ArePairsInOrder net.pairs
 in_order net paired = record { smaller_first = paired.smaller_first; ascending = paired.ascending }
@@ -180,8 +205,8 @@ in_order net paired = record { smaller_first = paired.smaller_first; ascending =
 -- the ids are those of two places at which these ids stand, and the places are those of a pair
 free_from : (net : Net) (rows : RowsValue) (i j k l : EventId) (one other place : ℕ) → k ≡ i → l ≡ j → event_place net k ≡ Some one →
     event_place net l ≡ Some other → pair_place net one other ≡ Some place → passed_at rows one ≡ None → passed_at rows other ≡ None →
-    IsFreePair net rows i j
-free_from net rows i j k l one other place ki lj one_found other_found found one_not other_not =
+    is_cancelled rows one ≡ false → is_cancelled rows other ≡ false → is_locked_pair rows place ≡ false → IsFreePair net rows i j
+free_from net rows i j k l one other place ki lj one_found other_found found one_not other_not one_runs other_runs unlocked =
     record {
       one = one;
       other = other;
@@ -191,6 +216,9 @@ free_from net rows i j k l one other place ki lj one_found other_found found one
       found = found;
       one_not_passed = one_not;
       other_not_passed = other_not;
+      one_runs = one_runs;
+      other_runs = other_runs;
+      unlocked = unlocked;
     }
 
 -- either order of the events
@@ -202,9 +230,9 @@ free_pair_either net rows network i j k l s either =
       | inr c ↦
           let small : ℕ = (pair_at net c.place).small in
           let large : ℕ = (pair_at net c.place).large in
-          let parts = and_parts (not (has_passed rows small)) (not (has_passed rows large)) c.passes in
-          let small_not = none_from (passed_at rows small) (not-true (has_passed rows small) parts.0) in
-          let large_not = none_from (passed_at rows large) (not-true (has_passed rows large) parts.1) in
+          let free = free_pair_is net rows c.place c.passes in
+          let small_not = none_from (passed_at rows small) free.small_ahead in
+          let large_not = none_from (passed_at rows large) free.large_ahead in
           let e : Pair (event_at net small).id (event_at net large).id ≡ Pair k l = c.is_choice in
           let small_is : (event_at net small).id ≡ k = cc in
           let large_is : (event_at net large).id ≡ l = cc in
@@ -216,11 +244,11 @@ free_pair_either net rows network i j k l s either =
             | inl b ↦
                 free_from net rows i j k l small large c.place b.0 b.1 small_found large_found
                 (pair_is_found net.pairs pairs (λ q. joins q small large) small large (joins_forward small large (omega arith)) c.place no_pair c.below refl refl)
-                small_not large_not
+                small_not large_not free.small_runs free.large_runs free.unlocked
             | inr b ↦
                 free_from net rows i j l k large small c.place b.1 b.0 large_found small_found
                 (pair_is_found net.pairs pairs (λ q. joins q large small) small large (joins_backward small large (omega arith)) c.place no_pair c.below refl refl)
-                large_not small_not
+                large_not small_not free.large_runs free.small_runs free.unlocked
           ]
     ]
 
@@ -239,6 +267,14 @@ pair_is_named net rows i j f =
     then_some (λ x. option_and_then (λ y. pair_place net x y) (event_place net j)) (event_place net i) f.one f.one_found
     ∙ (then_some (λ y. pair_place net f.one y) (event_place net j) f.other f.other_found ∙ f.found)
 
+-- what is so of the pair that the ids name, and of its events
+of_named : (net : Net) (rows : RowsValue) (i j : EventId) (P : ℕ → ℕ → ℕ → Type 0) → (f : IsFreePair net rows i j) → PairSuchThat net i j P →
+    P f.place f.one f.other
+of_named net rows i j P f h =
+    at_some (pair_place net f.one f.other) f.place (λ p. P p f.one f.other) f.found
+    (at_some (event_place net j) f.other (λ y. IsSomeAnd (pair_place net f.one y) (λ p. P p f.one y)) f.other_found
+    (at_some (event_place net i) f.one (λ x. IsSomeAnd (event_place net j) (λ y. IsSomeAnd (pair_place net x y) (λ p. P p x y))) f.one_found h))
+
 first_passes : (net : Net) (rows : RowsValue) (i j : EventId) → IsFreePair net rows i j → (r : Refusal) → RefusesFirst net rows i j r → ⊥
 first_passes net rows i j f (UnknownEvent u) h =
     let one = f.one_found in
@@ -249,6 +285,13 @@ first_passes net rows i j f (Passed e t) h =
     let one : passed_time net rows i ≡ None = then_some (passed_at rows) (event_place net i) f.one f.one_found ∙ f.one_not_passed in
     let other : passed_time net rows j ≡ None = then_some (passed_at rows) (event_place net j) f.other f.other_found ∙ f.other_not_passed in
     elim h.1 [ inl a ↦ let some = a.0 in cc | inr b ↦ let some = b.1 in cc ]
+first_passes net rows i j f (Cancelled e) h =
+    let there = of_named net rows i j (λ p x y. NeitherHasPassed rows x y × IsFirstCancelled net rows x y e) f h in
+    none_cancelled net rows f.one f.other e f.one_runs f.other_runs there.1
+first_passes net rows i j f (Locked c) h =
+    let there = of_named net rows i j
+    (λ p x y. NeitherHasPassed rows x y × (is_cancelled rows x ≡ false) × (is_cancelled rows y ≡ false) × (is_locked_pair rows p ≡ true)) f h.0 in
+    both_ways (is_locked_pair rows f.place) f.unlocked there.3
 first_passes net rows i j f _ h = h
 
 -- ---- decisions

@@ -8,5 +8,6 @@ pub mod WorkedPlan
 pub mod Grouping
 pub mod Asking
 pub mod Given
+pub mod Freed
 pub mod Growing
 pub mod Admitted

@@ -15,6 +15,7 @@ pub record TurnsTo (net : Net) (some charges : ℕ → Bool) (value : Bool) (bef
   pub held : (b : ℕ) → b < length net.activities → is_held after.live.given.held b ≡ set_where some value (is_held before.live.given.held) b
   pub charged : (b : ℕ) → b < length net.activities → is_flagged after.charged b ≡ set_where charges value (is_flagged before.charged) b
   pub passed : after.passed ≡ before.passed
+  pub cancelled : after.cancelled ≡ before.cancelled
   pub fixed : after.live.fixed ≡ before.live.fixed
   pub floors : after.live.given.floors ≡ before.live.given.floors
   pub spans : after.live.given.spans ≡ before.live.given.spans
@@ -42,6 +43,7 @@ pub record KeepsBut (net : Net) (p : ℕ) (among : ℕ → Type 0) (before after
   pub times : after.live.times ≡ before.live.times
   pub fixed : after.live.fixed ≡ before.live.fixed
   pub passed : after.passed ≡ before.passed
+  pub cancelled : after.cancelled ≡ before.cancelled
   pub charged : after.charged ≡ before.charged
 
 -- Of these activities the headways of the pair are held, or are not; all else stays.

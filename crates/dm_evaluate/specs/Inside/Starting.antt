@@ -5,8 +5,8 @@ use Rattle.dm_network.specs.Held.{IsCycleOf}
 use Rattle.dm_live.specs.Live.{LiveValue, IsLive, IsAtRest, NoneFixed}
 use Rattle.dm_priced.specs.Priced.{PricedValue, is_flagged}
 use Rattle.dm_rows.specs.Active.{has_passed}
-use Rattle.dm_rows.specs.Relax.{is_relaxed_active}
-use Rattle.dm_rows.specs.Rows.{RowsValue}
+use Rattle.dm_rows.specs.Relax.{is_relaxed_active, is_relaxed_lost}
+use Rattle.dm_rows.specs.Rows.{RowsValue, is_cancelled}
 use Rattle.dm_times.specs.Constraints.{AreConstraintsHolding}
 use Rattle.dm_evaluate.specs.Evaluating.{Evaluates}
 
@@ -25,10 +25,18 @@ pub record HasRootCycle (net : Net) (rows : RowsValue) : Type 0 where
 abbrev pub HasPassedTo : RowsValue → ℕ → List Bool → Type 0
 HasPassedTo rows n passed = (i : ℕ) → i < n → is_flagged passed i ≡ has_passed rows i
 
--- they are, and no other event is flagged
-pub record HasPassedOnlyTo (rows : RowsValue) (n : ℕ) (passed : List Bool) : Type 0 where
-  pub before : HasPassedTo rows n passed
-  pub none : (i : ℕ) → n ≤ i → is_flagged passed i ≡ false
+-- the first n events are flagged where they are cancelled
+abbrev pub HasCancelledTo : RowsValue → ℕ → List Bool → Type 0
+HasCancelledTo rows n cancelled = (i : ℕ) → i < n → is_flagged cancelled i ≡ is_cancelled rows i
+
+-- of the first n activities those are charged for that are lost where nothing is decided
+abbrev pub ChargesLostTo : Net → RowsValue → ℕ → List Bool → Type 0
+ChargesLostTo net rows n charged = (a : ℕ) → a < n → is_flagged charged a ≡ is_relaxed_lost net rows [] a
+
+-- the first n places are flagged where the test passes, and no other place is
+pub record FlagsOnlyTo (test : ℕ → Bool) (n : ℕ) (flags : List Bool) : Type 0 where
+  pub before : (k : ℕ) → k < n → is_flagged flags k ≡ test k
+  pub none : (k : ℕ) → n ≤ k → is_flagged flags k ≡ false
 
 -- a timetable evaluates the path without a decision, and is at rest
 pub record IsRoot (net : Net) (rows : RowsValue) (priced : PricedValue) : Type 0 where
