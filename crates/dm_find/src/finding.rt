@@ -1,5 +1,5 @@
 //! A plan of the kind that was asked for.
-ghost use Rattle.std.specs.Prelude.{ℕ, ◌≡◌, ◌+◌, ◌^◌, ◌≤◌, length, IfOk};
+ghost use Rattle.std.specs.Prelude.{ℕ, ◌≡◌, ◌+◌, ◌^◌, ◌≤◌, All, length, IfOk};
 ghost use Rattle.dm_base.specs.declared.limits.TheConstants.{BUDGET, PENALTY, WORKERS};
 ghost use Rattle.dm_rows.specs.Active.{HasNoCycle};
 ghost use Rattle.dm_rows.specs.Cost.{Costs};
@@ -8,27 +8,34 @@ ghost use Rattle.dm_rows.specs.Rows.{IsSized};
 ghost use Rattle.dm_tree.specs.declared.forms.Mark.TheVariants.{Optimal};
 ghost use Rattle.dm_tree.specs.Plans.{IsTruePlan};
 ghost use Rattle.dm_guide.specs.Tasks.{IsPosedTask, task_of};
+ghost use Rattle.dm_search.specs.Moving.{IsOver};
 ghost use Rattle.dm_parts.specs.Parts.{IsTruePlanByParts};
 ghost use Rattle.dm_parts.specs.Sizes.{ids_of, most_ids};
 ghost use Rattle.std.specs.Thread.{IsSync};
+ghost use Rattle.dm_solve.specs.Evaluators.{AreOver};
 ghost use Rattle.dm_solve.specs.Terms.{terms_of};
 ghost use Rattle.dm_desk.specs.Planning.{budget_of, SolvesFor, FindsFor};
 ghost use Rattle.dm_find.specs.Found.{cost_of, mark_of};
 
+use crate::making::{evaluators_of, one_of};
 use dm_desk::{HoldPoint, Search};
 use dm_divide::{Job, Roots, choices_at_root, mover_at_root};
+use dm_evaluate::Evaluator;
 use dm_network::Network;
 use dm_part_workers::solve_all;
 use dm_parts::{AnyPlan, PlanByParts};
 use dm_probe::{Choices, Mover};
 use dm_rows::Snapshot;
-use dm_search::{Task, evaluator_at_base, whole};
-use dm_solve::plan_by_workers;
+use dm_search::{Task, whole};
+use dm_solve::{Evaluators, plan_by_workers};
 use dm_tree::Plan;
 use dm_workers::search;
 use std::alloc::{AllocError, Global};
 use std::sync::Wait;
-use std::thread::{Threads, map_indices};
+use std::thread::Threads;
+
+/// How many evaluators a plan by parts takes besides those of the workers.
+const FURTHER: usize = 3;
 
 /// A true plan of the kind that was asked for, of the rows of a snapshot, which have no cycle. It has the snapshot's entry and at
 /// most as many nodes as was asked for, of which there are 1 to 16,384, and is searched by 1 to 16 workers in threads of their own.
@@ -118,62 +125,88 @@ fn solve_task<R: Threads + Wait + Sync>(
     ensures enough { terms_of task.now.net.now ≤ most_ids → 2 ^ (length (task_of task.now).allowed + 1) ≤ task.now.budget + 1 →
         IfOk result (λ found. found.mark ≡ Optimal) }
 {
-    let alloc = task.alloc;
-    let evaluator = evaluator_at_base(task)?;
-    let choices = choices_at_root(task, &evaluator)?;
-    let root = Root {
-        net: task.net,
-        choices: &choices,
+    let many = workers as usize;
+    let mut made = evaluators_of(rt, task, many, many + FURTHER)?;
+    let evaluators = Evaluators {
+        whole: one_of(task, &mut made)?,
+        polishing: one_of(task, &mut made)?,
+        judging: one_of(task, &mut made)?,
     };
-    let first = mover_at_root(alloc, task.net, task.penalty, &choices, evaluator)?;
+    solve_with(rt, task, plan, evaluators, made)
+}
+
+/// The same, by evaluators that were made before. A worker goes with each of the last ones.
+fn solve_with<R: Threads + Wait + Sync>(
+    rt: &R,
+    task: &Task<'_>,
+    plan: &Plan,
+    evaluators: Evaluators,
+    made: Vec<Evaluator>,
+) -> Result<PlanByParts, AllocError>
+    requires posed { IsPosedTask task.now }
+    requires evaluators { AreOver (task_of task.now) evaluators.whole evaluators.polishing evaluators.judging }
+    requires made { All (IsOver (task_of task.now)) made.items }
+    requires plan { IsTruePlan (task_of task.now) plan.now }
+    ensures parts { IfOk result (IsTruePlanByParts (task_of task.now)) }
+    ensures entry { IfOk result (λ found. found.entry ≡ plan.now.entry) }
+    ensures no_dearer { IfOk result (λ found. found.cost ≤ plan.now.cost) }
+    ensures few_ids { IfOk result (λ found. ids_of found.parts ≤ most_ids) }
+    ensures enough { terms_of task.now.net.now ≤ most_ids → 2 ^ (length (task_of task.now).allowed + 1) ≤ task.now.budget + 1 →
+        IfOk result (λ found. found.mark ≡ Optimal) }
+{
+    let alloc = task.alloc;
+    let mut made = made;
+    let first = one_of(task, &mut made)?;
+    let choices = choices_at_root(task, &first)?;
     let roots = Roots {
         choices: &choices,
-        first,
-        others: root.movers(rt, task, workers)?,
+        first: mover_at_root(alloc, task.net, task.penalty, &choices, first)?,
+        others: movers_of(task, &choices, made)?,
     };
+    solve_by(rt, task, plan, roots, evaluators)
+}
+
+/// The same, by movers at the root.
+fn solve_by<'t: 'a, 'a, R: Threads + Wait + Sync>(
+    rt: &R,
+    task: &Task<'t>,
+    plan: &Plan,
+    roots: Roots<'a>,
+    evaluators: Evaluators,
+) -> Result<PlanByParts, AllocError>
+    requires posed { IsPosedTask task.now }
+    requires evaluators { AreOver (task_of task.now) evaluators.whole evaluators.polishing evaluators.judging }
+    requires plan { IsTruePlan (task_of task.now) plan.now }
+    ensures parts { IfOk result (IsTruePlanByParts (task_of task.now)) }
+    ensures entry { IfOk result (λ found. found.entry ≡ plan.now.entry) }
+    ensures no_dearer { IfOk result (λ found. found.cost ≤ plan.now.cost) }
+    ensures few_ids { IfOk result (λ found. ids_of found.parts ≤ most_ids) }
+    ensures enough { terms_of task.now.net.now ≤ most_ids → 2 ^ (length (task_of task.now).allowed + 1) ≤ task.now.budget + 1 →
+        IfOk result (λ found. found.mark ≡ Optimal) }
+{
+    let alloc = task.alloc;
     let run = |jobs: Vec<Job>, first: &mut Mover<'_>, others: &mut [Mover<'_>]| -> Result<
         Vec<Job>,
         AllocError,
     >
         requires { IsSync R.row }
     { solve_all(rt, alloc, jobs, first, others) };
-    plan_by_workers(task, plan, roots, &run)
+    plan_by_workers(task, plan, roots, evaluators, &run)
 }
 
-/// What movers at the root stand on.
-#[derive(Clone, Copy)]
-struct Root<'a> {
-    net: &'a Network,
+/// A mover at the root with each of the evaluators.
+fn movers_of<'a>(
+    task: &Task<'a>,
     choices: &'a Choices,
-}
-
-impl<'a> Root<'a> {
-    /// A mover for each worker but the first, each made in a thread of its own where one can be made.
-    fn movers<R: Threads + Sync>(
-        &self,
-        rt: &R,
-        task: &Task<'_>,
-        workers: u32,
-    ) -> Result<Vec<Mover<'a>>, AllocError>
-        requires posed { IsPosedTask task.now }
-        requires net { self.now.net.now ≡ task.now.net.now }
-    {
-        let others = workers.saturating_sub(1) as usize;
-        let make = |_other: usize|
-            requires { IsPosedTask task.now × (self.now.net.now ≡ task.now.net.now) }
-        { self.mover(task) };
-        let mut movers = Vec::with_capacity(task.alloc, others)?;
-        for made in map_indices(rt, task.alloc, others, &make)? {
-            movers.push(made?)?;
-        }
-        Ok(movers)
+    evaluators: Vec<Evaluator>,
+) -> Result<Vec<Mover<'a>>, AllocError>
+    requires posed { IsPosedTask task.now }
+    requires evaluators { All (IsOver (task_of task.now)) evaluators.items }
+{
+    let mut movers = Vec::with_capacity(task.alloc, evaluators.len())?;
+    for evaluator in evaluators {
+        let mover = mover_at_root(task.alloc, task.net, task.penalty, choices, evaluator)?;
+        movers.push(mover)?;
     }
-
-    fn mover(&self, task: &Task<'_>) -> Result<Mover<'a>, AllocError>
-        requires posed { IsPosedTask task.now }
-        requires net { self.now.net.now ≡ task.now.net.now }
-    {
-        let evaluator = evaluator_at_base(task)?;
-        mover_at_root(task.alloc, self.net, task.penalty, self.choices, evaluator)
-    }
+    Ok(movers)
 }

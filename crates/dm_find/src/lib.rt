@@ -12,5 +12,6 @@
 #![tactic(auto)]
 
 mod finding;
+mod making;
 
 pub use finding::find;

@@ -17,6 +17,8 @@ pub struct EventLine {
     /// When it has passed.
     pub passed: Option<Secs>,
 
+    pub cancelled: bool,
+
     /// How early it may be by itself: its scheduled time with its delay, and the clock.
     pub earliest: Secs,
 }
@@ -33,6 +35,7 @@ pub struct ActivityLine {
     pub span: Secs,
     pub weight: u64,
     pub kept: bool,
+    pub locked: bool,
 }
 
 /// Two departures of which one goes first, by id.
@@ -41,6 +44,7 @@ pub struct PairLine {
     pub small: EventId,
     pub large: EventId,
     pub first: EventId,
+    pub locked: bool,
 }
 
 /// All that the rows of a network say.
@@ -53,7 +57,7 @@ pub struct Day {
     /// What may still be decided, in order.
     pub free: Vec<Choice>,
 
-    /// Seconds for each passenger who misses a change.
+    /// Seconds for each passenger who misses a change or whose train is cancelled.
     pub penalty: u64,
 }
 
@@ -72,7 +76,8 @@ impl Day {
         Ok(day)
     }
 
-    /// The changes whose head has not passed, in ascending id, and behind them the pairs of which neither event has.
+    /// The changes whose head has not passed, in ascending id, and behind them the pairs of which neither event has: those that are
+    /// not locked and of which no event is cancelled.
     fn find_free(&mut self, alloc: Global) -> Result<(), AllocError> {
         let changes = self.free_changes(alloc)?;
         for change in &changes {
@@ -89,7 +94,7 @@ impl Day {
     fn free_changes(&self, alloc: Global) -> Result<Vec<u32>, AllocError> {
         let mut ids = Vec::new(alloc);
         for line in &self.activities {
-            if line.kind == ActKind::Change && !self.has_passed(line.head) {
+            if line.kind == ActKind::Change && self.is_ahead(line) && !line.locked {
                 ids.push(line.id.0)?;
             }
         }
@@ -100,7 +105,7 @@ impl Day {
     fn free_pairs(&self, alloc: Global) -> Result<Vec<(u32, u32)>, AllocError> {
         let mut ids = Vec::new(alloc);
         for line in &self.pairs {
-            if !self.id_has_passed(line.small) && !self.id_has_passed(line.large) {
+            if self.runs_ahead(line.small) && self.runs_ahead(line.large) && !line.locked {
                 ids.push((line.small.0, line.large.0))?;
             }
         }
@@ -150,10 +155,24 @@ impl Day {
         }
     }
 
-    fn id_has_passed(&self, id: EventId) -> bool {
-        self.events
-            .iter()
-            .any(|line| line.id == id && line.passed.is_some())
+    /// Whether the event at a place is cancelled.
+    pub fn is_cancelled(&self, place: usize) -> bool {
+        match self.events.get(place) {
+            Some(line) => line.cancelled,
+            None => false,
+        }
+    }
+
+    /// Whether neither end of an activity is cancelled, and its head has not passed.
+    pub fn is_ahead(&self, line: &ActivityLine) -> bool {
+        !self.is_cancelled(line.tail)
+            && !self.is_cancelled(line.head)
+            && !self.has_passed(line.head)
+    }
+
+    /// Whether the event of this id has not passed and is not cancelled.
+    fn runs_ahead(&self, id: EventId) -> bool {
+        self.events.iter().any(|line| line.id == id && line.passed.is_none() && !line.cancelled)
     }
 
     pub fn event_id(&self, place: usize) -> EventId {
@@ -207,6 +226,7 @@ fn event_lines(alloc: Global, net: &Network, rows: &Rows) -> Result<Vec<EventLin
             scheduled: event.time,
             weight: event.weight,
             passed: rows.passed(i),
+            cancelled: rows.cancelled(i),
             earliest: due.max(rows.clock()),
         })?;
     }
@@ -231,6 +251,7 @@ fn activity_lines(
             span: activity.lower.saturating_add(rows.act_delay(a)),
             weight: activity.weight,
             kept: rows.kept(a),
+            locked: rows.locked_change(a),
         })?;
     }
     Ok(lines)
@@ -250,6 +271,7 @@ fn pair_lines(alloc: Global, net: &Network, rows: &Rows) -> Result<Vec<PairLine>
             small,
             large,
             first,
+            locked: rows.locked_pair(p),
         })?;
     }
     Ok(lines)

@@ -1,9 +1,9 @@
 //! Plans beside a slow reading of what a true plan is.
 //!
 //! It goes over every list of three messages where two trains meet, and over generated days of 9 to 24 trains with drawn
-//! messages. The drawn messages are events that have passed or are recalled, dropped changes, pairs that are turned, delays
-//! and a clock. For each list and each day it asks for plans of up to 64 nodes. On the days it also asks for plans of windows,
-//! and for plans that go on from parts of other plans. Each plan of the rows is made one by parts too.
+//! messages. The drawn messages are events that have passed or are recalled, cancelled or restored, dropped changes, pairs that
+//! are turned, locks, delays and a clock. For each list and each day it asks for plans of up to 64 nodes. On the days it also asks
+//! for plans of windows, and for plans that go on from parts of other plans. Each plan of the rows is made one by parts too.
 //!
 //! It judges each plan over plain lists. The times of a path come by rounds over all activities. Where there are few choices,
 //! the costs of all of them are compared. Plans of windows, what becomes of them over newer rows, and plans that go on from a
@@ -73,7 +73,7 @@ fn main(rt: HostRuntime) -> io::Result<()> {
             trains,
             seed: penalty.saturating_add(passed),
             parts: 3,
-            messages: 12,
+            messages: 14,
             passed,
             penalty,
         };

@@ -1,6 +1,6 @@
 //! Times and costs by rounds over all activities, with the decisions of a path set.
 
-use crate::day::{ActivityLine, Day};
+use crate::day::{ActivityLine, Day, EventLine};
 use dm_base::{ActId, ActKind, Cost, EventId, Secs};
 use dm_rows::{Choice, Decision};
 use std::alloc::{AllocError, Global};
@@ -70,7 +70,7 @@ impl Day {
     }
 
     fn binds(&self, line: &ActivityLine, path: &[Decision], undecided: Undecided) -> bool {
-        if self.has_passed(line.head) {
+        if !self.is_ahead(line) {
             return false;
         }
         match line.kind {
@@ -118,20 +118,29 @@ impl Day {
         Ok(times)
     }
 
-    /// Weight times lateness over all arrivals.
+    /// What all arrivals cost.
     fn lateness(&self, times: &[Secs]) -> Cost {
         let mut sum: Cost = 0;
         for (line, time) in self.events.iter().zip(times) {
-            if line.arrives {
-                let late = time.saturating_sub(line.scheduled);
-                let cost = Cost::from(line.weight).saturating_mul(Cost::from(late));
-                sum = sum.saturating_add(cost);
-            }
+            sum = sum.saturating_add(self.arrival_cost(line, *time));
         }
         sum
     }
 
-    /// The penalty of each change that is dropped, or whose head passed too early.
+    /// Weight times lateness of an arrival, or its penalty if it is cancelled.
+    pub fn arrival_cost(&self, line: &EventLine, time: Secs) -> Cost {
+        if !line.arrives {
+            return 0;
+        }
+        let seconds = if line.cancelled {
+            self.penalty
+        } else {
+            time.saturating_sub(line.scheduled)
+        };
+        Cost::from(line.weight).saturating_mul(Cost::from(seconds))
+    }
+
+    /// The penalty of each change that passengers miss.
     fn missed(&self, times: &[Secs], path: &[Decision], undecided: Undecided) -> Cost {
         let mut sum: Cost = 0;
         for line in &self.activities {
@@ -143,7 +152,8 @@ impl Day {
         sum
     }
 
-    /// Whether a change is dropped, or its head passed too early.
+    /// Whether passengers miss a change: it is dropped or has a cancelled end, or its head has passed too early or behind a
+    /// cancelled tail.
     pub fn is_missed(
         &self,
         line: &ActivityLine,
@@ -152,7 +162,10 @@ impl Day {
         undecided: Undecided,
     ) -> bool {
         if self.has_passed(line.head) {
-            return is_unmet(line, times);
+            return self.is_cancelled(line.tail) || is_unmet(line, times);
+        }
+        if !self.is_ahead(line) {
+            return true;
         }
         match kept_by(path, line.id) {
             Some(kept) => !kept,

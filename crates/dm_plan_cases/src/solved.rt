@@ -158,18 +158,17 @@ fn cost_within(alloc: Global, day: &Day, share: &Share, path: &[Decision]) -> Re
 }
 
 impl Day {
-    /// What the lateness of an arrival costs.
+    /// What an arrival costs.
     fn lateness_of(&self, id: EventId, times: &[Secs]) -> Cost {
         for (line, time) in self.events.iter().zip(times) {
-            if line.id == id && line.arrives {
-                let late = time.saturating_sub(line.scheduled);
-                return Cost::from(line.weight).saturating_mul(Cost::from(late));
+            if line.id == id {
+                return self.arrival_cost(line, *time);
             }
         }
         0
     }
 
-    /// The penalty of a change, if it is dropped, or if its head passed too early.
+    /// The penalty of a change, if passengers miss it.
     fn penalty_of(&self, id: ActId, times: &[Secs], path: &[Decision]) -> Cost {
         for line in &self.activities {
             if line.id == id && self.is_missed(line, times, path, Undecided::Free) {

@@ -10,7 +10,7 @@
 //! no more terms than that, its bound is no lower than the plan's, and with k choices allowed a budget of 2^(k+1) - 1 nodes makes
 //! it optimal.
 //!
-//! [`plan_by_workers`] promises the same, whatever workers the caller has solve parts.
+//! [`plan_by_workers`] promises the same, whatever workers the caller has solve parts. The caller makes its [`Evaluators`] too.
 //!
 //! Each node of each tree is judged anew by an evaluator that is brought to its path. Where what was found does not hold, a part
 //! has fewer nodes or is left out: its terms then count as they are where nothing is decided. So does a part with too many ids.
@@ -26,4 +26,4 @@ mod growing;
 mod judging;
 mod solving;
 
-pub use solving::{plan_by_parts, plan_by_workers};
+pub use solving::{Evaluators, plan_by_parts, plan_by_workers};

@@ -6,6 +6,7 @@ ghost use Rattle.dm_tree.specs.declared.forms.Mark.TheVariants.{Optimal};
 ghost use Rattle.dm_tree.specs.Plans.{Task as PlanTask, IsTruePlan, CostsRelaxed};
 ghost use Rattle.dm_parts.specs.Parts.{IsTruePlanByParts, task_beside, shares_of};
 ghost use Rattle.dm_parts.specs.Sizes.{ids_of, most_ids};
+ghost use Rattle.dm_solve.specs.Evaluators.{AreOver};
 ghost use Rattle.dm_solve.specs.Inside.Chosen.{AreChosen};
 ghost use Rattle.dm_solve.specs.Inside.Gathered.{AreGathered};
 ghost use Rattle.dm_solve.specs.Terms.{terms_of};
@@ -24,6 +25,17 @@ use dm_rows::Decision;
 use dm_search::{evaluator_at_base, walk};
 use dm_tree::{Mark, Plan};
 use std::alloc::AllocError;
+
+/// Evaluators that have decided a task's base, and nothing else.
+#[derive(Drop)]
+pub struct Evaluators {
+    /// By this one all parts are moved at once.
+    pub whole: Evaluator,
+    /// By this one cheaper choices are looked for.
+    pub polishing: Evaluator,
+    /// By this one leaves and choices are judged.
+    pub judging: Evaluator,
+}
 
 /// A true plan by parts of a task, made of a true plan: it has the plan's entry, costs no more, has as many nodes as the task's
 /// budget allows, at most, and no more ids than a text has room for. Where that is room for all terms of the network, its bound
@@ -46,20 +58,33 @@ pub fn plan_by_parts(task: &Task<'_>, plan: &Plan) -> Result<PlanByParts, AllocE
         first: mover_at_root(task.alloc, task.net, task.penalty, &choices, first)?,
         others: Vec::new(task.alloc),
     };
+    let evaluators = Evaluators {
+        whole: evaluator_at_base(task)?,
+        polishing: evaluator_at_base(task)?,
+        judging: evaluator_at_base(task)?,
+    };
     let run = |jobs: Vec<Job>, first: &mut Mover<'_>, _others: &mut [Mover<'_>]| {
         in_turn(jobs, first, &mut [])
     };
-    plan_by_workers(task, plan, roots, &run)
+    plan_by_workers(task, plan, roots, evaluators, &run)
 }
 
-/// The same, where parts that may be solved side by side are handed to the caller, with movers at the root.
+/// The same, where parts that may be solved side by side are handed to the caller, with movers at the root, and the caller has made
+/// the evaluators.
 pub fn plan_by_workers<
     't: 'a,
     'a,
     F: Fn(Vec<Job>, &mut Mover<'a>, &mut [Mover<'a>]) -> Result<Vec<Job>, AllocError>,
->(task: &Task<'t>, plan: &Plan, roots: Roots<'a>, run: &F) -> Result<PlanByParts, AllocError>
+>(
+    task: &Task<'t>,
+    plan: &Plan,
+    roots: Roots<'a>,
+    evaluators: Evaluators,
+    run: &F,
+) -> Result<PlanByParts, AllocError>
     requires run { F.IsAlwaysCallable run.now }
     requires posed { IsPosedTask task.now }
+    requires evaluators { AreOver (task_of task.now) evaluators.whole evaluators.polishing evaluators.judging }
     requires plan { IsTruePlan (task_of task.now) plan.now }
     ensures parts { IfOk result (IsTruePlanByParts (task_of task.now)) }
     ensures entry { IfOk result (λ found. found.entry ≡ plan.now.entry) }
@@ -70,23 +95,14 @@ pub fn plan_by_workers<
         IfOk result (λ found. found.mark ≡ Optimal) }
 {
     task.net.reveal();
-    let found = found_for(task, plan, roots, run)?;
-    let mut evaluator = evaluator_at_base(task)?;
-    made_of(task, &mut evaluator, plan, &found)
-}
-
-/// Trees and choices that are good, perhaps.
-fn found_for<
-    't: 'a,
-    'a,
-    F: Fn(Vec<Job>, &mut Mover<'a>, &mut [Mover<'a>]) -> Result<Vec<Job>, AllocError>,
->(task: &Task<'t>, plan: &Plan, roots: Roots<'a>, run: &F) -> Result<Found, AllocError>
-    requires posed { IsPosedTask task.now }
-    requires run { F.IsAlwaysCallable run.now }
-{
-    let second = evaluator_at_base(task)?;
-    let third = evaluator_at_base(task)?;
-    parts_for(task, plan.choices.as_slice(), roots, run, second, third)
+    let Evaluators {
+        whole,
+        polishing,
+        mut judging,
+    } = evaluators;
+    let choices = plan.choices.as_slice();
+    let found = parts_for(task, choices, roots, run, whole, polishing)?;
+    made_of(task, &mut judging, plan, &found)
 }
 
 /// The plan by parts of a plan and of what was found.

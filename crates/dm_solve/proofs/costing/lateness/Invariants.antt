@@ -4,4 +4,4 @@ use Rattle.dm_solve.specs.Inside.Sums.{lateness_up_to}
 use Rattle.dm_solve.proofs.costing.lateness.Given as goal
 
 abbrev pub invariant-loop-id : goal.invariant-loop-id
-invariant-loop-id l = record { sum : l.sum ≡ lateness_up_to l.net l.share l.times l.id-index; low : l.sum ≤ l.id-index * (WEIGHT * 2 ^ 38) }
+invariant-loop-id l = record { sum : l.sum ≡ lateness_up_to l.net l.share l.rows l.times l.id-index; low : l.sum ≤ l.id-index * (WEIGHT * 2 ^ 38) }
