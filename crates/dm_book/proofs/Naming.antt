@@ -1,10 +1,12 @@
 -- Which entry an item names as accepted.
-use Rattle.std.proofs.Common.{◌≡◌, ◌<◌, ◌+◌, ℕ, suc, Bool, true, false, cond, List, [], ◌∷◌, ◌++◌, Option, Some, None, refl, ap, subst, arith, inl, inr, slice_get}
+use Rattle.std.proofs.Common.{◌≡◌, ◌<◌, ◌+◌, ◌-◌, ℕ, suc, Bool, true, false, cond, List, [], ◌∷◌, ◌++◌, take, Option, Some, None, refl, ap, subst, arith, inl, inr, slice_get}
 use Rattle.std.specs.Prelude.{count_by}
 use Rattle.std.specs.Option.{IsSomeAnd}
 use Rattle.std.proofs.lemmas.Bool.{cases_Bool, cases_lt, eqb-true}
 use Rattle.std.proofs.lemmas.List.Sums.{sum_by-append}
+use Rattle.std.proofs.lemmas.Option.{slice_get_within}
 use Rattle.dm_rows.specs.declared.messages.Entry.{Entry}
+use Rattle.dm_rows.specs.declared.messages.Message.{Message}
 use Rattle.dm_rows.specs.declared.messages.Message.TheVariants.{Adopt as AdoptAll}
 use Rattle.dm_feed.specs.declared.grammar.Line.{Line}
 use Rattle.dm_feed.specs.declared.grammar.Line.TheVariants as line
@@ -12,27 +14,55 @@ use Rattle.dm_cert.specs.declared.replies.Reply.TheVariants.{Ok, Refused, Time, 
 use Rattle.dm_cert.specs.declared.replies.LogItem.{LogItem}
 use Rattle.dm_cert.specs.declared.replies.LogItem.TheVariants.{Malformed, Answered}
 use Rattle.dm_cert.specs.declared.replies.FeedLog.{FeedLog}
-use Rattle.dm_cert.specs.Answers.{Setting, IsEntry, IsTrueAnswer, IsTrueReply, latest_plan, IsAdopted}
+use Rattle.dm_cert.specs.Answers.{Setting, IsEntry, IsTrueAnswer, IsTrueReply, latest_plan, IsAdopted, carried, IsCarried}
 use Rattle.dm_cert.specs.Logs.{AreTrueAnswers, IsTrueLog, all_items, kind_of, names}
 use Rattle.dm_cert.proofs.Numbers.{count-cons, one_name}
+use Rattle.dm_cert.proofs.TrueLogs.{carried_alike}
 use Rattle.dm_tree.specs.declared.adopting.Chosen.{Chosen}
 
--- both histories have the same entry of this number
+-- both histories have an entry of this number, and it is one entry where those before it are the same
 pub record IsSameEntry (n : ℕ) (one other : List Entry) : Type 0 where
   pub entry : Entry
+  pub other_entry : Entry
   pub here : IsEntry one n entry
-  pub there : IsEntry other n entry
+  pub there : IsEntry other n other_entry
+  pub same : take (n - 1) one ≡ take (n - 1) other → entry ≡ other_entry
+
+one_entry : (n : ℕ) (one other : List Entry) (entry : Entry) → IsEntry one n entry → IsEntry other n entry → IsSameEntry n one other
+one_entry n one other entry here there = record { entry = entry; other_entry = entry; here = here; there = there; same = λ fronts. refl }
 
 adopted_same : (one other : List Entry) (feed at n : ℕ) (plan : Option Chosen) → IsSomeAnd plan (λ p. IsAdopted one feed at n p) →
     IsSomeAnd plan (λ p. IsAdopted other feed at n p) → IsSameEntry n one other
 adopted_same one other feed at n None p q = absurd p
-adopted_same one other feed at n (Some plan) p q = record { entry = record { feed = feed; line = at; message = AdoptAll plan.choices }; here = p.entry; there = q.entry }
+adopted_same one other feed at n (Some plan) p q = one_entry n one other (record { feed = feed; line = at; message = AdoptAll plan.choices }) p.entry q.entry
+
+abbrev entry_with : ℕ → ℕ → Message → Entry
+entry_with feed line message = record { feed = feed; line = line; message = message }
+
+-- which choices were carried depends on the entries before
+carried_same : (s : Setting) (one other : List Entry) (feed at n : ℕ) (plan : Option Chosen) → IsSomeAnd plan (λ p. IsCarried s one feed at n p.choices) →
+    IsSomeAnd plan (λ p. IsCarried s other feed at n p.choices) → IsSameEntry n one other
+carried_same s one other feed at n None p q = absurd p
+carried_same s one other feed at n (Some plan) p q =
+    let here : Entry = record { feed = feed; line = at; message = carried s one (n - 1) plan.choices } in
+    let there : Entry = record { feed = feed; line = at; message = carried s other (n - 1) plan.choices } in
+    let low = slice_get_within one (n - 1) here p.1 in
+    let low_too = slice_get_within other (n - 1) there q.1 in
+    record {
+      entry = here;
+      other_entry = there;
+      here = p;
+      there = q;
+      same = λ fronts.
+          ap (λ (m : Message). entry_with feed at m)
+          (carried_alike s (n - 1) (n - 1) one other refl (record { in_one = omega (arith, low); in_other = omega (arith, low_too); front = fronts }) plan.choices);
+    }
 
 ok_same : (s : Setting) (one other : List Entry) (feed : ℕ) (before : List LogItem) (at : ℕ) (said : Line) (n : ℕ) →
     IsTrueReply s one feed before at said (Ok n) → IsTrueReply s other feed before at said (Ok n) → IsSameEntry n one other
-ok_same s one other feed before at (line.Say message) n p q =
-    record { entry = record { feed = feed; line = at; message = message }; here = p; there = q }
+ok_same s one other feed before at (line.Say message) n p q = one_entry n one other (record { feed = feed; line = at; message = message }) p q
 ok_same s one other feed before at line.Adopt n p q = adopted_same one other feed at n (latest_plan before) p q
+ok_same s one other feed before at line.Carry n p q = carried_same s one other feed at n (latest_plan before) p q
 ok_same s one other feed before at (line.Time event) n p q = absurd p
 ok_same s one other feed before at line.CostNow n p q = absurd p
 ok_same s one other feed before at (line.Plan budget) n p q = absurd p

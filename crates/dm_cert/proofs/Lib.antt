@@ -17,6 +17,7 @@ pub mod Options
 pub mod PathsRead
 pub mod Staged
 pub mod PartsStaged
+pub mod SortedEntries
 pub mod SpelledPlans
 pub mod SpelledSolved
 pub mod SolvedTold

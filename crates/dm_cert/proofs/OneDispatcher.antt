@@ -16,12 +16,12 @@ use Rattle.dm_cert.proofs.TakingBack.{is_reached}
 use Rattle.dm_cert.proofs.Stepping.{reached_holds}
 
 -- the log whose items stand at a place
-record IsLogAt (logs : List FeedLog) (place : ℕ) (items : List LogItem) : Type 0 where
-  log : FeedLog
-  stands : slice_get logs place ≡ Some log
-  is : log.items ≡ items
+pub record IsLogAt (logs : List FeedLog) (place : ℕ) (items : List LogItem) : Type 0 where
+  pub log : FeedLog
+  pub stands : slice_get logs place ≡ Some log
+  pub is : log.items ≡ items
 
-log_at : (logs : List FeedLog) (place : ℕ) (items : List LogItem) → slice_get (items_of logs) place ≡ Some items → IsLogAt logs place items
+pub log_at : (logs : List FeedLog) (place : ℕ) (items : List LogItem) → slice_get (items_of logs) place ≡ Some items → IsLogAt logs place items
 log_at logs place items at = from (slice_get logs place) refl (sym (slice_get-map (λ (log : FeedLog). log.items) logs place) ∙ at)
   where
     from : (o : Option FeedLog) → slice_get logs place ≡ o → option_map (λ (log : FeedLog). log.items) o ≡ Some items → IsLogAt logs place items

@@ -13,7 +13,8 @@ use Rattle.dm_rows.specs.declared.messages.Decision.{Decision}
 use Rattle.dm_rows.specs.declared.messages.Decision.TheVariants.{Keep as KeepIt, Drop as DropIt, First as FirstOf}
 use Rattle.dm_rows.specs.declared.messages.Entry.{Entry}
 use Rattle.dm_rows.specs.declared.messages.Message.{Message}
-use Rattle.dm_rows.specs.declared.messages.Message.TheVariants.{DelayEvent, DelayActivity, Pass, Recall, Keep, Drop, First, Adopt as AdoptAll, Now}
+use Rattle.dm_rows.specs.declared.messages.Choice.TheVariants as choice
+use Rattle.dm_rows.specs.declared.messages.Message.TheVariants.{DelayEvent, DelayActivity, Pass, Recall, Keep, Drop, First, Adopt as AdoptAll, Now, Cancel, Restore, Lock, Unlock}
 use Rattle.dm_rows.specs.declared.messages.Refusal.{Refusal}
 use Rattle.dm_rows.specs.declared.messages.Refusal.TheVariants.{Cycle, Full, OutOfMemory}
 use Rattle.dm_rows.specs.Rows.{RowsValue}
@@ -22,7 +23,7 @@ use Rattle.dm_rows.specs.Resolve.{after}
 use Rattle.dm_rows.specs.Refuse.{IsNow, RefusesDecision, RefusesAtOnce, PassesAtOnce, RefusesNothing, Refuses}
 use Rattle.dm_rows.specs.History.{IsLegal}
 use Rattle.dm_feed.specs.declared.grammar.Line.{Line}
-use Rattle.dm_feed.specs.declared.grammar.Line.TheVariants.{Say, Time as AskTime, CostNow as AskCost, Plan as AskPlan, Solve as AskSolve, Adopt as AskAdopt, Read as AskRead}
+use Rattle.dm_feed.specs.declared.grammar.Line.TheVariants.{Say, Time as AskTime, CostNow as AskCost, Plan as AskPlan, Solve as AskSolve, Adopt as AskAdopt, Carry as AskCarry, Read as AskRead}
 use Rattle.dm_feed.specs.DueItems.{DueItem}
 use Rattle.dm_tree.specs.declared.plans.Plan.{Plan}
 use Rattle.dm_tree.specs.declared.adopting.Chosen.{Chosen}
@@ -32,12 +33,12 @@ use Rattle.dm_cert.specs.declared.replies.Reply.{Reply}
 use Rattle.dm_cert.specs.declared.replies.Reply.TheVariants.{Ok, Refused, Time, Cost, Read, Planned, Solved, Old, NoPlan, Plans, Range}
 use Rattle.dm_cert.specs.declared.replies.LogItem.{LogItem}
 use Rattle.dm_cert.specs.declared.replies.LogItem.TheVariants.{Malformed, Answered}
-use Rattle.dm_cert.specs.Answers.{Setting, rows_after, IsEntry, plan_after, plan_after_reply, latest_plan, IsAdopted, IsTrueReply, IsTrueAnswer}
+use Rattle.dm_cert.specs.Answers.{Setting, rows_after, IsEntry, plan_after, plan_after_reply, latest_plan, IsAdopted, carried, IsCarried, IsTrueReply, IsTrueAnswer}
 use Rattle.dm_cert.specs.Logs.{Kind, free, told, entered, kind_of, line_of, due_of, Follows, names, AreTrueAnswers, IsTrueLog}
 use Rattle.dm_cert.specs.CoreRun.{LinesRise, AnswerFirst, IsPresent, IsToEnter, IsItemToEnter, EntersNext, AnswersNow, CoreState, CoreStep, CoreRun, nothing_yet, IsReached}
 use Rattle.dm_tree.proofs.Admitted.{free_choices_are_admitted}
 use Rattle.dm_cert.proofs.Numbers.{last_number, one_name, count_push, names_itself, names_no_other, unnamed_above}
-use Rattle.dm_cert.proofs.TrueLogs.{answers_grow, numbers_within, log_grows, log_push}
+use Rattle.dm_cert.proofs.TrueLogs.{alike_shorter, carried_alike, answers_grow, numbers_within, log_grows, log_push}
 use Rattle.dm_cert.proofs.ListsOfLogs.{get_set_same, get_set_other, sum_set, HasPart, has_part, total_names, empty_at}
 use Rattle.dm_cert.proofs.Holding.{Holds, get_at, first_push, next_rises, legal_push, ok_of}
 
@@ -53,6 +54,10 @@ now_or_not (Drop a) = inr (λ h. h)
 now_or_not (First i j) = inr (λ h. h)
 now_or_not (AdoptAll ds) = inr (λ h. h)
 now_or_not (Now t) = inl tt
+now_or_not (Cancel e) = inr (λ h. h)
+now_or_not (Restore e) = inr (λ h. h)
+now_or_not (Lock c) = inr (λ h. h)
+now_or_not (Unlock c) = inr (λ h. h)
 
 -- no decision, and so no message, is refused at once for a cycle, a full history or want of memory
 no_cycle_in : (net : Net) (rows : RowsValue) (d : Decision) (ids : List _) → RefusesDecision net rows d (Cycle ids) → ⊥
@@ -80,6 +85,12 @@ no_cycle_at_once net rows (Drop a) ids h = h
 no_cycle_at_once net rows (First i j) ids h = h
 no_cycle_at_once net rows (AdoptAll ds) ids h = no_cycle_in net rows h.decision ids h.refused
 no_cycle_at_once net rows (Now t) ids h = h
+no_cycle_at_once net rows (Cancel e) ids h = h
+no_cycle_at_once net rows (Restore e) ids h = h
+no_cycle_at_once net rows (Lock (choice.Change a)) ids h = h
+no_cycle_at_once net rows (Lock (choice.Pair i j)) ids h = h
+no_cycle_at_once net rows (Unlock (choice.Change a)) ids h = h
+no_cycle_at_once net rows (Unlock (choice.Pair i j)) ids h = h
 
 no_full_at_once : (net : Net) (rows : RowsValue) (m : Message) (k : ℕ) → RefusesAtOnce net rows m (Full k) → ⊥
 no_full_at_once net rows (DelayEvent e d) k h = h
@@ -91,6 +102,12 @@ no_full_at_once net rows (Drop a) k h = h
 no_full_at_once net rows (First i j) k h = h
 no_full_at_once net rows (AdoptAll ds) k h = no_full_in net rows h.decision k h.refused
 no_full_at_once net rows (Now t) k h = h
+no_full_at_once net rows (Cancel e) k h = h
+no_full_at_once net rows (Restore e) k h = h
+no_full_at_once net rows (Lock (choice.Change a)) k h = h
+no_full_at_once net rows (Lock (choice.Pair i j)) k h = h
+no_full_at_once net rows (Unlock (choice.Change a)) k h = h
+no_full_at_once net rows (Unlock (choice.Pair i j)) k h = h
 
 no_memory_at_once : (net : Net) (rows : RowsValue) (m : Message) → RefusesAtOnce net rows m OutOfMemory → ⊥
 no_memory_at_once net rows (DelayEvent e d) h = h
@@ -102,6 +119,12 @@ no_memory_at_once net rows (Drop a) h = h
 no_memory_at_once net rows (First i j) h = h
 no_memory_at_once net rows (AdoptAll ds) h = no_memory_in net rows h.decision h.refused
 no_memory_at_once net rows (Now t) h = h
+no_memory_at_once net rows (Cancel e) h = h
+no_memory_at_once net rows (Restore e) h = h
+no_memory_at_once net rows (Lock (choice.Change a)) h = h
+no_memory_at_once net rows (Lock (choice.Pair i j)) h = h
+no_memory_at_once net rows (Unlock (choice.Change a)) h = h
+no_memory_at_once net rows (Unlock (choice.Pair i j)) h = h
 
 module _ (net : Net) (rows : RowsValue) (n : ℕ) (m : Message) (nothing : RefusesNothing (Refuses net rows n m)) where
   passes_at_once : PassesAtOnce net rows m
@@ -139,6 +162,7 @@ planned_is_good s h feed before line plan (Say m) t = absurd t
 planned_is_good s h feed before line plan (AskTime event) t = absurd t
 planned_is_good s h feed before line plan AskCost t = absurd t
 planned_is_good s h feed before line plan AskAdopt t = absurd t
+planned_is_good s h feed before line plan AskCarry t = absurd t
 planned_is_good s h feed before line plan AskRead t = absurd t
 
 solved_is_good : (s : Setting) (h : List Entry) (feed : ℕ) (before : List LogItem) (line : ℕ) (plan : PlanByParts) (said : Line) → IsTrueReply s h feed before line said (Solved plan)
@@ -149,6 +173,7 @@ solved_is_good s h feed before line plan (Say m) t = absurd t
 solved_is_good s h feed before line plan (AskTime event) t = absurd t
 solved_is_good s h feed before line plan AskCost t = absurd t
 solved_is_good s h feed before line plan AskAdopt t = absurd t
+solved_is_good s h feed before line plan AskCarry t = absurd t
 solved_is_good s h feed before line plan AskRead t = absurd t
 
 good_after_reply : (s : Setting) (h : List Entry) (feed : ℕ) (before : List LogItem) (line : ℕ) (said : Line) (latest : Option Chosen) (reply : Reply) → IsTrueReply s h feed before line said reply
@@ -198,6 +223,7 @@ module _ (s : Setting) (network : IsNetwork s.net) (h : List Entry) (legal : IsL
   said_is_admitted (Say own) m t =
       subst (IsAdmitted s h) t.0 (record { room = has_room s.net (rows_after s h (length h)) (length h) own t.1 legal.size; passes = t.1 })
   said_is_admitted AskAdopt m t = adopted_is_admitted m (latest_plan before) (goods s h feed [] None before answers tt) t
+  said_is_admitted AskCarry m t = record { room = has_room s.net (rows_after s h (length h)) (length h) m t.1 legal.size; passes = t.1 }
   said_is_admitted (AskTime event) m t = absurd t
   said_is_admitted AskCost m t = absurd t
   said_is_admitted (AskPlan budget) m t = absurd t
@@ -230,6 +256,16 @@ module _ (s : Setting) (h : List Entry) (feed : ℕ) (before : List LogItem) (li
             next = omega arith;
             entry = subst (λ (message : Message). IsEntry (h ++ entry_of m ∷ []) n (entry_of message)) (sym t.choices) (last_is_entry h (entry_of m) n is);
           }
+  entered_said AskCarry m t = carried_here (latest_plan before) t.0
+    where
+      carried_here : (latest : Option Chosen) → IsSomeAnd latest (λ plan. carried s h (length h) plan.choices ≡ m)
+          → IsSomeAnd latest (λ plan. IsCarried s (h ++ entry_of m ∷ []) feed line n plan.choices)
+      carried_here None t = absurd t
+      carried_here (Some plan) t =
+          let here : n - 1 ≡ length h = omega arith in
+          let same : m ≡ carried s (h ++ entry_of m ∷ []) (n - 1) plan.choices =
+          sym (carried_alike s (n - 1) (length h) (h ++ entry_of m ∷ []) h here (alike_shorter h (entry_of m ∷ [])) plan.choices ∙ t) in
+          subst (λ (message : Message). IsEntry (h ++ entry_of m ∷ []) n (entry_of message)) same (last_is_entry h (entry_of m) n is)
   entered_said (AskTime event) m t = absurd t
   entered_said AskCost m t = absurd t
   entered_said (AskPlan budget) m t = absurd t

@@ -13,18 +13,18 @@ use Rattle.dm_rows.specs.declared.messages.Refusal.{Refusal}
 use Rattle.dm_rows.specs.Refuse.{Refuses}
 use Rattle.dm_rows.specs.History.{IsLegal}
 use Rattle.dm_feed.specs.declared.grammar.Line.{Line}
-use Rattle.dm_feed.specs.declared.grammar.Line.TheVariants.{Say, Time as AskTime, CostNow as AskCost, Plan as AskPlan, Solve as AskSolve, Adopt as AskAdopt, Read as AskRead}
+use Rattle.dm_feed.specs.declared.grammar.Line.TheVariants.{Say, Time as AskTime, CostNow as AskCost, Plan as AskPlan, Solve as AskSolve, Adopt as AskAdopt, Carry as AskCarry, Read as AskRead}
 use Rattle.dm_feed.specs.DueItems.{DueItem}
 use Rattle.dm_tree.specs.declared.adopting.Chosen.{Chosen}
 use Rattle.dm_cert.specs.declared.replies.Reply.{Reply}
 use Rattle.dm_cert.specs.declared.replies.Reply.TheVariants.{Ok}
 use Rattle.dm_cert.specs.declared.replies.LogItem.{LogItem}
 use Rattle.dm_cert.specs.declared.replies.LogItem.TheVariants.{Malformed, Answered}
-use Rattle.dm_cert.specs.Answers.{Setting, rows_after, IsEntry, latest_plan, IsAdopted, IsTrueReply, IsTrueAnswer}
+use Rattle.dm_cert.specs.Answers.{Setting, rows_after, IsEntry, latest_plan, IsAdopted, carried, IsCarried, IsTrueReply, IsTrueAnswer}
 use Rattle.dm_cert.specs.Logs.{Kind, free, told, entered, kind_of, number_after, Follows, names, IsTrueLog}
 use Rattle.dm_cert.specs.CoreRun.{AnswerFirst, IsPresent, EntersNext, AnswersNow, CoreState, CoreStep, CoreRun, nothing_yet, IsReached}
 use Rattle.dm_cert.proofs.Numbers.{IsWithin, last_number, last_number_push, order_front, order_last, one_name, count_push, names_itself, names_no_other, named_no_more}
-use Rattle.dm_cert.proofs.TrueLogs.{alike_shorter, answer_within, answers_alike, answers_front, answers_last, numbers_within}
+use Rattle.dm_cert.proofs.TrueLogs.{alike_shorter, carried_alike, answer_within, answers_alike, answers_front, answers_last, numbers_within}
 use Rattle.dm_cert.proofs.ListsOfLogs.{get_set_same, get_set_other, set_back, sum_set, sum_two, HasPart, has_part, total_names, size_of, all_empty, none_named}
 use Rattle.dm_cert.proofs.Holding.{Holds, get_at, first_front, first_next, legal_front, legal_last, ok_of}
 
@@ -245,6 +245,26 @@ module _ (s : Setting) (g : List Entry) (e : Entry) (legal : IsLegal s.net s.sta
           record {
             message = AdoptAll plan.choices;
             to_enter = subst (λ (o : Option Chosen). IsSomeAnd o (λ p. IsPresent g (AdoptAll plan.choices) p)) (sym is_latest) (record { present = present; room = room; choices = refl });
+            number = is;
+            grown = ap (λ (x : Entry). g ++ x ∷ []) (sym same);
+          }
+  entering_said AskCarry t = carrying (latest_plan before) refl t
+    where
+      carrying : (latest : Option Chosen) → latest_plan before ≡ latest → IsSomeAnd latest (λ plan. IsCarried s (g ++ e ∷ []) feed line n plan.choices)
+          → EntersNext s g (g ++ e ∷ []) feed before (Answered line AskCarry (Ok n)) n
+      carrying None is_latest t = absurd t
+      carrying (Some plan) is_latest t =
+          let message : Message = carried s (g ++ e ∷ []) (n - 1) plan.choices in
+          let same = last_entry message t in
+          let here : n - 1 ≡ length g = omega arith in
+          let is_carried : carried s g (length g) plan.choices ≡ message =
+          sym (carried_alike s (n - 1) (length g) (g ++ e ∷ []) g here (alike_shorter g (e ∷ [])) plan.choices) in
+          record {
+            message = message;
+            to_enter = (
+              subst (λ (o : Option Chosen). IsSomeAnd o (λ p. carried s g (length g) p.choices ≡ message)) (sym is_latest) is_carried,
+              passes_last message (ap (λ (x : Entry). x.message) (sym same)),
+            );
             number = is;
             grown = ap (λ (x : Entry). g ++ x ∷ []) (sym same);
           }

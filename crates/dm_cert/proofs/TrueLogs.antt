@@ -4,20 +4,24 @@ use Rattle.std.specs.Option.{IsSomeAnd}
 use Rattle.std.proofs.lemmas.List.{take-append-le, take-take, length-append, append-nil}
 use Rattle.std.proofs.lemmas.Option.{slice_get_within}
 use Rattle.dm_rows.specs.declared.messages.Entry.{Entry}
+use Rattle.dm_rows.specs.declared.messages.Decision.{Decision}
+use Rattle.dm_rows.specs.declared.messages.Message.{Message}
+use Rattle.dm_rows.specs.declared.messages.Message.TheVariants.{Adopt as AdoptAll}
 use Rattle.dm_rows.specs.Rows.{RowsValue}
 use Rattle.dm_rows.specs.Resolve.{after}
 use Rattle.dm_rows.specs.Refuse.{Refuses}
+use Rattle.dm_rows.specs.Carry.{free_among}
 use Rattle.dm_rows.specs.Timetable.{IsLeast}
 use Rattle.dm_rows.specs.Cost.{Costs}
 use Rattle.dm_feed.specs.declared.grammar.Line.{Line}
-use Rattle.dm_feed.specs.declared.grammar.Line.TheVariants.{Say, Time as AskTime, CostNow as AskCost, Plan as AskPlan, Solve as AskSolve, Adopt as AskAdopt, Read as AskRead}
+use Rattle.dm_feed.specs.declared.grammar.Line.TheVariants.{Say, Time as AskTime, CostNow as AskCost, Plan as AskPlan, Solve as AskSolve, Adopt as AskAdopt, Carry as AskCarry, Read as AskRead}
 use Rattle.dm_tree.specs.Plans.{whole_task, IsTruePlan}
 use Rattle.dm_parts.specs.Parts.{IsTruePlanByParts}
 use Rattle.dm_cert.specs.declared.replies.Reply.{Reply}
 use Rattle.dm_cert.specs.declared.replies.Reply.TheVariants.{Ok, Refused, Time, Cost, Read, Planned, Solved, Old, NoPlan, Plans, Range}
 use Rattle.dm_cert.specs.declared.replies.LogItem.{LogItem}
 use Rattle.dm_cert.specs.declared.replies.LogItem.TheVariants.{Malformed, Answered}
-use Rattle.dm_cert.specs.Answers.{Setting, rows_after, IsEntry, latest_plan, IsAdopted, IsOld, HasNoRoom, IsTrueReply, IsTrueAnswer}
+use Rattle.dm_cert.specs.Answers.{Setting, rows_after, IsEntry, latest_plan, IsAdopted, IsOld, HasNoRoom, carried, IsCarried, IsRefused, IsTrueReply, IsTrueAnswer}
 use Rattle.dm_cert.specs.Logs.{kind_of_reply, kind_of, line_of, number_after, AreTrueAnswers, IsInOrder, IsTrueLog, Follows}
 use Rattle.dm_cert.proofs.Numbers.{IsWithin, last_line, last_number, order_push, last_no_less, within_after, after_within}
 
@@ -62,6 +66,11 @@ slice_get-take (suc n) (suc i) (x ∷ xs) lt = slice_get-take n i xs (omega arit
 
 pub rows_alike : (s : Setting) (n : ℕ) (h k : List Entry) → AreAlike n h k → rows_after s h n ≡ rows_after s k n
 rows_alike s n h k a = ap (fold (λ (rows : RowsValue) (entry : Entry). after s.net rows entry.message) s.start) a.front
+
+-- what is carried over is of the rows alone
+pub carried_alike : (s : Setting) (m n : ℕ) (h k : List Entry) → m ≡ n → AreAlike n h k → (choices : List Decision) → carried s h m choices ≡ carried s k n choices
+carried_alike s m n h k same a choices =
+    ap (λ (i : ℕ). carried s h i choices) same ∙ ap (λ (r : RowsValue). AdoptAll (free_among s.net r choices)) (rows_alike s n h k a)
 
 pub entry_alike : (n m : ℕ) (h k : List Entry) (e : Entry) → AreAlike n h k → m ≤ n → IsEntry h m e → IsEntry k m e
 entry_alike n m h k e a le is =
@@ -123,6 +132,22 @@ module _ (s : Setting) (h k : List Entry) (n : ℕ) (a : AreAlike n h k) (feed :
   reply_alike AskAdopt (Refused at) w t =
       some_and (latest_plan before) (λ plan. HasNoRoom h at.entry at.why plan) (λ plan. HasNoRoom k at.entry at.why plan)
       (λ plan is. record { within = (alike_below at.entry n h k a w).in_other; full = is.full; present = is.present; is_why = is.is_why }) t
+  reply_alike AskCarry NoPlan w t = t
+  reply_alike AskCarry (Ok e) w t =
+      some_and (latest_plan before) (λ plan. IsCarried s h feed line e plan.choices) (λ plan. IsCarried s k feed line e plan.choices)
+      (λ plan is.
+      let there = entry_alike n e h k (record { feed = feed; line = line; message = carried s h (e - 1) plan.choices }) a w is in
+      let b = alike_below (e - 1) n h k a (omega arith) in
+      subst (λ (m : Message). IsEntry k e (record { feed = feed; line = line; message = m })) (carried_alike s (e - 1) (e - 1) h k refl b plan.choices) there) t
+  reply_alike AskCarry (Refused at) w t =
+      some_and (latest_plan before) (λ plan. IsRefused s h at.entry (carried s h at.entry plan.choices) at.why)
+      (λ plan. IsRefused s k at.entry (carried s k at.entry plan.choices) at.why)
+      (λ plan is.
+      let b = alike_below at.entry n h k a w in
+      record {
+        within = b.in_other;
+        refuses = subst (λ (r : RowsValue). Refuses s.net r at.entry (AdoptAll (free_among s.net r plan.choices)) at.why) (rows_alike s at.entry h k b) is.refuses;
+      }) t
   reply_alike _ _ w t = absurd t
 
 -- an item that is true of a history is true of another that is alike up to the item's number
@@ -155,6 +180,12 @@ module _ (s : Setting) (h : List Entry) (feed : ℕ) (before : List LogItem) (li
   reply_within AskAdopt (Ok e) t = some_within (latest_plan before) (λ plan. IsAdopted h feed line e plan) e (length h) (λ plan is. entry_within h e _ is.entry) t
   reply_within AskAdopt (Old e) t = some_within (latest_plan before) (λ plan. IsOld h e plan) e (length h) (λ plan is. is.within) t
   reply_within AskAdopt (Refused at) t = some_within (latest_plan before) (λ plan. HasNoRoom h at.entry at.why plan) at.entry (length h) (λ plan is. is.within) t
+  reply_within AskCarry NoPlan t = tt
+  reply_within AskCarry (Ok e) t =
+      some_within (latest_plan before) (λ plan. IsCarried s h feed line e plan.choices) e (length h)
+      (λ plan is. entry_within h e (record { feed = feed; line = line; message = carried s h (e - 1) plan.choices }) is) t
+  reply_within AskCarry (Refused at) t =
+      some_within (latest_plan before) (λ plan. IsRefused s h at.entry (carried s h at.entry plan.choices) at.why) at.entry (length h) (λ plan is. is.within) t
   reply_within _ _ t = absurd t
 
 -- a true item's number is at most the length of the history

@@ -15,6 +15,7 @@ use Rattle.dm_rows.proofs.AsGraph.{active_enter_no_passed}
 use Rattle.dm_feed.specs.declared.vocabulary.Word.TheVariants.{Delay, Event, Plan as PlanWord, Solve as SolveWord, Drop as DropWord, First as FirstWord}
 use Rattle.dm_feed.specs.declared.feed.FeedStop.TheVariants.{End}
 use Rattle.dm_feed.specs.Parts.{word, id, value, Fits}
+use Rattle.dm_feed.specs.Lines.{HasSortedChoice}
 use Rattle.dm_tree.specs.declared.forms.Node.TheVariants.{Inner, Bound}
 use Rattle.dm_tree.proofs.Shown.{shown_least, shown_acyclic}
 use Rattle.dm_tree.proofs.WorkedPlan.{worked_plan_is_true}
@@ -72,6 +73,10 @@ not_refused (refusal.UnknownChange a) h = h
 not_refused (refusal.UnknownPair i j) h = h
 not_refused (refusal.Passed p t) h = let e : None ≡ Some t = h.1 in cc
 not_refused (refusal.NotPassed e) h = h
+not_refused (refusal.Cancelled e) h = h
+not_refused (refusal.NotCancelled e) h = h
+not_refused (refusal.Locked c) h = h
+not_refused (refusal.NotLocked c) h = h
 not_refused (refusal.Back c) h = h
 not_refused (refusal.Cycle ids) h = no_cycle h.2.places h.2.is_cycle
 not_refused (refusal.Full k) h = omega (arith, h.2)
@@ -244,7 +249,11 @@ solved_log_spelled = all_two IsSpelledItem late_item solved_item (tt, tt) (tt, s
 
 spelled : (held : List LogItem) → All IsSpelledItem held → IsSpelledRun (late_run held)
 spelled held log_spelled =
-    record { logs = All-cons IsSpelledLog (record { items = held; stop = End }) [] log_spelled (All-nil IsSpelledLog); times = refl }
+    record {
+      history = All-cons (λ (entry : Entry). HasSortedChoice entry.message) late_entry [] tt (All-nil (λ (entry : Entry). HasSortedChoice entry.message));
+      logs = All-cons IsSpelledLog (record { items = held; stop = End }) [] log_spelled (All-nil IsSpelledLog);
+      times = refl;
+    }
 
 pub planned_run_is_true : PlannedRunIsTrue
 planned_run_is_true version is_version =

@@ -13,9 +13,11 @@ use Rattle.dm_rows.specs.Rows.{RowsValue}
 use Rattle.dm_rows.specs.Timetable.{time_at, IsLeast}
 use Rattle.dm_rows.specs.Cost.{Costs}
 use Rattle.dm_rows.specs.Refuse.{Refuses}
+use Rattle.dm_rows.specs.declared.messages.Decision.{Decision}
+use Rattle.dm_rows.specs.Carry.{free_among}
 use Rattle.dm_rows.specs.History.{rows_at}
 use Rattle.dm_feed.specs.declared.grammar.Line.{Line}
-use Rattle.dm_feed.specs.declared.grammar.Line.TheVariants.{Say, Time as AskTime, CostNow as AskCost, Plan as AskPlan, Solve as AskSolve, Adopt as AskAdopt, Read as AskRead}
+use Rattle.dm_feed.specs.declared.grammar.Line.TheVariants.{Say, Time as AskTime, CostNow as AskCost, Plan as AskPlan, Solve as AskSolve, Adopt as AskAdopt, Carry as AskCarry, Read as AskRead}
 use Rattle.dm_tree.specs.declared.plans.Plan.{Plan}
 use Rattle.dm_tree.specs.declared.adopting.Chosen.{Chosen}
 use Rattle.dm_tree.specs.Plans.{whole_task, IsTruePlan}
@@ -152,6 +154,15 @@ pub record HasNoRoom (history : List Entry) (n : ℕ) (why : Refusal) (plan : Ch
   pub present : n ≡ plan.entry
   pub is_why : why ≡ Full ENTRIES
 
+-- what choices come to after the first n entries: an adoption of those that are free there
+abbrev pub carried : Setting → List Entry → ℕ → List Decision → Message
+carried s history n choices = AdoptAll (free_among s.net (rows_after s history n) choices)
+
+-- the choices that are free after the entries before are entered behind them
+abbrev pub IsCarried : Setting → List Entry → ℕ → ℕ → ℕ → List Decision → Type 0
+IsCarried s history feed line n choices =
+    IsEntry history n (record { feed = feed; line = line; message = carried s history (n - 1) choices })
+
 -- ---- true answers
 
 -- The reply to a line of a feed is true, where these are the feed's items before: a clause for each pair of line and reply
@@ -176,6 +187,11 @@ IsTrueReply s history feed before line AskAdopt (Ok n) =
 IsTrueReply s history feed before line AskAdopt (Old n) = IsSomeAnd (latest_plan before) (λ plan. IsOld history n plan)
 IsTrueReply s history feed before line AskAdopt (Refused at) =
     IsSomeAnd (latest_plan before) (λ plan. HasNoRoom history at.entry at.why plan)
+IsTrueReply s history feed before line AskCarry NoPlan = latest_plan before ≡ None
+IsTrueReply s history feed before line AskCarry (Ok n) =
+    IsSomeAnd (latest_plan before) (λ plan. IsCarried s history feed line n plan.choices)
+IsTrueReply s history feed before line AskCarry (Refused at) =
+    IsSomeAnd (latest_plan before) (λ plan. IsRefused s history at.entry (carried s history at.entry plan.choices) at.why)
 IsTrueReply s history feed before line _ _ = ⊥
 
 -- one item of a feed's log is true, where these are the feed's items before

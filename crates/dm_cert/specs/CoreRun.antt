@@ -9,13 +9,13 @@ use Rattle.dm_rows.specs.declared.messages.Message.TheVariants.{Adopt as AdoptAl
 use Rattle.dm_rows.specs.Refuse.{Refuses, RefusesNothing}
 use Rattle.dm_rows.specs.History.{IsLegal}
 use Rattle.dm_feed.specs.declared.grammar.Line.{Line}
-use Rattle.dm_feed.specs.declared.grammar.Line.TheVariants.{Say, Adopt as AskAdopt}
+use Rattle.dm_feed.specs.declared.grammar.Line.TheVariants.{Say, Adopt as AskAdopt, Carry as AskCarry}
 use Rattle.dm_feed.specs.DueItems.{DueItem, item}
 use Rattle.dm_tree.specs.declared.adopting.Chosen.{Chosen}
 use Rattle.dm_cert.specs.declared.replies.LogItem.{LogItem}
 use Rattle.dm_cert.specs.declared.replies.LogItem.TheVariants.{Malformed, Answered}
 use Rattle.dm_cert.specs.declared.replies.FeedLog.{FeedLog}
-use Rattle.dm_cert.specs.Answers.{Setting, rows_after, latest_plan, IsTrueAnswer}
+use Rattle.dm_cert.specs.Answers.{Setting, rows_after, latest_plan, carried, IsTrueAnswer}
 use Rattle.dm_cert.specs.Logs.{Kind, free, told, entered, kind_of, line_of, due_of, AreTrueLogs}
 
 -- ---- due items
@@ -41,13 +41,19 @@ pub record IsPresent (history : List Entry) (message : Message) (plan : Chosen) 
   pub room : length history < ENTRIES
   pub choices : AdoptAll plan.choices ≡ message
 
--- The message that a line enters at the present rows: its own, where nothing refuses it, or the latest plan's choices,
--- where the plan is for these rows and the history is not full.
+-- nothing refuses the message at the present rows
+abbrev pub IsAccepted : Setting → List Entry → Message → Type 0
+IsAccepted s history message =
+    RefusesNothing (Refuses s.net (rows_after s history (length history)) (length history) message)
+
+-- The message that a line enters at the present rows: its own, where nothing refuses it; the latest plan's choices, where the
+-- plan is for these rows and the history is not full; or those of them that are free, where nothing refuses that.
 abbrev pub IsToEnter : Setting → List Entry → List LogItem → Line → Message → Type 0
-IsToEnter s history before (Say own) message =
-    (own ≡ message) × RefusesNothing (Refuses s.net (rows_after s history (length history)) (length history) own)
+IsToEnter s history before (Say own) message = (own ≡ message) × IsAccepted s history own
 IsToEnter s history before AskAdopt message =
     IsSomeAnd (latest_plan before) (λ plan. IsPresent history message plan)
+IsToEnter s history before AskCarry message =
+    IsSomeAnd (latest_plan before) (λ plan. carried s history (length history) plan.choices ≡ message) × IsAccepted s history message
 IsToEnter s history before _ message = ⊥
 
 abbrev pub IsItemToEnter : Setting → List Entry → List LogItem → LogItem → Message → Type 0

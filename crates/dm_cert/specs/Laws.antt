@@ -1,20 +1,28 @@
 -- What holds of all answers, logs and texts.
-use Rattle.std.specs.Prelude.{ℕ, ◌≡◌, List, ◌++◌}
+use Rattle.std.specs.Prelude.{ℕ, ◌≡◌, List, ◌++◌, All}
 use Rattle.dm_rows.specs.declared.messages.Entry.{Entry}
 use Rattle.dm_feed.specs.DueItems.{DueItem, AreItemsOf}
+use Rattle.dm_feed.specs.Lines.{HasSortedChoice}
 use Rattle.dm_tree.specs.Trees.{Shape, preorder, leaves_of, IsProper}
 use Rattle.dm_cert.specs.declared.replies.LogItem.{LogItem}
 use Rattle.dm_cert.specs.declared.replies.FeedLog.{FeedLog}
 use Rattle.dm_cert.specs.Answers.{Setting}
-use Rattle.dm_cert.specs.Logs.{IsTrueLog, IsLogOf}
+use Rattle.dm_cert.specs.Logs.{IsTrueLog, AreTrueLogs, IsLogOf}
 use Rattle.dm_cert.specs.CoreRun.{LinesRise, AnswerFirst}
 use Rattle.dm_cert.specs.PlanTexts.{leaves_in}
+use Rattle.dm_cert.specs.RunTexts.{IsSpelledLog}
 
 -- a log that is true of a history is true of every longer one
 abbrev pub LogsStayTrue : Type 0
 LogsStayTrue =
     (s : Setting) (history more : List Entry) (place : ℕ) (items : List LogItem) → IsTrueLog s history place items →
     IsTrueLog s (history ++ more) place items
+
+-- in the entries of a history whose logs are true and spelled, of a pair to lock or unlock the smaller id stands first
+abbrev pub TrueLogsHaveSortedEntries : Type 0
+TrueLogsHaveSortedEntries =
+    (s : Setting) (history : List Entry) (logs : List FeedLog) → AreTrueLogs s history logs → All IsSpelledLog logs →
+    All (λ entry. HasSortedChoice entry.message) history
 
 -- the due items of a feed have rising lines
 abbrev pub DueLinesRise : Type 0

@@ -9,13 +9,14 @@ use Rattle.dm_network.specs.Net.{Net, event_at}
 use Rattle.dm_rows.specs.declared.messages.Entry.{Entry}
 use Rattle.dm_rows.specs.declared.messages.Refusal.{Refusal}
 use Rattle.dm_rows.specs.declared.messages.Refusal.TheVariants as refusal
+use Rattle.dm_rows.specs.Sides.{IsSorted}
 use Rattle.dm_rows.specs.Timetable.{time_at}
 use Rattle.dm_feed.specs.declared.grammar.Line.{Line}
 use Rattle.dm_feed.specs.declared.grammar.Line.TheVariants as line
 use Rattle.dm_feed.specs.declared.feed.FeedStop.{FeedStop}
 use Rattle.dm_feed.specs.declared.feed.FeedStop.TheVariants.{End, Fault, Long}
 use Rattle.dm_feed.specs.Parts.{Fits, largest_id, largest_value}
-use Rattle.dm_feed.specs.Lines.{parts_of_line, parts_of_message, IsSpelledLine, spelling_of_line, spelling_of_message}
+use Rattle.dm_feed.specs.Lines.{parts_of_choice, parts_of_line, parts_of_message, HasSortedChoice, IsSpelledLine, spelling_of_choice, spelling_of_line, spelling_of_message}
 use Rattle.dm_cert.specs.declared.notes.Note.{Note}
 use Rattle.dm_cert.specs.declared.replies.Reply.{Reply}
 use Rattle.dm_cert.specs.declared.replies.Reply.TheVariants as reply
@@ -40,6 +41,10 @@ reason_text (refusal.UnknownChange a) = joined (codes "unknown-change " ∷ deci
 reason_text (refusal.UnknownPair i j) = joined (codes "unknown-pair " ∷ decimal i.0 ∷ codes " " ∷ decimal j.0 ∷ [])
 reason_text (refusal.Passed e t) = joined (codes "passed " ∷ decimal e.0 ∷ codes " " ∷ decimal t ∷ [])
 reason_text (refusal.NotPassed e) = joined (codes "not-passed " ∷ decimal e.0 ∷ [])
+reason_text (refusal.Cancelled e) = joined (codes "cancelled " ∷ decimal e.0 ∷ [])
+reason_text (refusal.NotCancelled e) = joined (codes "not-cancelled " ∷ decimal e.0 ∷ [])
+reason_text (refusal.Locked c) = joined (codes "locked " ∷ spelling_of_choice c ∷ [])
+reason_text (refusal.NotLocked c) = joined (codes "not-locked " ∷ spelling_of_choice c ∷ [])
 reason_text (refusal.Back c) = joined (codes "back " ∷ decimal c ∷ [])
 reason_text (refusal.Cycle ids) = joined (codes "cycle" ∷ flat_map spaced_id ids ∷ [])
 reason_text (refusal.Full n) = codes "full"
@@ -152,7 +157,7 @@ run_text version run =
 
 -- ---- what has a spelling
 
--- a history is full at so many entries alone, and want of memory is not told
+-- of a locked pair the smaller id stands first, a history is full at so many entries alone, and want of memory is not told
 abbrev pub IsSpelledReason : Refusal → Type 0
 IsSpelledReason (refusal.Range v) = Unit {0}
 IsSpelledReason (refusal.UnknownEvent e) = Unit {0}
@@ -161,6 +166,10 @@ IsSpelledReason (refusal.UnknownChange a) = Unit {0}
 IsSpelledReason (refusal.UnknownPair i j) = Unit {0}
 IsSpelledReason (refusal.Passed e t) = Unit {0}
 IsSpelledReason (refusal.NotPassed e) = Unit {0}
+IsSpelledReason (refusal.Cancelled e) = Unit {0}
+IsSpelledReason (refusal.NotCancelled e) = Unit {0}
+IsSpelledReason (refusal.Locked c) = IsSorted c
+IsSpelledReason (refusal.NotLocked c) = IsSorted c
 IsSpelledReason (refusal.Back c) = Unit {0}
 IsSpelledReason (refusal.Cycle ids) = Unit {0}
 IsSpelledReason (refusal.Full n) = n ≡ ENTRIES
@@ -203,8 +212,9 @@ KnowsItem version (Answered line said answer) = KnowsLine version said × KnowsR
 abbrev pub KnowsLog : ℕ → FeedLog → Type 0
 KnowsLog version log = All (KnowsItem version) log.items
 
--- every item has a spelling, and there is a time for each event
+-- every entry and every item has a spelling, and there is a time for each event
 pub record IsSpelledRun (run : Run) : Type 0 where
+  pub history : All (λ entry. HasSortedChoice entry.message) run.history
   pub logs : All IsSpelledLog run.logs
   pub times : length run.times ≡ length run.net.events
 
@@ -219,6 +229,10 @@ FitsReason (refusal.UnknownChange a) = a.0 ≤ largest_id
 FitsReason (refusal.UnknownPair i j) = (i.0 ≤ largest_id) × (j.0 ≤ largest_id)
 FitsReason (refusal.Passed e t) = (e.0 ≤ largest_id) × (t ≤ largest_value)
 FitsReason (refusal.NotPassed e) = e.0 ≤ largest_id
+FitsReason (refusal.Cancelled e) = e.0 ≤ largest_id
+FitsReason (refusal.NotCancelled e) = e.0 ≤ largest_id
+FitsReason (refusal.Locked c) = All Fits (parts_of_choice c)
+FitsReason (refusal.NotLocked c) = All Fits (parts_of_choice c)
 FitsReason (refusal.Back c) = c ≤ largest_value
 FitsReason (refusal.Cycle ids) = All (λ a. a.0 ≤ largest_id) ids
 FitsReason (refusal.Full n) = n ≤ largest_id

@@ -1,12 +1,18 @@
 //! What holds of all answers, logs and texts. A law has no code: it is proved as the contract of an empty function.
 ghost use Rattle.dm_cert.specs.CoreRun.{TrueLogsAreOneDispatchers};
-ghost use Rattle.dm_cert.specs.Laws.{LogsStayTrue, DueLinesRise, LogsAnswerFirst, LeavesAreTheTrees};
+ghost use Rattle.dm_cert.specs.Laws.{LogsStayTrue, TrueLogsHaveSortedEntries, DueLinesRise, LogsAnswerFirst, LeavesAreTheTrees};
 ghost use Rattle.dm_cert.specs.PlanLaws.{PlansHaveOwnTexts, SolvedHaveOwnTexts};
 ghost use Rattle.dm_cert.specs.Worked.{QuietRunIsSpelled, LateRunIsSpelled, PlannedRunIsSpelled, PlannedRunIsTrue, PlanIsSpelled, SolvedIsSpelled, SolvedRunIsTrue};
 
 /// A log that is true of a history stays true as the history grows: an answer needs only the entries up to its number.
 pub fn logs_stay_true()
     ensures { LogsStayTrue }
+{}
+
+/// In the entries of true logs that have a spelling, of a pair to lock or unlock the smaller id stands first.
+#[tactic(auto, using(crate::proofs::SortedEntries::true_logs_have_sorted_entries))]
+pub fn true_logs_have_sorted_entries()
+    ensures { TrueLogsHaveSortedEntries }
 {}
 
 /// A legal history with true logs is exactly what one dispatcher reaches that answers the due items of the feeds in some order.

@@ -26,11 +26,13 @@
 //! The laws stand in [`laws`]. `true_logs_are_one_dispatchers`: a legal history with true logs of first due items is exactly what
 //! some schedule of one dispatcher reaches, for any number of feeds and in both versions. This law is for feeds whose due lines
 //! rise. `due_lines_rise` and `logs_answer_first`: the feeds of real bytes are such feeds, and their logs answer first due items.
-//! `logs_stay_true`: a true log stays true as the history grows. `leaves_are_the_trees`: the leaves that version 1 prints of a
-//! plan are those of its tree, each with its whole path. `plans_have_own_texts`: the text of a plan in one version determines the
-//! plan, except for its entry, whatever follows the text. `solved_have_own_texts` says so of plans by parts. Further laws: three
-//! texts of one network that were worked out by hand are the spellings of their runs, the run with a plan is true, and its plan
-//! is spelled in version 2 as worked out by hand. A plan by parts is spelled so too, and the run with it is true.
+//! `logs_stay_true`: a true log stays true as the history grows. `true_logs_have_sorted_entries`: in its entries, of a pair to
+//! lock or unlock the smaller id stands first, where the logs have a spelling. `leaves_are_the_trees`: the leaves that version 1
+//! prints of a plan are those of its tree, each with its whole path. `plans_have_own_texts`: the text of a plan in one version
+//! determines the plan, except for its entry, whatever follows the text. `solved_have_own_texts` says so of plans by parts.
+//! Further laws: three texts of one network that were worked out by hand are the spellings of their runs, the run with a plan is
+//! true, and its plan is spelled in version 2 as worked out by hand. A plan by parts is spelled so too, and the run with it is
+//! true.
 #![tactic(auto)]
 
 mod faults;

@@ -12,7 +12,7 @@ use dm_tree::Plan;
 /// The answer to a line. An entry number is how many entries the history had.
 #[derive(Drop)]
 pub enum Reply {
-    /// The message, or the adopted plan, is the entry of this number, from 1.
+    /// The message, or what was adopted or carried of a plan, is the entry of this number, from 1.
     Ok(u32),
 
     /// A message, a question or an adoption is refused at so many entries.
@@ -36,7 +36,7 @@ pub enum Reply {
     /// At so many entries the latest plan, of either kind, is for fewer entries.
     Old(u32),
 
-    /// There is no plan to adopt yet.
+    /// There is no plan to adopt or to carry yet.
     NoPlan,
 
     /// The feed has had all its plans.

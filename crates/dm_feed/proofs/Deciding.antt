@@ -7,7 +7,7 @@ use Rattle.dm_base.specs.declared.ids.ActId.{ActId}
 use Rattle.dm_rows.specs.declared.messages.Decision.{Decision}
 use Rattle.dm_rows.specs.declared.messages.Decision.TheVariants as decision
 use Rattle.dm_feed.specs.declared.vocabulary.Word.{Word}
-use Rattle.dm_feed.specs.declared.vocabulary.Word.TheVariants.{Delay, Event, Activity, Pass, Recall, Keep, Drop, First, Now, Time, Cost, Read, Plan, Solve, Adopt}
+use Rattle.dm_feed.specs.declared.vocabulary.Word.TheVariants.{Delay, Event, Activity, Pass, Recall, Keep, Drop, First, Now, Cancel, Restore, Lock, Unlock, Time, Cost, Read, Plan, Solve, Adopt, Carry}
 use Rattle.dm_feed.specs.Words.{spelling_of_word}
 use Rattle.dm_feed.specs.Parts.{Part, word, id, Writes, StandForAll, largest_id}
 use Rattle.dm_feed.specs.Lines.{parts_of_decision}
@@ -84,6 +84,11 @@ begins_named text texts (Some Read) r named e = absurd cc
 begins_named text texts (Some Plan) r named e = absurd cc
 begins_named text texts (Some Solve) r named e = absurd cc
 begins_named text texts (Some Adopt) r named e = absurd cc
+begins_named text texts (Some Cancel) r named e = absurd cc
+begins_named text texts (Some Restore) r named e = absurd cc
+begins_named text texts (Some Lock) r named e = absurd cc
+begins_named text texts (Some Unlock) r named e = absurd cc
+begins_named text texts (Some Carry) r named e = absurd cc
 
 begins_so : (texts : List (List ℕ)) (r : Decision × List (List ℕ)) → next_decision texts ≡ Some r → BeginsSo texts r.0 r.1
 begins_so [] r e = absurd cc

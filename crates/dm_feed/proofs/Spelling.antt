@@ -1,5 +1,5 @@
 -- What is printed, and how it is read again.
-use Rattle.std.proofs.Common.{◌≡◌, ℕ, ◌*◌, ◌^◌, ◌<◌, ◌≤◌, true, false, cond, eqb, not, List, [], ◌∷◌, ◌++◌, length, get_or, map, All, refl, sym, ap, subst, ◌∙◌, arith, lit<, append-nil, length-append}
+use Rattle.std.proofs.Common.{◌≡◌, ℕ, ◌*◌, ◌^◌, ◌<◌, ◌≤◌, true, false, cond, eqb, not, List, [], ◌∷◌, ◌++◌, length, get_or, map, All, inl, refl, sym, ap, subst, ◌∙◌, arith, lit<, append-nil, length-append}
 use Rattle.std.specs.Prelude.{filter, codes}
 use Rattle.std.specs.List.{slice_split, flat_map, list_all}
 use Rattle.std.specs.Fmt.{decimal}
@@ -12,18 +12,20 @@ use Rattle.std.proofs.lemmas.Grind.{flat_map-append}
 use Rattle.dm_base.specs.Numbers.{IsDigits}
 use Rattle.dm_base.proofs.Decimals.{IsDigits-decimal, whole_value-decimal}
 use Rattle.dm_rows.specs.declared.messages.Decision.{Decision}
+use Rattle.dm_rows.specs.declared.messages.Choice.{Choice}
+use Rattle.dm_rows.specs.declared.messages.Choice.TheVariants as choice
 use Rattle.dm_rows.specs.declared.messages.Message.TheVariants as message
 use Rattle.dm_feed.specs.declared.vocabulary.Word.{Word}
-use Rattle.dm_feed.specs.declared.vocabulary.Word.TheVariants.{Delay, Event, Activity, Pass, Recall, Keep, Drop, First, Now, Time, Cost, Read, Plan, Solve, Adopt}
+use Rattle.dm_feed.specs.declared.vocabulary.Word.TheVariants.{Delay, Event, Activity, Pass, Recall, Keep, Drop, First, Now, Cancel, Restore, Lock, Unlock, Time, Cost, Read, Plan, Solve, Adopt, Carry}
 use Rattle.dm_feed.specs.declared.grammar.Line.{Line}
 use Rattle.dm_feed.specs.declared.grammar.Line.TheVariants as line
 use Rattle.dm_feed.specs.declared.grammar.Heard.{Heard}
 use Rattle.dm_feed.specs.declared.grammar.Heard.TheVariants as heard
 use Rattle.dm_feed.specs.Words.{spelling_of_word, words_of}
 use Rattle.dm_feed.specs.Parts.{Part, word, id, value, StandsFor, StandForAll, Fits, spelling_of_part, spaced, spelling_of_parts}
-use Rattle.dm_feed.specs.Lines.{parts_of_decision, parts_of_line, IsSpelledLine, Hears, spelling_of_decision, spelling_of_line, spelling_of_message}
+use Rattle.dm_feed.specs.Lines.{parts_of_decision, parts_of_line, IsSpelledLine, Hears, spelling_of_choice, spelling_of_decision, spelling_of_line, spelling_of_message}
 use Rattle.dm_feed.specs.Inside.Reading.{begins_comment, heard_words, heard_in, heard_line, line_in}
-use Rattle.dm_feed.proofs.Hearing.{reads, hears, blank_exactly, malformed_exactly, begins, comment_says, no_words}
+use Rattle.dm_feed.proofs.Hearing.{StandEither, reads_either, hears, blank_exactly, malformed_exactly, begins, comment_says, quiet_stands}
 
 -- ---- an adopted list
 
@@ -34,6 +36,18 @@ decisions_spaced (d ∷ ds) = flat_map-append spaced (parts_of_decision d) (flat
 pub adopted_text : (ds : List Decision) → spelling_of_message (message.Adopt ds) ≡ codes "adopt" ++ flat_map spelling_of_decision ds
 unfolding spelling_of_message
 adopted_text ds = ap (λ (l : List ℕ). codes "adopt" ++ l) (decisions_spaced ds)
+
+-- ---- a choice
+
+pub lock_text : (c : Choice) → spelling_of_message (message.Lock c) ≡ codes "lock " ++ spelling_of_choice c
+unfolding spelling_of_message
+lock_text (choice.Change a) = refl
+lock_text (choice.Pair i j) = refl
+
+pub unlock_text : (c : Choice) → spelling_of_message (message.Unlock c) ≡ codes "unlock " ++ spelling_of_choice c
+unfolding spelling_of_message
+unlock_text (choice.Change a) = refl
+unlock_text (choice.Pair i j) = refl
 
 -- ---- one word after another
 
@@ -58,6 +72,11 @@ word_solid Read = (omega arith, refl)
 word_solid Plan = (omega arith, refl)
 word_solid Solve = (omega arith, refl)
 word_solid Adopt = (omega arith, refl)
+word_solid Cancel = (omega arith, refl)
+word_solid Restore = (omega arith, refl)
+word_solid Lock = (omega arith, refl)
+word_solid Unlock = (omega arith, refl)
+word_solid Carry = (omega arith, refl)
 
 digits_solid : (text : List ℕ) → IsDigits text → IsSolid text
 digits_solid text h = record { some = h.some; spaceless = λ k d low. let digit = h.digits k d low in ne_eqb (get_or text k d) 32 (λ e. omega (arith, digit.0, e)) }
@@ -123,6 +142,11 @@ part_short (word Read) fits = omega arith
 part_short (word Plan) fits = omega arith
 part_short (word Solve) fits = omega arith
 part_short (word Adopt) fits = omega arith
+part_short (word Cancel) fits = omega arith
+part_short (word Restore) fits = omega arith
+part_short (word Lock) fits = omega arith
+part_short (word Unlock) fits = omega arith
+part_short (word Carry) fits = omega arith
 part_short (id n) fits = length-decimal-le 20 n (omega arith) (omega (arith, fits)) (omega (arith, fits))
 part_short (value n) fits = length-decimal-le 20 n (omega arith) (omega (arith, fits)) (omega (arith, fits))
 
@@ -149,12 +173,19 @@ few_parts (line.Say (message.Keep a)) h = omega arith
 few_parts (line.Say (message.Drop a)) h = omega arith
 few_parts (line.Say (message.First e f)) h = omega arith
 few_parts (line.Say (message.Now t)) h = omega arith
+few_parts (line.Say (message.Cancel e)) h = omega arith
+few_parts (line.Say (message.Restore e)) h = omega arith
+few_parts (line.Say (message.Lock (choice.Change a))) h = omega arith
+few_parts (line.Say (message.Lock (choice.Pair i j))) h = omega arith
+few_parts (line.Say (message.Unlock (choice.Change a))) h = omega arith
+few_parts (line.Say (message.Unlock (choice.Pair i j))) h = omega arith
 few_parts (line.Say (message.Adopt ds)) h = absurd h
 few_parts (line.Time e) h = omega arith
 few_parts line.CostNow h = omega arith
 few_parts (line.Plan b) h = omega arith
 few_parts (line.Solve b) h = omega arith
 few_parts line.Adopt h = omega arith
+few_parts line.Carry h = omega arith
 few_parts line.Read h = omega arith
 
 -- a printed line is heard as itself
@@ -163,18 +194,18 @@ unfolding spelling_of_line
 printed_is_heard said spelled fits = record {
   short = omega (arith, parts_short (parts_of_line said) fits, few_parts said spelled);
   spelled = spelled;
-  parts = subst (StandForAll (parts_of_line said)) (sym (words_of_parts (parts_of_line said) fits)) (parts_stand (parts_of_line said) fits);
+  parts = inl (subst (StandForAll (parts_of_line said)) (sym (words_of_parts (parts_of_line said) fits)) (parts_stand (parts_of_line said) fits));
 }
 
 -- ---- one meaning
 
-line_words : (said : Line) (texts : List (List ℕ)) → IsSpelledLine said → StandForAll (parts_of_line said) texts → heard_words texts ≡ heard.Line said
-line_words said [] spelled h = let b = begins said in absurd (subst (λ (ps : List Part). StandForAll ps []) b.are h)
+line_words : (said : Line) (texts : List (List ℕ)) → IsSpelledLine said → StandEither said texts → heard_words texts ≡ heard.Line said
+line_words said [] spelled h = absurd (quiet_stands (begins said) [] tt h)
 line_words said (first ∷ texts) spelled h =
     let b = begins said in
     elim (begins_comment first) as (λ t. begins_comment first ≡ t → cond t heard.Blank (heard_line (line_in first texts)) ≡ heard.Line said) [
-      | true ↦ λ e. absurd (no_words b.first b.rest (first ∷ texts) (comment_says first texts e) (subst (λ (ps : List Part). StandForAll ps (first ∷ texts)) b.are h))
-      | false ↦ λ e. ap heard_line (reads said first texts spelled h)
+      | true ↦ λ e. absurd (quiet_stands b (first ∷ texts) (comment_says first texts e) h)
+      | false ↦ λ e. ap heard_line (reads_either said first texts spelled h)
     ] refl
 
 pub heard_only : (bytes : List ℕ) (h : Heard) → Hears bytes h → heard_in bytes ≡ h

@@ -2,7 +2,7 @@
 use Rattle.std.specs.Prelude.{ℕ, ◌==◌, not, List, length, filter, codes}
 use Rattle.std.specs.List.{slice_split}
 use Rattle.dm_feed.specs.declared.vocabulary.Word.{Word}
-use Rattle.dm_feed.specs.declared.vocabulary.Word.TheVariants.{Delay, Event, Activity, Pass, Recall, Keep, Drop, First, Now, Time, Cost, Read, Plan, Solve, Adopt}
+use Rattle.dm_feed.specs.declared.vocabulary.Word.TheVariants.{Delay, Event, Activity, Pass, Recall, Keep, Drop, First, Now, Cancel, Restore, Lock, Unlock, Time, Cost, Read, Plan, Solve, Adopt, Carry}
 
 abbrev pub spelling_of_word : Word → List ℕ
 spelling_of_word Delay = codes "delay"
@@ -14,12 +14,17 @@ spelling_of_word Keep = codes "keep"
 spelling_of_word Drop = codes "drop"
 spelling_of_word First = codes "first"
 spelling_of_word Now = codes "now"
+spelling_of_word Cancel = codes "cancel"
+spelling_of_word Restore = codes "restore"
+spelling_of_word Lock = codes "lock"
+spelling_of_word Unlock = codes "unlock"
 spelling_of_word Time = codes "time"
 spelling_of_word Cost = codes "cost"
 spelling_of_word Read = codes "read"
 spelling_of_word Plan = codes "plan"
 spelling_of_word Solve = codes "solve"
 spelling_of_word Adopt = codes "adopt"
+spelling_of_word Carry = codes "carry"
 
 -- the words in bytes: what stands between spaces, where that is not empty
 abbrev pub words_of : List ℕ → List (List ℕ)

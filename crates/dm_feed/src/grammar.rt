@@ -3,7 +3,8 @@
 use dm_base::EventId;
 use dm_rows::Message;
 
-/// What a line asks. No line says an adopted list: that is what `Adopt` comes to.
+/// What a line asks. No line says an adopted list: that is what `Adopt` and `Carry` come to.
+/// Of a pair to lock or unlock the smaller id stands first.
 #[derive(PartialEq, Eq, Debug, Drop)]
 pub enum Line {
     /// A message to enter.
@@ -23,6 +24,9 @@ pub enum Line {
 
     /// The latest plan of either kind is to be adopted.
     Adopt,
+
+    /// The choices of the latest plan that are still free are to be entered.
+    Carry,
 
     /// The number of entries at present.
     Read,

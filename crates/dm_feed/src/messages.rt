@@ -3,7 +3,7 @@ ghost use Rattle.std.specs.Prelude.{◌≡◌, ◌⊎◌, IfOk, Some};
 ghost use Rattle.std.specs.Option.{option_map};
 ghost use Rattle.dm_feed.specs.Words.{words_of};
 ghost use Rattle.dm_feed.specs.Lines.{IsMessageOf, IsNoMessage};
-ghost use Rattle.dm_feed.specs.Inside.Reading.{is_plain_word, is_plain, message_of, next_id, first_behind, decision_behind, next_decision};
+ghost use Rattle.dm_feed.specs.Inside.Reading.{is_plain_word, is_plain, message_of, are_sorted, next_id, first_behind, decision_behind, next_decision};
 ghost use Rattle.dm_feed.specs.Inside.Deciding.{ReadsDecisions, ReadsParts};
 
 use crate::grammar::Line;
@@ -121,6 +121,19 @@ fn message_of(line: Line) -> Option<Message>
     }
 }
 
+// Whether a pair to lock or unlock has its smaller id first.
+fn are_sorted(word: Word, words: &[u8]) -> bool
+    ensures { result ≡ are_sorted word (words_of words.now) }
+{
+    if !matches!(word, Word::Lock | Word::Unlock) {
+        return true;
+    }
+    match next_first(words) {
+        Some((Decision::First(first, second), _)) => first.0 <= second.0,
+        _ => true,
+    }
+}
+
 fn message_with(alloc: Global, words: &[u8]) -> Result<Message, MessageFault>
     ensures { ReadsParts (words_of words.now) result }
 {
@@ -136,6 +149,9 @@ fn message_with(alloc: Global, words: &[u8]) -> Result<Message, MessageFault>
             Err(fault) => return Err(fault),
         };
         return Ok(Message::Adopt(Items::from_vec(decisions)));
+    }
+    if !are_sorted(word, rest) {
+        return Err(MessageFault::Form);
     }
     let Some(line) = line_behind(word, rest) else {
         return Err(MessageFault::Form);

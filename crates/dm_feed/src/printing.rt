@@ -2,11 +2,11 @@
 ghost use Rattle.std.specs.Prelude.{◌++◌, codes};
 ghost use Rattle.std.specs.List.{flat_map};
 ghost use Rattle.dm_outside.specs.Printing.{Prints, Puts};
-ghost use Rattle.dm_feed.specs.Lines.{IsSpelledLine, spelling_of_decision, spelling_of_line, spelling_of_message};
+ghost use Rattle.dm_feed.specs.Lines.{IsSpelledLine, spelling_of_choice, spelling_of_decision, spelling_of_line, spelling_of_message};
 
 use crate::grammar::Line;
 use dm_outside::{Page, Sink, WriteFault};
-use dm_rows::{Decision, Message};
+use dm_rows::{Choice, Decision, Message};
 
 fn put_decision<K: Sink>(
     sink: &mut K,
@@ -20,6 +20,23 @@ fn put_decision<K: Sink>(
         Decision::Drop(act) => page.put_number(sink, " drop ", act.0 as u128),
         Decision::First(first, second) => {
             page.put_pair(sink, " first ", (first.0 as u128, second.0 as u128))
+        }
+    }
+}
+
+/// Prints a choice behind this word: the id of a change, or the ids of a pair.
+pub fn put_choice<K: Sink>(
+    sink: &mut K,
+    page: &mut Page,
+    word: &str,
+    choice: Choice,
+) -> Result<(), WriteFault>
+    ensures { Prints K.taken K.faults sink.old sink.new page.old page.new result (word.now ++ spelling_of_choice choice) }
+{
+    match choice {
+        Choice::Change(act) => page.put_number(sink, word, act.0 as u128),
+        Choice::Pair(first, second) => {
+            page.put_pair(sink, word, (first.0 as u128, second.0 as u128))
         }
     }
 }
@@ -82,6 +99,10 @@ pub fn put_message<K: Sink>(
             page.put_pair(sink, "first ", (first.0 as u128, second.0 as u128))
         }
         Message::Now(time) => page.put_number(sink, "now ", *time as u128),
+        Message::Cancel(event) => page.put_number(sink, "cancel ", event.0 as u128),
+        Message::Restore(event) => page.put_number(sink, "restore ", event.0 as u128),
+        Message::Lock(choice) => put_choice(sink, page, "lock ", *choice),
+        Message::Unlock(choice) => put_choice(sink, page, "unlock ", *choice),
         Message::Adopt(decisions) => put_adopted(sink, page, decisions.as_slice()),
     }
 }
@@ -100,6 +121,7 @@ pub fn put_line<K: Sink>(sink: &mut K, page: &mut Page, line: &Line) -> Result<(
         Line::Plan(nodes) => page.put_number(sink, "plan ", *nodes as u128),
         Line::Solve(nodes) => page.put_number(sink, "solve ", *nodes as u128),
         Line::Adopt => page.put_bytes(sink, b"adopt"),
+        Line::Carry => page.put_bytes(sink, b"carry"),
         Line::Read => page.put_bytes(sink, b"read"),
     }
 }

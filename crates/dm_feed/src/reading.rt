@@ -2,7 +2,7 @@
 ghost use Rattle.std.specs.Prelude.{◌≡◌, ◌==◌, ◌↔◌, length};
 ghost use Rattle.dm_feed.specs.Words.{words_of};
 ghost use Rattle.dm_feed.specs.Lines.{Hears, IsQuiet, IsInNoForm};
-ghost use Rattle.dm_feed.specs.Inside.Reading.{only, id_in, value_in, two, alone, delay_behind, line_behind, line_in, heard_in};
+ghost use Rattle.dm_feed.specs.Inside.Reading.{only, id_in, value_in, two, alone, choice_in, delay_behind, line_behind, line_in, heard_in};
 
 use crate::grammar::{Heard, Line};
 use crate::numbers::{id_of, value_of};
@@ -10,7 +10,7 @@ use crate::vocabulary::{Word, word_of};
 use crate::words::next_word;
 use dm_base::limits::LINE;
 use dm_base::{ActId, EventId};
-use dm_rows::Message;
+use dm_rows::{Choice, Message};
 
 pub(crate) fn are_none(words: &[u8]) -> bool
     ensures { result ≡ (length (words_of words.now) == 0) }
@@ -50,6 +50,19 @@ fn two_ids(words: &[u8]) -> Option<(u32, u32)>
 {
     let (id, rest) = next_word(words)?;
     Some((id_of(id)?, one_id(rest)?))
+}
+
+// The choice whose ids are the words: that of a change, or those of a pair in either order.
+fn choice_in(words: &[u8]) -> Option<Choice>
+    ensures { result ≡ choice_in (words_of words.now) }
+{
+    let (first, rest) = next_word(words)?;
+    let first = id_of(first)?;
+    if are_none(rest) {
+        return Some(Choice::Change(ActId(first)));
+    }
+    let second = one_id(rest)?;
+    Some(Choice::Pair(EventId(first), EventId(second)).sorted())
 }
 
 // The line whose first word is `delay` and whose other words are these.
@@ -96,12 +109,17 @@ pub(crate) fn line_behind(word: Word, words: &[u8]) -> Option<Line>
             Some(Line::Say(Message::First(EventId(first), EventId(second))))
         }
         Word::Now => Some(Line::Say(Message::Now(one_value(words)?))),
+        Word::Cancel => Some(Line::Say(Message::Cancel(EventId(one_id(words)?)))),
+        Word::Restore => Some(Line::Say(Message::Restore(EventId(one_id(words)?)))),
+        Word::Lock => Some(Line::Say(Message::Lock(choice_in(words)?))),
+        Word::Unlock => Some(Line::Say(Message::Unlock(choice_in(words)?))),
         Word::Time => Some(Line::Time(EventId(one_id(words)?))),
         Word::Cost => alone(Line::CostNow, words),
         Word::Read => alone(Line::Read, words),
         Word::Plan => Some(Line::Plan(one_value(words)?)),
         Word::Solve => Some(Line::Solve(one_value(words)?)),
         Word::Adopt => alone(Line::Adopt, words),
+        Word::Carry => alone(Line::Carry, words),
         Word::Event | Word::Activity => None,
     }
 }

@@ -14,12 +14,17 @@ pub enum Word {
     Drop,
     First,
     Now,
+    Cancel,
+    Restore,
+    Lock,
+    Unlock,
     Time,
     Cost,
     Read,
     Plan,
     Solve,
     Adopt,
+    Carry,
 }
 
 /// The word that is spelled so.
@@ -36,12 +41,17 @@ pub(crate) fn word_of(text: &[u8]) -> Option<Word>
         b"drop" => Word::Drop,
         b"first" => Word::First,
         b"now" => Word::Now,
+        b"cancel" => Word::Cancel,
+        b"restore" => Word::Restore,
+        b"lock" => Word::Lock,
+        b"unlock" => Word::Unlock,
         b"time" => Word::Time,
         b"cost" => Word::Cost,
         b"read" => Word::Read,
         b"plan" => Word::Plan,
         b"solve" => Word::Solve,
         b"adopt" => Word::Adopt,
+        b"carry" => Word::Carry,
         _ => return None,
     };
     Some(word)

@@ -3,7 +3,7 @@
 use dm_base::{ActId, EventId};
 use dm_feed::{Heard, Line, MessageFault, print_line, print_message, read_line, read_message};
 use dm_outside::{MemSink, WriteFault};
-use dm_rows::Message;
+use dm_rows::{Choice, Message};
 use std::alloc::{AllocError, Global};
 use std::test::Fail;
 
@@ -28,6 +28,23 @@ const SPELLINGS: &[(&[u8], &[u8])] = &[
     (b"drop 5", b"drop 5"),
     (b"first 5 3", b"first 5 3"),
     (b"first 5", b""),
+    (b" cancel  03 ", b"cancel 3"),
+    (b"cancel", b""),
+    (b"cancel 3 4", b""),
+    (b"restore 4294967295", b"restore 4294967295"),
+    (b"restore 4294967296", b""),
+    (b"lock 5", b"lock 5"),
+    (b"lock 5 3", b"lock 3 5"),
+    (b"lock 3 5", b"lock 3 5"),
+    (b"lock 5 5", b"lock 5 5"),
+    (b"lock", b""),
+    (b"lock 1 2 3", b""),
+    (b"lock 5 x", b""),
+    (b"unlock 5", b"unlock 5"),
+    (b"unlock 4294967295 0", b"unlock 0 4294967295"),
+    (b"unlock", b""),
+    (b" carry ", b"carry"),
+    (b"carry 5", b""),
     (b"now 0", b"now 0"),
     (b"now 18446744073709551615", b"now 18446744073709551615"),
     (b"time 3", b"time 3"),
@@ -73,7 +90,7 @@ fn each_line_is_heard_and_printed(rt: HostRuntime) -> Result<(), Fail> {
 
 #[test]
 fn what_lines_say(rt: HostRuntime) -> Result<(), Fail> {
-    let said: [(&[u8], Heard); 7] = [
+    let said: [(&[u8], Heard); 11] = [
         (
             b"delay event 1 60",
             Heard::Line(Line::Say(Message::DelayEvent(EventId(1), 60))),
@@ -86,6 +103,19 @@ fn what_lines_say(rt: HostRuntime) -> Result<(), Fail> {
             b"first 5 3",
             Heard::Line(Line::Say(Message::First(EventId(5), EventId(3)))),
         ),
+        (
+            b"cancel 3",
+            Heard::Line(Line::Say(Message::Cancel(EventId(3)))),
+        ),
+        (
+            b"lock 5",
+            Heard::Line(Line::Say(Message::Lock(Choice::Change(ActId(5))))),
+        ),
+        (
+            b"unlock 5 3",
+            Heard::Line(Line::Say(Message::Unlock(Choice::Pair(EventId(3), EventId(5))))),
+        ),
+        (b"carry", Heard::Line(Line::Carry)),
         (b"plan 100", Heard::Line(Line::Plan(100))),
         (b"solve 100", Heard::Line(Line::Solve(100))),
         (b"   ", Heard::Blank),
@@ -106,6 +136,13 @@ const MESSAGES: &[&[u8]] = &[
     b"keep 5",
     b"drop 5",
     b"first 5 3",
+    b"cancel 3",
+    b"restore 3",
+    b"lock 5",
+    b"lock 3 5",
+    b"lock 5 5",
+    b"unlock 4294967295",
+    b"unlock 0 4294967295",
     b"now 7",
     b"adopt",
     b"adopt keep 5 drop 6 first 5 3",
@@ -120,6 +157,12 @@ const NO_MESSAGES: &[&[u8]] = &[
     b"keep 5 ",
     b"keep 05",
     b"keep 4294967296",
+    b"cancel 03",
+    b"restore",
+    b"lock 5 3",
+    b"lock 3 5 7",
+    b"unlock 1 0",
+    b"carry",
     b"now 18446744073709551616",
     b"adopt ",
     b"adopt keep",

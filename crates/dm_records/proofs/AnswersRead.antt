@@ -11,9 +11,11 @@ use Rattle.dm_base.specs.declared.ids.ActId.{ActId}
 use Rattle.dm_base.specs.declared.limits.TheConstants.{ENTRIES}
 use Rattle.dm_text.specs.Inside.Parts.{behind}
 use Rattle.dm_text.proofs.Reading.{EndsNumber, behind_back, behind_is}
+use Rattle.dm_rows.specs.declared.messages.Choice.{Choice as ChoiceOfRows}
 use Rattle.dm_rows.specs.declared.messages.Refusal.{Refusal}
 use Rattle.dm_rows.specs.declared.messages.Refusal.TheVariants as refusal
 use Rattle.dm_feed.specs.Parts.{largest_id}
+use Rattle.dm_feed.specs.Lines.{spelling_of_choice}
 use Rattle.dm_cert.specs.declared.plan_lines.Heading.{Heading}
 use Rattle.dm_cert.specs.declared.replies.Reply.{Reply}
 use Rattle.dm_cert.specs.declared.replies.Reply.TheVariants as reply
@@ -37,10 +39,11 @@ use Rattle.dm_records.specs.declared.kinds.ToldKind.TheVariants as told
 use Rattle.dm_records.specs.declared.kinds.FreeKind.{FreeKind}
 use Rattle.dm_records.specs.declared.kinds.FreeKind.TheVariants as free
 use Rattle.dm_records.specs.Inside.Fields.{number_behind, numbers_text, NumbersFit, kind_in_front, row_in, whole}
-use Rattle.dm_records.specs.Inside.Kinds.{told_text, told_shape, told_reply, refused_at, free_text, free_shape, free_reply}
+use Rattle.dm_records.specs.Inside.Kinds.{choice_with, told_text, told_shape, told_reply, refused_at, free_text, free_shape, free_reply}
 use Rattle.dm_records.specs.Inside.Answers.{IsIds, IsNoIds, Saying, answered, opened, opened_by_parts, Told, of_kind, of_cycle, of_plan, of_solved, told_at, TellsCycle, TellsPlan, TellsSolved, IsToldLine, IsAnswerLine, IsToldAs, ReadsTold, ReadsAnswer}
 use Rattle.dm_records.proofs.FieldsRead.{whole_some}
-use Rattle.dm_records.proofs.KindsRead.{IsSmall, row_back, row_is}
+use Rattle.dm_records.proofs.ChoicesRead.{formed_choice, choice_ids, choice_spelled}
+use Rattle.dm_records.proofs.KindsRead.{IsSmall, ends_whole, row_back, row_is}
 
 -- ---- kinds are told apart
 
@@ -58,6 +61,10 @@ told_apart told.UnknownChange rest = refl
 told_apart told.UnknownPair rest = refl
 told_apart told.Passed rest = refl
 told_apart told.NotPassed rest = refl
+told_apart told.Cancelled rest = refl
+told_apart told.NotCancelled rest = refl
+told_apart told.Locked rest = refl
+told_apart told.NotLocked rest = refl
 told_apart told.Back rest = refl
 told_apart told.Full rest = refl
 
@@ -74,6 +81,10 @@ told_small told.UnknownChange = omega arith
 told_small told.UnknownPair = (omega arith, omega arith)
 told_small told.Passed = (omega arith, omega arith)
 told_small told.NotPassed = omega arith
+told_small told.Cancelled = omega arith
+told_small told.NotCancelled = omega arith
+told_small told.Locked = tt
+told_small told.NotLocked = tt
 told_small told.Back = omega arith
 told_small told.Full = tt
 
@@ -90,6 +101,14 @@ free_small free.Range = omega arith
 
 -- ---- how kinds are spelled
 
+locked_spelled : (version n : ℕ) (c : ChoiceOfRows) → reply_text version (refused_at n (refusal.Locked c)) ≡ (decimal n ++ (codes " refused locked " ++ spelling_of_choice c)) ++ line_end
+unfolding reply_text
+locked_spelled version n c = sym (simp (append_assoc, append-nil))
+
+not_locked_spelled : (version n : ℕ) (c : ChoiceOfRows) → reply_text version (refused_at n (refusal.NotLocked c)) ≡ (decimal n ++ (codes " refused not-locked " ++ spelling_of_choice c)) ++ line_end
+unfolding reply_text
+not_locked_spelled version n c = sym (simp (append_assoc, append-nil))
+
 pub told_spelled : (version n : ℕ) (k : ToldKind) (a b : ℕ) → reply_text version (told_reply n k a b) ≡ (decimal n ++ (told_text k ++ numbers_text (told_shape k) a b)) ++ line_end
 unfolding reply_text
 told_spelled version n told.Ok a b = sym (simp (append_assoc, append-nil))
@@ -104,6 +123,12 @@ told_spelled version n told.UnknownChange a b = sym (simp (append_assoc, append-
 told_spelled version n told.UnknownPair a b = sym (simp (append_assoc, append-nil))
 told_spelled version n told.Passed a b = sym (simp (append_assoc, append-nil))
 told_spelled version n told.NotPassed a b = sym (simp (append_assoc, append-nil))
+told_spelled version n told.Cancelled a b = sym (simp (append_assoc, append-nil))
+told_spelled version n told.NotCancelled a b = sym (simp (append_assoc, append-nil))
+told_spelled version n told.Locked a b =
+    locked_spelled version n (choice_with a b) ∙ ap (λ xs. (decimal n ++ (codes " refused locked " ++ xs)) ++ line_end) (choice_spelled a b)
+told_spelled version n told.NotLocked a b =
+    not_locked_spelled version n (choice_with a b) ∙ ap (λ xs. (decimal n ++ (codes " refused not-locked " ++ xs)) ++ line_end) (choice_spelled a b)
 told_spelled version n told.Back a b = sym (simp (append_assoc, append-nil))
 told_spelled version n told.Full a b = sym (simp (append_assoc, append-nil))
 
@@ -174,6 +199,16 @@ at_refusal version n (refusal.UnknownChange a) line spelled low fits = at_kind v
 at_refusal version n (refusal.UnknownPair i j) line spelled low fits = at_kind version n told.UnknownPair i.0 j.0 line spelled low (fits.0, fits.1)
 at_refusal version n (refusal.Passed e t) line spelled low fits = at_kind version n told.Passed e.0 t line spelled low (fits.0, fits.1)
 at_refusal version n (refusal.NotPassed e) line spelled low fits = at_kind version n told.NotPassed e.0 0 line spelled low (fits, refl)
+at_refusal version n (refusal.Cancelled e) line spelled low fits = at_kind version n told.Cancelled e.0 0 line spelled low (fits, refl)
+at_refusal version n (refusal.NotCancelled e) line spelled low fits = at_kind version n told.NotCancelled e.0 0 line spelled low (fits, refl)
+at_refusal version n (refusal.Locked c) line spelled low fits =
+    let ids = choice_ids c fits in
+    subst (λ (k : ChoiceOfRows). reply_text version (refused_at n (refusal.Locked k)) ≡ line ++ line_end → AtEntry version (answered (refused_at n (refusal.Locked k))) line) ids.is
+    (λ s. at_kind version n told.Locked ids.one ids.two line s low ids.fits) spelled
+at_refusal version n (refusal.NotLocked c) line spelled low fits =
+    let ids = choice_ids c fits in
+    subst (λ (k : ChoiceOfRows). reply_text version (refused_at n (refusal.NotLocked k)) ≡ line ++ line_end → AtEntry version (answered (refused_at n (refusal.NotLocked k))) line) ids.is
+    (λ s. at_kind version n told.NotLocked ids.one ids.two line s low ids.fits) spelled
 at_refusal version n (refusal.Back c) line spelled low fits = at_kind version n told.Back c 0 line spelled low (fits, refl)
 at_refusal version n (refusal.Cycle ids) line spelled low fits = record {
   number = n;
@@ -241,6 +276,12 @@ refusal_body version n (refusal.UnknownChange a) f = kind_body version n told.Un
 refusal_body version n (refusal.UnknownPair i j) f = kind_body version n told.UnknownPair i.0 j.0
 refusal_body version n (refusal.Passed e t) f = kind_body version n told.Passed e.0 t
 refusal_body version n (refusal.NotPassed e) f = kind_body version n told.NotPassed e.0 0
+refusal_body version n (refusal.Cancelled e) f = kind_body version n told.Cancelled e.0 0
+refusal_body version n (refusal.NotCancelled e) f = kind_body version n told.NotCancelled e.0 0
+refusal_body version n (refusal.Locked c) f =
+    record { body = decimal n ++ (codes " refused locked " ++ spelling_of_choice c); is = locked_spelled version n c }
+refusal_body version n (refusal.NotLocked c) f =
+    record { body = decimal n ++ (codes " refused not-locked " ++ spelling_of_choice c); is = not_locked_spelled version n c }
 refusal_body version n (refusal.Back c) f = kind_body version n told.Back c 0
 refusal_body version n (refusal.Cycle ids) f = record { body = decimal n ++ (codes " refused cycle" ++ flat_map spaced_id ids); is = cycle_spelled version n ids }
 refusal_body version n (refusal.Full m) f = subst (λ (k : ℕ). HasBody version (refused_at n (refusal.Full k))) (sym f) (kind_body version n told.Full 0 0)
@@ -274,6 +315,10 @@ told_formed n told.UnknownChange a b low fits = (low, fits.0)
 told_formed n told.UnknownPair a b low fits = (low, (fits.0, fits.1))
 told_formed n told.Passed a b low fits = (low, (fits.0, fits.1))
 told_formed n told.NotPassed a b low fits = (low, fits.0)
+told_formed n told.Cancelled a b low fits = (low, fits.0)
+told_formed n told.NotCancelled a b low fits = (low, fits.0)
+told_formed n told.Locked a b low fits = (low, formed_choice a b fits)
+told_formed n told.NotLocked a b low fits = (low, formed_choice a b fits)
 told_formed n told.Back a b low fits = (low, fits.0)
 told_formed n told.Full a b low fits = (low, refl)
 
@@ -328,7 +373,7 @@ no_row : {K : Type 0} (text : K → List ℕ) (shape : K → Shape) (kinds : Lis
 no_row {K} text shape kinds make line small apart none k a b same fits =
     let body : text k ++ (numbers_text (shape k) a b ++ []) ≡ line = ap (λ xs. text k ++ xs) (append-nil (numbers_text (shape k) a b)) ∙ same in
     let read : row_in text shape kinds line ≡ Some ((k, a, b), []) =
-    ap (row_in text shape kinds) (sym body) ∙ row_back text shape kinds k a b [] (apart k (numbers_text (shape k) a b ++ [])) (small k) fits refl in
+    ap (row_in text shape kinds) (sym body) ∙ row_back text shape kinds k a b [] (apart k (numbers_text (shape k) a b ++ [])) (small k) fits refl ends_whole in
     none_some (none ∙ ap (λ (o : Option ((K × ℕ × ℕ) × List ℕ)). option_map (λ (p : K × ℕ × ℕ). make p.0 p.1 p.2) (whole o)) read)
 
 some_is : {A : Type 0} (x y : A) → Some x ≡ Some y → x ≡ y
@@ -425,6 +470,10 @@ kind_ends told.UnknownChange rest = refl
 kind_ends told.UnknownPair rest = refl
 kind_ends told.Passed rest = refl
 kind_ends told.NotPassed rest = refl
+kind_ends told.Cancelled rest = refl
+kind_ends told.NotCancelled rest = refl
+kind_ends told.Locked rest = refl
+kind_ends told.NotLocked rest = refl
 kind_ends told.Back rest = refl
 kind_ends told.Full rest = refl
 

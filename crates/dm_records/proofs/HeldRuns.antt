@@ -25,7 +25,7 @@ use Rattle.dm_parts.specs.Sizes.{nodes_of}
 use Rattle.std.proofs.lemmas.List.Sums.{sum_by-cons}
 use Rattle.dm_feed.specs.Parts.{largest_id}
 use Rattle.dm_feed.specs.declared.grammar.Line.{Line}
-use Rattle.dm_feed.specs.declared.grammar.Line.TheVariants.{Say, Time as AskTime, CostNow as AskCost, Plan as AskPlan, Solve as AskSolve, Adopt as AskAdopt, Read as AskRead}
+use Rattle.dm_feed.specs.declared.grammar.Line.TheVariants.{Say, Time as AskTime, CostNow as AskCost, Plan as AskPlan, Solve as AskSolve, Adopt as AskAdopt, Carry as AskCarry, Read as AskRead}
 use Rattle.dm_cert.specs.declared.replies.Reply.{Reply}
 use Rattle.dm_cert.specs.declared.replies.Reply.TheVariants.{Ok, Refused, Time, Cost, Read, Planned, Solved, Old, NoPlan, Plans, Range}
 use Rattle.dm_cert.specs.declared.replies.LogItem.{LogItem}
@@ -135,6 +135,7 @@ solved_reply_held s history feed before line AskCost plan few is = absurd is
 solved_reply_held s history feed before line (AskPlan budget) plan few is = absurd is
 solved_reply_held s history feed before line (AskSolve budget) plan few is = solved_held s history before budget plan few is
 solved_reply_held s history feed before line AskAdopt plan few is = absurd is
+solved_reply_held s history feed before line AskCarry plan few is = absurd is
 solved_reply_held s history feed before line AskRead plan few is = absurd is
 
 plan_reply_held : (s : Setting) (history : List Entry) (feed : ℕ) (before : List LogItem) (line : ℕ) (said : Line) (plan : Plan) → HasFewChoices s →
@@ -145,6 +146,7 @@ plan_reply_held s history feed before line AskCost plan few is = absurd is
 plan_reply_held s history feed before line (AskPlan budget) plan few is = plan_held s history before budget plan few is
 plan_reply_held s history feed before line (AskSolve budget) plan few is = absurd is
 plan_reply_held s history feed before line AskAdopt plan few is = absurd is
+plan_reply_held s history feed before line AskCarry plan few is = absurd is
 plan_reply_held s history feed before line AskRead plan few is = absurd is
 
 reply_held : (s : Setting) (history : List Entry) (feed : ℕ) (before : List LogItem) (line : ℕ) (said : Line) (r : Reply) → HasFewChoices s →

@@ -5,9 +5,11 @@ use Rattle.std.specs.Option.{option_map}
 use Rattle.std.specs.Fmt.{decimal}
 use Rattle.std.proofs.lemmas.Bool.{both_ways}
 use Rattle.std.proofs.lemmas.List.{append_cancel_right}
-use Rattle.std.proofs.lemmas.List.Elements.{All-nil, All-cons}
+use Rattle.std.proofs.lemmas.List.Elements.{All-nil, All-cons, All-tail}
 use Rattle.dm_text.specs.Inside.Parts.{behind}
 use Rattle.dm_text.proofs.Reading.{EndsNumber, behind_back, behind_is}
+use Rattle.dm_rows.specs.declared.messages.Choice.{Choice as ChoiceOfRows}
+use Rattle.dm_rows.specs.declared.messages.Choice.TheVariants as choice
 use Rattle.dm_rows.specs.declared.messages.Message.{Message}
 use Rattle.dm_rows.specs.declared.messages.Message.TheVariants as message
 use Rattle.dm_feed.specs.declared.grammar.Line.{Line}
@@ -15,7 +17,7 @@ use Rattle.dm_feed.specs.declared.grammar.Line.TheVariants as line
 use Rattle.dm_feed.specs.declared.vocabulary.Word.{Word}
 use Rattle.dm_feed.specs.declared.vocabulary.Word.TheVariants as named
 use Rattle.dm_feed.specs.Parts.{Part, Fits, id, value, word, largest_id}
-use Rattle.dm_feed.specs.Lines.{spelling_of_line}
+use Rattle.dm_feed.specs.Lines.{parts_of_choice, spelling_of_choice, spelling_of_line}
 use Rattle.dm_cert.specs.declared.plan_lines.Heading.{Heading}
 use Rattle.dm_cert.specs.declared.replies.LogItem.TheVariants.{Malformed, Answered}
 use Rattle.dm_cert.specs.declared.replies.Reply.{Reply}
@@ -34,10 +36,11 @@ use Rattle.dm_records.specs.declared.kinds.TheConstants.{SAID}
 use Rattle.dm_records.specs.declared.kinds.SaidKind.{SaidKind}
 use Rattle.dm_records.specs.declared.kinds.SaidKind.TheVariants as said
 use Rattle.dm_records.specs.Inside.Fields.{number_behind, numbers_text, NumbersFit, kind_in_front, row_in}
-use Rattle.dm_records.specs.Inside.Kinds.{said_text, said_shape, said_line, knows_kind}
+use Rattle.dm_records.specs.Inside.Kinds.{choice_with, said_text, said_shape, said_line, knows_kind}
 use Rattle.dm_records.specs.Inside.Answers.{Saying, answered, opened, opened_by_parts, IsAnswerLine}
 use Rattle.dm_records.specs.Inside.Items.{item_with, SaysThere, IsSaidAs, ReadsSaid}
-use Rattle.dm_records.proofs.KindsRead.{IsSmall, row_back, row_is}
+use Rattle.dm_records.proofs.ChoicesRead.{formed_choice, choice_ids, choice_spelled}
+use Rattle.dm_records.proofs.KindsRead.{IsSmall, ends_arrow, row_back, row_is}
 use Rattle.dm_records.proofs.AnswersRead.{reply_body}
 
 -- ---- what feeds say
@@ -52,12 +55,17 @@ said_apart said.Keep rest = refl
 said_apart said.Drop rest = refl
 said_apart said.First rest = refl
 said_apart said.Now rest = refl
+said_apart said.Cancel rest = refl
+said_apart said.Restore rest = refl
+said_apart said.Lock rest = refl
+said_apart said.Unlock rest = refl
 said_apart said.Time rest = refl
 said_apart said.Cost rest = refl
 said_apart said.Read rest = refl
 said_apart said.Plan rest = refl
 said_apart said.Solve rest = refl
 said_apart said.Adopt rest = refl
+said_apart said.Carry rest = refl
 
 said_small : (k : SaidKind) → IsSmall (said_shape k)
 said_small said.DelayEvent = (omega arith, omega arith)
@@ -68,12 +76,27 @@ said_small said.Keep = omega arith
 said_small said.Drop = omega arith
 said_small said.First = (omega arith, omega arith)
 said_small said.Now = omega arith
+said_small said.Cancel = omega arith
+said_small said.Restore = omega arith
+said_small said.Lock = tt
+said_small said.Unlock = tt
 said_small said.Time = omega arith
 said_small said.Cost = tt
 said_small said.Read = tt
 said_small said.Plan = omega arith
 said_small said.Solve = omega arith
 said_small said.Adopt = tt
+said_small said.Carry = tt
+
+lock_spelled : (c : ChoiceOfRows) → spelling_of_line (line.Say (message.Lock c)) ≡ codes "lock " ++ spelling_of_choice c
+unfolding spelling_of_line
+lock_spelled (choice.Change a) = refl
+lock_spelled (choice.Pair i j) = refl
+
+unlock_spelled : (c : ChoiceOfRows) → spelling_of_line (line.Say (message.Unlock c)) ≡ codes "unlock " ++ spelling_of_choice c
+unfolding spelling_of_line
+unlock_spelled (choice.Change a) = refl
+unlock_spelled (choice.Pair i j) = refl
 
 said_spelled : (k : SaidKind) (a b : ℕ) → spelling_of_line (said_line k a b) ≡ said_text k ++ numbers_text (said_shape k) a b
 unfolding spelling_of_line
@@ -85,12 +108,17 @@ said_spelled said.Keep a b = simp append-nil
 said_spelled said.Drop a b = simp append-nil
 said_spelled said.First a b = simp append-nil
 said_spelled said.Now a b = simp append-nil
+said_spelled said.Cancel a b = simp append-nil
+said_spelled said.Restore a b = simp append-nil
+said_spelled said.Lock a b = lock_spelled (choice_with a b) ∙ ap (λ xs. codes "lock " ++ xs) (choice_spelled a b)
+said_spelled said.Unlock a b = unlock_spelled (choice_with a b) ∙ ap (λ xs. codes "unlock " ++ xs) (choice_spelled a b)
 said_spelled said.Time a b = simp append-nil
 said_spelled said.Cost a b = refl
 said_spelled said.Read a b = refl
 said_spelled said.Plan a b = simp append-nil
 said_spelled said.Solve a b = simp append-nil
 said_spelled said.Adopt a b = refl
+said_spelled said.Carry a b = refl
 
 -- parts that fit, behind one word or two
 one : (w : Word) (p : Part) → Fits p → All Fits (word w ∷ p ∷ [])
@@ -111,12 +139,19 @@ said_formed said.Keep a b f = record { spelled = tt; fits = one named.Keep (id a
 said_formed said.Drop a b f = record { spelled = tt; fits = one named.Drop (id a) f.0 }
 said_formed said.First a b f = record { spelled = tt; fits = two named.First (id a) (id b) f.0 f.1 }
 said_formed said.Now a b f = record { spelled = tt; fits = one named.Now (value a) f.0 }
+said_formed said.Cancel a b f = record { spelled = tt; fits = one named.Cancel (id a) f.0 }
+said_formed said.Restore a b f = record { spelled = tt; fits = one named.Restore (id a) f.0 }
+said_formed said.Lock a b f =
+    let c = formed_choice a b f in record { spelled = c.1; fits = All-cons Fits (word named.Lock) (parts_of_choice (choice_with a b)) tt c.0 }
+said_formed said.Unlock a b f =
+    let c = formed_choice a b f in record { spelled = c.1; fits = All-cons Fits (word named.Unlock) (parts_of_choice (choice_with a b)) tt c.0 }
 said_formed said.Time a b f = record { spelled = tt; fits = one named.Time (id a) f.0 }
 said_formed said.Cost a b f = record { spelled = tt; fits = lone_word named.Cost }
 said_formed said.Read a b f = record { spelled = tt; fits = lone_word named.Read }
 said_formed said.Plan a b f = record { spelled = tt; fits = one named.Plan (value a) f.0 }
 said_formed said.Solve a b f = record { spelled = tt; fits = one named.Solve (value a) f.0 }
 said_formed said.Adopt a b f = record { spelled = tt; fits = lone_word named.Adopt }
+said_formed said.Carry a b f = record { spelled = tt; fits = lone_word named.Carry }
 
 record OfKind (l : Line) : Type 0 where
   kind : SaidKind
@@ -134,6 +169,14 @@ kind_of_message (message.Keep x) f = record { kind = said.Keep; a = x.0; b = 0; 
 kind_of_message (message.Drop x) f = record { kind = said.Drop; a = x.0; b = 0; is = refl; fits = (f.fits 1 (id 0) (omega arith), refl) }
 kind_of_message (message.First i j) f = record { kind = said.First; a = i.0; b = j.0; is = refl; fits = (f.fits 1 (id 0) (omega arith), f.fits 2 (id 0) (omega arith)) }
 kind_of_message (message.Adopt ds) f = absurd f.spelled
+kind_of_message (message.Cancel e) f = record { kind = said.Cancel; a = e.0; b = 0; is = refl; fits = (f.fits 1 (id 0) (omega arith), refl) }
+kind_of_message (message.Restore e) f = record { kind = said.Restore; a = e.0; b = 0; is = refl; fits = (f.fits 1 (id 0) (omega arith), refl) }
+kind_of_message (message.Lock c) f =
+    let ids = choice_ids c (All-tail Fits (word named.Lock) (parts_of_choice c) f.fits, f.spelled) in
+    record { kind = said.Lock; a = ids.one; b = ids.two; is = ap (λ (k : ChoiceOfRows). line.Say (message.Lock k)) ids.is; fits = ids.fits }
+kind_of_message (message.Unlock c) f =
+    let ids = choice_ids c (All-tail Fits (word named.Unlock) (parts_of_choice c) f.fits, f.spelled) in
+    record { kind = said.Unlock; a = ids.one; b = ids.two; is = ap (λ (k : ChoiceOfRows). line.Say (message.Unlock k)) ids.is; fits = ids.fits }
 kind_of_message (message.Now t) f = record { kind = said.Now; a = t; b = 0; is = refl; fits = (f.fits 1 (id 0) (omega arith), refl) }
 
 kind_of_line : (l : Line) → IsFormedSaid l → OfKind l
@@ -143,6 +186,7 @@ kind_of_line line.CostNow f = record { kind = said.Cost; a = 0; b = 0; is = refl
 kind_of_line (line.Plan n) f = record { kind = said.Plan; a = n; b = 0; is = refl; fits = (f.fits 1 (id 0) (omega arith), refl) }
 kind_of_line (line.Solve n) f = record { kind = said.Solve; a = n; b = 0; is = refl; fits = (f.fits 1 (id 0) (omega arith), refl) }
 kind_of_line line.Adopt f = record { kind = said.Adopt; a = 0; b = 0; is = refl; fits = (refl, refl) }
+kind_of_line line.Carry f = record { kind = said.Carry; a = 0; b = 0; is = refl; fits = (refl, refl) }
 kind_of_line line.Read f = record { kind = said.Read; a = 0; b = 0; is = refl; fits = (refl, refl) }
 
 -- the row that is read where something is said and answered
@@ -161,7 +205,7 @@ row_there l tail line formed same =
       row = (k.kind, k.a, k.b);
       is = k.is;
       read = ap (row_in said_text said_shape SAID) (sym body)
-          ∙ row_back said_text said_shape SAID k.kind k.a k.b (codes " -> " ++ tail) (said_apart k.kind (numbers_text (said_shape k.kind) k.a k.b ++ (codes " -> " ++ tail))) (said_small k.kind) k.fits refl;
+          ∙ row_back said_text said_shape SAID k.kind k.a k.b (codes " -> " ++ tail) (said_apart k.kind (numbers_text (said_shape k.kind) k.a k.b ++ (codes " -> " ++ tail))) (said_small k.kind) k.fits refl (ends_arrow tail);
     }
 
 -- the versions that have the words of a line
@@ -174,6 +218,11 @@ kind_known version said.Keep a b known = refl
 kind_known version said.Drop a b known = refl
 kind_known version said.First a b known = refl
 kind_known version said.Now a b known = refl
+kind_known version said.Cancel a b known = refl
+kind_known version said.Restore a b known = refl
+kind_known version said.Lock a b known = refl
+kind_known version said.Unlock a b known = refl
+kind_known version said.Carry a b known = refl
 kind_known version said.Time a b known = refl
 kind_known version said.Cost a b known = refl
 kind_known version said.Read a b known = refl
@@ -190,6 +239,11 @@ line_known version is said.Keep a b known = tt
 line_known version is said.Drop a b known = tt
 line_known version is said.First a b known = tt
 line_known version is said.Now a b known = tt
+line_known version is said.Cancel a b known = tt
+line_known version is said.Restore a b known = tt
+line_known version is said.Lock a b known = tt
+line_known version is said.Unlock a b known = tt
+line_known version is said.Carry a b known = tt
 line_known version is said.Time a b known = tt
 line_known version is said.Cost a b known = tt
 line_known version is said.Read a b known = tt
@@ -206,6 +260,7 @@ known_in_second version line.CostNow second = tt
 known_in_second version (line.Plan n) second = tt
 known_in_second version (line.Solve n) second = second
 known_in_second version line.Adopt second = tt
+known_in_second version line.Carry second = tt
 known_in_second version line.Read second = tt
 
 -- the word of a plan by parts has no form of its own line

@@ -1,4 +1,5 @@
 pub mod FieldsRead
+pub mod ChoicesRead
 pub mod KindsRead
 pub mod LinesRead
 pub mod IdsRead

@@ -30,7 +30,7 @@ use Rattle.dm_records.specs.Inside.Kinds.{told_text, told_shape, free_text, free
 use Rattle.dm_records.specs.Inside.Answers.{Saying, answered, Told, of_kind, of_cycle, of_plan, of_solved, told_at, TellsKind, TellsCycle, TellsPlan, TellsSolved, IsToldLine, IsAnswerLine}
 use Rattle.dm_records.specs.Inside.Items.{SaysThere}
 use Rattle.dm_records.proofs.FieldsRead.{FieldsFit}
-use Rattle.dm_records.proofs.KindsRead.{row_back}
+use Rattle.dm_records.proofs.KindsRead.{ends_whole, row_back}
 use Rattle.dm_records.proofs.AnswersRead.{told_apart, told_small, free_apart, free_small, AtEntry, AsFree, by_saying, entry_number}
 use Rattle.dm_records.proofs.ItemsRead.{Item, broken, sound, item_at, StandsItem, item_there, item_number}
 use Rattle.dm_records.proofs.LinesRead.{note_fields, note_spelled, entry_read, opening_fields, time_fields}
@@ -104,7 +104,7 @@ entry_once line x y p q =
     let feed = head_same x.entry.feed y.entry.feed (x.entry.line ∷ []) (y.entry.line ∷ []) others in
     let at = head_same x.entry.line y.entry.line [] [] (tail_same x.entry.feed y.entry.feed (x.entry.line ∷ []) (y.entry.line ∷ []) others) in
     let spelled = space_same (spelling_of_message x.entry.message) (spelling_of_message y.entry.message) same.1 in
-    let message = one_message (spelling_of_message x.entry.message) x.entry.message y.entry.message (record { fits = p.message; spelled = refl }) (record { fits = q.message; spelled = spelled }) in
+    let message = one_message (spelling_of_message x.entry.message) x.entry.message y.entry.message (record { fits = p.message; sorted = p.sorted; spelled = refl }) (record { fits = q.message; sorted = q.sorted; spelled = spelled }) in
     let entry = entry_same x.entry y.entry feed at message in
     ap (λ n. numbered_of n x.entry) number ∙ ap (λ e. numbered_of y.number e) entry
 
@@ -116,12 +116,12 @@ row_same k j a b c d e = (some_pair (k, a, b) (j, c, d) [] [] e).0
 told_row : (k : ToldKind) (a b : ℕ) (line : List ℕ) → TellsKind k a b line → row_in told_text told_shape TOLD line ≡ Some ((k, a, b), [])
 told_row k a b line is =
     let body : told_text k ++ (numbers_text (told_shape k) a b ++ []) ≡ line = ap (λ xs. told_text k ++ xs) (append-nil (numbers_text (told_shape k) a b)) ∙ is.spelled in
-    ap (row_in told_text told_shape TOLD) (sym body) ∙ row_back told_text told_shape TOLD k a b [] (told_apart k (numbers_text (told_shape k) a b ++ [])) (told_small k) is.fits refl
+    ap (row_in told_text told_shape TOLD) (sym body) ∙ row_back told_text told_shape TOLD k a b [] (told_apart k (numbers_text (told_shape k) a b ++ [])) (told_small k) is.fits refl ends_whole
 
 free_row : (k : FreeKind) (a b : ℕ) (line : List ℕ) → free_text k ++ numbers_text (free_shape k) a b ≡ line → NumbersFit (free_shape k) a b → row_in free_text free_shape FREE line ≡ Some ((k, a, b), [])
 free_row k a b line is fits =
     let body : free_text k ++ (numbers_text (free_shape k) a b ++ []) ≡ line = ap (λ xs. free_text k ++ xs) (append-nil (numbers_text (free_shape k) a b)) ∙ is in
-    ap (row_in free_text free_shape FREE) (sym body) ∙ row_back free_text free_shape FREE k a b [] (free_apart k (numbers_text (free_shape k) a b ++ [])) (free_small k) fits refl
+    ap (row_in free_text free_shape FREE) (sym body) ∙ row_back free_text free_shape FREE k a b [] (free_apart k (numbers_text (free_shape k) a b ++ [])) (free_small k) fits refl ends_whole
 
 no_row_in_plan : (xs : List ℕ) → row_in told_text told_shape TOLD (codes " plan " ++ xs) ≡ None
 unfolding behind

@@ -150,6 +150,7 @@ entry_is line rest more n f l m e front is =
       feed = has.fits.1.0;
       of_line = has.fits.1.1.0;
       message = is.fits;
+      sorted = is.sorted;
     }
 
 pub entry_no_numbers : (line : List ℕ) → None ≡ fields entry_fields line → (said : Numbered) → IsEntryLine said line → ⊥
@@ -169,7 +170,7 @@ pub entry_no_message : (line rest more : List ℕ) (n f l : ℕ) → Some (n ∷
     (said : Numbered) → IsEntryLine said line → ⊥
 entry_no_message line rest more n f l e front none said is =
     let same = some_is more (spelling_of_message said.entry.message) (front ∙ (ap (behind (codes " ")) (entry_rest line rest n f l said e is) ∙ behind_back (codes " ") (spelling_of_message said.entry.message))) in
-    none said.entry.message (record { fits = is.message; spelled = same })
+    none said.entry.message (record { fits = is.message; sorted = is.sorted; spelled = same })
   where
     some_is : (x y : List ℕ) → (◌≡◌ {A = Option (List ℕ)} (Some x) (Some y)) → x ≡ y
     some_is x y e = cc

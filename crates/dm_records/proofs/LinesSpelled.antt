@@ -3,7 +3,7 @@ use Rattle.std.proofs.Common.{◌≡◌, ℕ, ◌≤◌, List, [], ◌++◌, ref
 use Rattle.std.specs.Fmt.{decimal}
 use Rattle.dm_rows.specs.declared.messages.Entry.{Entry}
 use Rattle.dm_feed.specs.Parts.{largest_id}
-use Rattle.dm_feed.specs.Lines.{spelling_of_message}
+use Rattle.dm_feed.specs.Lines.{HasSortedChoice, spelling_of_message}
 use Rattle.dm_cert.specs.PlanTexts.{line_end, largest_cost, IsVersion}
 use Rattle.dm_cert.specs.RunTexts.{entry_text, FitsEntry}
 use Rattle.dm_cert.proofs.LineFeeds.{NoFeed, has_no_feed, no_feed_append, no_feed_decimal}
@@ -73,10 +73,10 @@ entry_no_feed n e low fits =
     let c : NoFeed feed = no_feed_append (codes " feed ") (decimal e.feed ++ line) refl (number_then e.feed line (let f = fits.0 in omega arith) b) in
     no_feed_append (codes "entry ") (decimal n ++ feed) refl (number_then n feed (omega arith) c)
 
-pub entry_line : (n : ℕ) (e : Entry) → n ≤ largest_id → FitsEntry e → HasLine IsEntryLine (λ said. entry_text said.number said.entry) (record { number = n; entry = e })
-entry_line n e low fits = record {
+pub entry_line : (n : ℕ) (e : Entry) → n ≤ largest_id → FitsEntry e → HasSortedChoice e.message → HasLine IsEntryLine (λ said. entry_text said.number said.entry) (record { number = n; entry = e })
+entry_line n e low fits sorted = record {
   line = entry_bytes n e;
   text_is = entry_is n e;
   one_line = has_no_feed (entry_bytes n e) (entry_no_feed n e low fits);
-  spelled = record { spelled = entry_is n e; number = low; feed = (let f = fits.0 in omega arith); of_line = fits.1; message = fits.2 };
+  spelled = record { spelled = entry_is n e; number = low; feed = (let f = fits.0 in omega arith); of_line = fits.1; message = fits.2; sorted = sorted };
 }

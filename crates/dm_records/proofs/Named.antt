@@ -7,14 +7,14 @@ use Rattle.std.proofs.lemmas.List.Sums.{sum_by-append, sum_by-cons}
 use Rattle.dm_rows.specs.declared.messages.Entry.{Entry}
 use Rattle.dm_rows.specs.declared.messages.Message.{Message}
 use Rattle.dm_feed.specs.declared.grammar.Line.{Line}
-use Rattle.dm_feed.specs.declared.grammar.Line.TheVariants.{Say, Time as AskTime, CostNow as AskCost, Plan as AskPlan, Solve as AskSolve, Adopt as AskAdopt, Read as AskRead}
+use Rattle.dm_feed.specs.declared.grammar.Line.TheVariants.{Say, Time as AskTime, CostNow as AskCost, Plan as AskPlan, Solve as AskSolve, Adopt as AskAdopt, Carry as AskCarry, Read as AskRead}
 use Rattle.dm_tree.specs.declared.adopting.Chosen.{Chosen}
 use Rattle.dm_cert.specs.declared.replies.Reply.{Reply}
 use Rattle.dm_cert.specs.declared.replies.Reply.TheVariants as reply
 use Rattle.dm_cert.specs.declared.replies.LogItem.{LogItem}
 use Rattle.dm_cert.specs.declared.replies.LogItem.TheVariants.{Malformed, Answered}
 use Rattle.dm_cert.specs.declared.replies.FeedLog.{FeedLog}
-use Rattle.dm_cert.specs.Answers.{Setting, latest_plan, IsEntry, IsAdopted, IsTrueReply, IsTrueAnswer}
+use Rattle.dm_cert.specs.Answers.{Setting, latest_plan, IsEntry, IsAdopted, carried, IsCarried, IsTrueReply, IsTrueAnswer}
 use Rattle.dm_cert.specs.Logs.{kind_of, line_of, number_after, names, all_items, AreTrueAnswers, IsInOrder, IsTrueLog, AreTrueLogs}
 use Rattle.dm_cert.proofs.Holding.{get_at}
 use Rattle.dm_records.proofs.Each.{Each, each_of_splits}
@@ -28,6 +28,10 @@ some_adopted : (history : List Entry) (feed line n : ℕ) (latest : Option Chose
 some_adopted history feed line n None is = absurd is
 some_adopted history feed line n (Some plan) is = record { message = _; entry = is.entry }
 
+some_carried : (s : Setting) (history : List Entry) (feed line n : ℕ) (latest : Option Chosen) → IsSomeAnd latest (λ plan. IsCarried s history feed line n plan.choices) → CameFrom history feed line n
+some_carried s history feed line n None is = absurd is
+some_carried s history feed line n (Some plan) is = record { message = carried s history (n - 1) plan.choices; entry = is }
+
 accepted_from : (s : Setting) (history : List Entry) (feed : ℕ) (before : List LogItem) (line : ℕ) (said : Line) (n : ℕ) → IsTrueReply s history feed before line said (reply.Ok n) → CameFrom history feed line n
 accepted_from s history feed before line (Say message) n is = record { message = message; entry = is }
 accepted_from s history feed before line (AskTime event) n is = absurd is
@@ -35,6 +39,7 @@ accepted_from s history feed before line AskCost n is = absurd is
 accepted_from s history feed before line (AskPlan budget) n is = absurd is
 accepted_from s history feed before line (AskSolve budget) n is = absurd is
 accepted_from s history feed before line AskAdopt n is = some_adopted history feed line n (latest_plan before) is
+accepted_from s history feed before line AskCarry n is = some_carried s history feed line n (latest_plan before) is
 accepted_from s history feed before line AskRead n is = absurd is
 
 no_name : {X : Type 0} → (◌≡◌ {A = Bool} false true) → X

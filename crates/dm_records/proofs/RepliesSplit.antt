@@ -5,6 +5,7 @@ use Rattle.std.specs.Fmt.{decimal}
 use Rattle.dm_base.specs.declared.ids.ActId.{ActId}
 use Rattle.dm_text.specs.Inside.Parts.{behind, number_in_front}
 use Rattle.dm_text.proofs.Reading.{EndsNumber, behind_back, number_back}
+use Rattle.dm_rows.specs.declared.messages.Choice.{Choice as ChoiceOfRows}
 use Rattle.dm_rows.specs.declared.messages.Refusal.{Refusal}
 use Rattle.dm_rows.specs.declared.messages.Refusal.TheVariants as refusal
 use Rattle.dm_tree.specs.declared.plans.Plan.{Plan}
@@ -36,7 +37,8 @@ use Rattle.dm_records.specs.declared.kinds.FreeKind.{FreeKind}
 use Rattle.dm_records.specs.declared.kinds.FreeKind.TheVariants as free
 use Rattle.dm_records.specs.Inside.Fields.{numbers_text, NumbersFit, row_in}
 use Rattle.dm_records.specs.Inside.Kinds.{said_text, said_shape, said_line, told_text, told_shape, told_reply, refused_at, free_text, free_shape, free_reply}
-use Rattle.dm_records.proofs.KindsRead.{row_back}
+use Rattle.dm_records.proofs.ChoicesRead.{choice_ids}
+use Rattle.dm_records.proofs.KindsRead.{ends_line, row_back}
 use Rattle.dm_records.proofs.AnswersRead.{told_apart, told_small, told_spelled, kind_ends, cycle_spelled, free_apart, free_small, free_spelled}
 use Rattle.dm_records.proofs.ItemsRead.{row_there, malformed_text}
 use Rattle.dm_records.proofs.Splitting.{IsSame, Splits, FitsId, end_same, number_splits, ids_split}
@@ -91,6 +93,14 @@ refusal_form n (refusal.UnknownChange a) s low f = kind_form n told.UnknownChang
 refusal_form n (refusal.UnknownPair i j) s low f = kind_form n told.UnknownPair i.0 j.0 low (f.0, f.1)
 refusal_form n (refusal.Passed e t) s low f = kind_form n told.Passed e.0 t low (f.0, omega (arith, f.1))
 refusal_form n (refusal.NotPassed e) s low f = kind_form n told.NotPassed e.0 0 low (f, refl)
+refusal_form n (refusal.Cancelled e) s low f = kind_form n told.Cancelled e.0 0 low (f, refl)
+refusal_form n (refusal.NotCancelled e) s low f = kind_form n told.NotCancelled e.0 0 low (f, refl)
+refusal_form n (refusal.Locked c) s low f =
+    let ids = choice_ids c (f, s) in
+    subst (λ (k : ChoiceOfRows). HasForm (refused_at n (refusal.Locked k))) ids.is (kind_form n told.Locked ids.one ids.two low ids.fits)
+refusal_form n (refusal.NotLocked c) s low f =
+    let ids = choice_ids c (f, s) in
+    subst (λ (k : ChoiceOfRows). HasForm (refused_at n (refusal.NotLocked k))) ids.is (kind_form n told.NotLocked ids.one ids.two low ids.fits)
 refusal_form n (refusal.Back c) s low f = kind_form n told.Back c 0 low (omega (arith, f), refl)
 refusal_form n (refusal.Cycle ids) s low f = record { form = at_entry n (of_cycle ids); is = refl; good = (low, f) }
 refusal_form n (refusal.Full m) s low f = subst (λ (k : ℕ). HasForm (refused_at n (refusal.Full k))) (sym s) (kind_form n told.Full 0 0 low (refl, refl))
@@ -169,11 +179,11 @@ same_row {K} k j a b c d rest more e =
 
 told_row : (k : ToldKind) (a b : ℕ) (rest : List ℕ) → NumbersFit (told_shape k) a b →
     row_in told_text told_shape TOLD (told_text k ++ (numbers_text (told_shape k) a b ++ (line_end ++ rest))) ≡ Some ((k, a, b), line_end ++ rest)
-told_row k a b rest fits = row_back told_text told_shape TOLD k a b (line_end ++ rest) (told_apart k (numbers_text (told_shape k) a b ++ (line_end ++ rest))) (told_small k) fits refl
+told_row k a b rest fits = row_back told_text told_shape TOLD k a b (line_end ++ rest) (told_apart k (numbers_text (told_shape k) a b ++ (line_end ++ rest))) (told_small k) fits refl (ends_line rest)
 
 free_row : (k : FreeKind) (a b : ℕ) (rest : List ℕ) → NumbersFit (free_shape k) a b →
     row_in free_text free_shape FREE (free_text k ++ (numbers_text (free_shape k) a b ++ (line_end ++ rest))) ≡ Some ((k, a, b), line_end ++ rest)
-free_row k a b rest fits = row_back free_text free_shape FREE k a b (line_end ++ rest) (free_apart k (numbers_text (free_shape k) a b ++ (line_end ++ rest))) (free_small k) fits refl
+free_row k a b rest fits = row_back free_text free_shape FREE k a b (line_end ++ rest) (free_apart k (numbers_text (free_shape k) a b ++ (line_end ++ rest))) (free_small k) fits refl (ends_line rest)
 
 pub no_row_in_cycle : (xs : List ℕ) → row_in told_text told_shape TOLD (codes " refused cycle" ++ xs) ≡ None
 unfolding behind

@@ -12,7 +12,7 @@ use Rattle.dm_rows.specs.declared.messages.Entry.{Entry}
 use Rattle.dm_rows.specs.Timetable.{time_at}
 use Rattle.dm_feed.specs.declared.feed.FeedStop.{FeedStop}
 use Rattle.dm_feed.specs.Parts.{largest_value}
-use Rattle.dm_feed.specs.Lines.{spelling_of_message}
+use Rattle.dm_feed.specs.Lines.{HasSortedChoice, spelling_of_message}
 use Rattle.dm_cert.specs.declared.notes.Note.{Note}
 use Rattle.dm_cert.specs.declared.replies.LogItem.{LogItem}
 use Rattle.dm_cert.specs.declared.replies.FeedLog.{FeedLog}
@@ -82,12 +82,17 @@ entry_same x y feed line message =
 space_same : (xs ys : List ℕ) → codes " " ++ xs ≡ codes " " ++ ys → xs ≡ ys
 space_same xs ys e = cc
 
-entry_splits : (n : ℕ) → Splits (entry_text n) FitsEntry
+-- an entry whose numbers are not too large, and of whose pair to lock or unlock the smaller id stands first
+record GoodEntry (x : Entry) : Type 0 where
+  fits : FitsEntry x
+  sorted : HasSortedChoice x.message
+
+entry_splits : (n : ℕ) → Splits (entry_text n) GoodEntry
 entry_splits n x y rest more p q e =
     let all = append_cancel_left (codes "entry " ++ decimal n) (field_text entry_fields (x.feed ∷ x.line ∷ []) (entry_rest x rest)) (field_text entry_fields (y.feed ∷ y.line ∷ []) (entry_rest y more))
     (sym (entry_spelled n x rest) ∙ (e ∙ entry_spelled n y more)) in
-    let numbers = fields_split entry_fields (x.feed ∷ x.line ∷ []) (y.feed ∷ y.line ∷ []) (entry_rest x rest) (entry_rest y more) (entry_fits x rest p) (entry_fits y more q) all in
-    let message = message_splits x.message y.message rest more p.2 q.2
+    let numbers = fields_split entry_fields (x.feed ∷ x.line ∷ []) (y.feed ∷ y.line ∷ []) (entry_rest x rest) (entry_rest y more) (entry_fits x rest p.fits) (entry_fits y more q.fits) all in
+    let message = message_splits x.message y.message rest more p.fits.2 q.fits.2 p.sorted q.sorted
     (space_same (spelling_of_message x.message ++ (line_end ++ rest)) (spelling_of_message y.message ++ (line_end ++ more)) numbers.behind) in
     let lines = tail_same x.feed y.feed (x.line ∷ []) (y.line ∷ []) numbers.value in
     record {
@@ -95,15 +100,15 @@ entry_splits n x y rest more p q e =
       behind = message.behind;
     }
 
-entries_split : (n : ℕ) (xs ys : List Entry) (rest more : List ℕ) → length xs ≡ length ys → All FitsEntry xs → All FitsEntry ys →
+entries_split : (n : ℕ) (xs ys : List Entry) (rest more : List ℕ) → length xs ≡ length ys → All GoodEntry xs → All GoodEntry ys →
     entries_text n xs ++ rest ≡ entries_text n ys ++ more → IsSame xs ys rest more
 entries_split n [] [] rest more count p q e = record { value = refl; behind = e }
 entries_split n [] (y ∷ ys) rest more count p q e = absurd (omega (arith, count))
 entries_split n (x ∷ xs) [] rest more count p q e = absurd (omega (arith, count))
 entries_split n (x ∷ xs) (y ∷ ys) rest more count p q e =
-    let here = entry_splits n x y (entries_text (n + 1) xs ++ rest) (entries_text (n + 1) ys ++ more) (All-head FitsEntry x xs p) (All-head FitsEntry y ys q)
+    let here = entry_splits n x y (entries_text (n + 1) xs ++ rest) (entries_text (n + 1) ys ++ more) (All-head GoodEntry x xs p) (All-head GoodEntry y ys q)
     (sym (append_assoc (entry_text n x) (entries_text (n + 1) xs) rest) ∙ (e ∙ append_assoc (entry_text n y) (entries_text (n + 1) ys) more)) in
-    let later = entries_split (n + 1) xs ys rest more (omega (arith, count)) (All-tail FitsEntry x xs p) (All-tail FitsEntry y ys q) here.behind in
+    let later = entries_split (n + 1) xs ys rest more (omega (arith, count)) (All-tail GoodEntry x xs p) (All-tail GoodEntry y ys q) here.behind in
     record { value = let a = here.value in let b = later.value in cc; behind = later.behind }
 
 -- ---- logs
@@ -284,6 +289,9 @@ header_fits : (version : ℕ) (run : Run) (rest : List ℕ) → IsVersion versio
 header_fits version run rest is good =
     (version_low version is, omega arith, refl, (omega (arith, good.fits.penalty), omega arith, refl, (omega (arith, good.held.feeds), omega arith, refl, (omega (arith, good.held.history), omega arith, refl, tt))))
 
+good_entries : (run : Run) → IsInPrint run → All GoodEntry run.history
+good_entries run good = λ k d below. record { fits = good.fits.history k d below; sorted = good.spelled.history k d below }
+
 good_logs : (run : Run) → IsInPrint run → All GoodLog run.logs
 good_logs run good = λ k d below. record { spelled = good.spelled.logs k d below; fits = good.fits.logs k d below; held = good.held.logs k d below }
 
@@ -342,7 +350,7 @@ end_splits one other rest more good also net entries e =
 body_splits : (version : ℕ) (one other : Run) (rest more : List ℕ) → IsInPrint one → IsInPrint other → one.net ≡ other.net → length one.logs ≡ length other.logs →
     length one.history ≡ length other.history → behind_header version one rest ≡ behind_header version other more → SameBody one other rest more
 body_splits version one other rest more good also net feeds entries e =
-    let history = entries_split 1 one.history other.history (behind_entries version one rest) (behind_entries version other more) entries good.fits.history also.fits.history e in
+    let history = entries_split 1 one.history other.history (behind_entries version one rest) (behind_entries version other more) entries (good_entries one good) (good_entries other also) e in
     let logs = logs_split version 1 one.logs other.logs (behind_logs one rest) (behind_logs other more) feeds (good_logs one good) (good_logs other also) history.behind in
     let boards = line_splits (codes "boards ") (length one.notes) (length other.notes) (flat_map note_text one.notes ++ behind_notes one rest) (flat_map note_text other.notes ++ behind_notes other more)
     (omega (arith, good.held.notes)) (omega (arith, also.held.notes))

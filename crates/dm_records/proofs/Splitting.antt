@@ -7,9 +7,9 @@ use Rattle.dm_text.specs.Inside.Parts.{number_in_front}
 use Rattle.dm_text.proofs.Reading.{EndsNumber, number_back}
 use Rattle.dm_text.proofs.Judged.{one_cut}
 use Rattle.dm_rows.specs.declared.messages.Message.{Message}
-use Rattle.dm_feed.specs.declared.vocabulary.Word.TheVariants.{Delay, Event, Activity, Pass, Recall, Keep, Drop, First, Now, Time, Cost, Read, Plan, Solve, Adopt}
+use Rattle.dm_feed.specs.declared.vocabulary.Word.TheVariants.{Delay, Event, Activity, Pass, Recall, Keep, Drop, First, Now, Cancel, Restore, Lock, Unlock, Time, Cost, Read, Plan, Solve, Adopt, Carry}
 use Rattle.dm_feed.specs.Parts.{Part, word, id, value, Fits, spelling_of_part, spaced, spelling_of_parts}
-use Rattle.dm_feed.specs.Lines.{parts_of_message, spelling_of_message}
+use Rattle.dm_feed.specs.Lines.{parts_of_message, HasSortedChoice, spelling_of_message}
 use Rattle.dm_feed.proofs.Messaging.{one_message}
 use Rattle.dm_base.specs.declared.ids.ActId.{ActId}
 use Rattle.dm_feed.specs.Parts.{largest_id}
@@ -107,6 +107,11 @@ part_no_feed (word Keep) fits = refl
 part_no_feed (word Drop) fits = refl
 part_no_feed (word First) fits = refl
 part_no_feed (word Now) fits = refl
+part_no_feed (word Cancel) fits = refl
+part_no_feed (word Restore) fits = refl
+part_no_feed (word Lock) fits = refl
+part_no_feed (word Unlock) fits = refl
+part_no_feed (word Carry) fits = refl
 part_no_feed (word Time) fits = refl
 part_no_feed (word Cost) fits = refl
 part_no_feed (word Read) fits = refl
@@ -132,11 +137,11 @@ unfolding spelling_of_message
 message_no_feed m fits = parts_no_feed (parts_of_message m) fits
 
 -- a message to the end of a line
-pub message_splits : (m n : Message) (rest more : List ℕ) → All Fits (parts_of_message m) → All Fits (parts_of_message n) →
+pub message_splits : (m n : Message) (rest more : List ℕ) → All Fits (parts_of_message m) → All Fits (parts_of_message n) → HasSortedChoice m → HasSortedChoice n →
     spelling_of_message m ++ (line_end ++ rest) ≡ spelling_of_message n ++ (line_end ++ more) → IsSame m n rest more
-message_splits m n rest more p q e =
+message_splits m n rest more p q sorted sorted_too e =
     let cut = one_cut (spelling_of_message m) rest (spelling_of_message n) more (has_no_feed (spelling_of_message m) (message_no_feed m p)) (has_no_feed (spelling_of_message n) (message_no_feed n q)) e in
     record {
-      value = one_message (spelling_of_message m) m n (record { fits = p; spelled = refl }) (record { fits = q; spelled = cut.front });
+      value = one_message (spelling_of_message m) m n (record { fits = p; sorted = sorted; spelled = refl }) (record { fits = q; sorted = sorted_too; spelled = cut.front });
       behind = cut.back;
     }

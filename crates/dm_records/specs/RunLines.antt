@@ -9,10 +9,12 @@ use Rattle.dm_outside.specs.Printing.{joined}
 use Rattle.dm_rows.specs.declared.messages.Entry.{Entry}
 use Rattle.dm_rows.specs.declared.messages.Refusal.{Refusal}
 use Rattle.dm_rows.specs.declared.messages.Refusal.TheVariants as refusal
+use Rattle.dm_rows.specs.declared.messages.Choice.{Choice}
+use Rattle.dm_rows.specs.Sides.{IsSorted}
 use Rattle.dm_feed.specs.declared.feed.FeedStop.{FeedStop}
 use Rattle.dm_feed.specs.declared.grammar.Line.{Line}
 use Rattle.dm_feed.specs.Parts.{Fits, largest_id}
-use Rattle.dm_feed.specs.Lines.{parts_of_line, parts_of_message, IsSpelledLine, spelling_of_line}
+use Rattle.dm_feed.specs.Lines.{parts_of_line, parts_of_message, HasSortedChoice, IsSpelledLine, spelling_of_line, parts_of_choice}
 use Rattle.dm_parts.specs.declared.parts.PlanByParts.{PlanByParts}
 use Rattle.dm_cert.specs.declared.solved_lines.SolvedHeading.{SolvedHeading}
 use Rattle.dm_cert.specs.declared.notes.Note.{Note}
@@ -49,6 +51,7 @@ pub record IsEntryLine (said : Numbered) (line : List ℕ) : Type 0 where
   pub feed : said.entry.feed ≤ largest_cost
   pub of_line : said.entry.line ≤ largest_id
   pub message : All Fits (parts_of_message said.entry.message)
+  pub sorted : HasSortedChoice said.entry.message
 
 -- ---- logs
 
@@ -62,6 +65,10 @@ pub record IsOpeningLine (opening : LogOpening) (line : List ℕ) : Type 0 where
   pub feed : opening.feed ≤ largest_cost
   pub items : opening.items ≤ largest_cost
 
+-- the ids of a choice are not too large, and of a pair the smaller stands first
+abbrev pub IsFormedChoice : Choice → Type 0
+IsFormedChoice c = All Fits (parts_of_choice c) × IsSorted c
+
 -- a reason has the form of one; a cycle has some activity
 abbrev pub IsFormedReason : Refusal → Type 0
 IsFormedReason (refusal.Range v) = v ≤ largest_cost
@@ -71,6 +78,10 @@ IsFormedReason (refusal.UnknownChange a) = a.0 ≤ largest_id
 IsFormedReason (refusal.UnknownPair i j) = (i.0 ≤ largest_id) × (j.0 ≤ largest_id)
 IsFormedReason (refusal.Passed e t) = (e.0 ≤ largest_id) × (t ≤ largest_cost)
 IsFormedReason (refusal.NotPassed e) = e.0 ≤ largest_id
+IsFormedReason (refusal.Cancelled e) = e.0 ≤ largest_id
+IsFormedReason (refusal.NotCancelled e) = e.0 ≤ largest_id
+IsFormedReason (refusal.Locked c) = IsFormedChoice c
+IsFormedReason (refusal.NotLocked c) = IsFormedChoice c
 IsFormedReason (refusal.Back c) = c ≤ largest_cost
 IsFormedReason (refusal.Cycle ids) = (0 < length ids) × All (λ a. a.0 ≤ largest_id) ids
 IsFormedReason (refusal.Full n) = n ≡ ENTRIES

@@ -1,17 +1,19 @@
 //! What a log item's line answers.
 ghost use Rattle.std.specs.Prelude.{◌≡◌, IfOk, MatchOption};
 ghost use Rattle.std.specs.Option.{option_map};
+ghost use Rattle.dm_records.specs.declared.fields.Shape.{Shape};
 ghost use Rattle.dm_records.specs.declared.kinds.TheConstants.{TOLD, FREE};
 ghost use Rattle.dm_records.specs.Inside.Fields.{row_in, whole, NumbersFit};
-ghost use Rattle.dm_records.specs.Inside.Kinds.{told_text, told_shape, told_reply, free_text, free_shape, free_reply};
+ghost use Rattle.dm_records.specs.Inside.Kinds.{told_text, told_shape, told_reply, free_text, free_shape, free_reply, choice_with};
 ghost use Rattle.dm_records.specs.Inside.Answers.{IsIds, IsNoIds, TellsPlan, TellsSolved, TellsCycle, ReadsTold, ReadsAnswer, saying};
 ghost use Rattle.dm_cert.specs.PlanTexts.{IsVersion};
 ghost use Rattle.dm_records.specs.Readings.{IsRead, reply_of};
 
-use crate::fields::{LARGEST_ID, number_behind};
+use crate::fields::{LARGEST_ID, NO_ID, number_behind};
 use crate::kinds::{FreeKind, ToldKind, free_row, told_row};
 use dm_base::{ActId, Cost, EventId, Items};
 use dm_cert::{Heading, SolvedHeading, heading_in, solved_heading_in};
+use dm_rows::Choice;
 use dm_text::behind;
 use std::alloc::{AllocError, Global};
 
@@ -24,6 +26,10 @@ pub enum Reason {
     UnknownPair(EventId, EventId),
     Passed(EventId, u128),
     NotPassed(EventId),
+    Cancelled(EventId),
+    NotCancelled(EventId),
+    Locked(Choice),
+    NotLocked(Choice),
     Back(u128),
     Cycle(Items<ActId>),
     Full,
@@ -39,6 +45,10 @@ impl Drop for Reason {
             | Reason::UnknownPair(_, _)
             | Reason::Passed(_, _)
             | Reason::NotPassed(_)
+            | Reason::Cancelled(_)
+            | Reason::NotCancelled(_)
+            | Reason::Locked(_)
+            | Reason::NotLocked(_)
             | Reason::Back(_)
             | Reason::Cycle(_)
             | Reason::Full => {}
@@ -83,6 +93,18 @@ pub(crate) enum AnswerLine {
     Solved(u32, SolvedHeading),
 }
 
+/// The choice with these ids, of which the second may be none.
+pub(crate) fn choice_with(one: u128, two: u128) -> Choice
+    requires { NumbersFit Shape.Choice one two }
+    ensures { result ≡ choice_with one two }
+{
+    if two == NO_ID {
+        Choice::Change(ActId(one as u32))
+    } else {
+        Choice::Pair(EventId(one as u32), EventId(two as u32))
+    }
+}
+
 /// The answer of this kind with these numbers, at an entry.
 fn told_answer(entry: u32, kind: ToldKind, one: u128, two: u128) -> Answer
     requires { NumbersFit (told_shape kind) one two }
@@ -108,6 +130,12 @@ fn told_answer(entry: u32, kind: ToldKind, one: u128, two: u128) -> Answer
         ),
         ToldKind::Passed => Answer::Refused(entry, Reason::Passed(EventId(one as u32), two)),
         ToldKind::NotPassed => Answer::Refused(entry, Reason::NotPassed(EventId(one as u32))),
+        ToldKind::Cancelled => Answer::Refused(entry, Reason::Cancelled(EventId(one as u32))),
+        ToldKind::NotCancelled => {
+            Answer::Refused(entry, Reason::NotCancelled(EventId(one as u32)))
+        }
+        ToldKind::Locked => Answer::Refused(entry, Reason::Locked(choice_with(one, two))),
+        ToldKind::NotLocked => Answer::Refused(entry, Reason::NotLocked(choice_with(one, two))),
         ToldKind::Back => Answer::Refused(entry, Reason::Back(one)),
         ToldKind::Full => Answer::Refused(entry, Reason::Full),
     }

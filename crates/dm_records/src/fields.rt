@@ -19,7 +19,13 @@ pub(crate) enum Shape {
 
     /// Two numbers with a space between them.
     Double(u128, u128),
+
+    /// One id, or two with a space between them, the smaller first.
+    Choice,
 }
+
+/// In place of the second id of a choice that has one alone.
+pub(crate) const NO_ID: u128 = LARGEST_ID + 1;
 
 /// A number behind the text, of at most so much.
 pub(crate) fn number_behind<'l>(
@@ -166,5 +172,24 @@ pub(crate) fn numbers_in(line: &[u8], shape: Shape) -> Option<(u128, u128, &[u8]
             };
             Some((one, two, rest))
         }
+        Shape::Choice => ids_in(line),
     }
+}
+
+/// The one or two ids of a choice, and what stands behind them.
+#[tactic(auto, using(crate::proofs::KindsRead::no_first, crate::proofs::KindsRead::no_second, crate::proofs::KindsRead::sorted_ids, crate::proofs::KindsRead::unsorted_ids))]
+fn ids_in(line: &[u8]) -> Option<(u128, u128, &[u8])>
+    ensures reads { option_map (λ p. ((p.0, p.1), p.2.now)) result ≡ numbers_in Shape.Choice line.now }
+    ensures fits { IfSome result (λ p. NumbersFit Shape.Choice p.0 p.1) }
+{
+    let Some((one, rest)) = number_in_front(line, LARGEST_ID) else {
+        return None;
+    };
+    let Some((two, rest)) = number_behind(rest, " ", LARGEST_ID) else {
+        return Some((one, NO_ID, rest));
+    };
+    if two < one {
+        return None;
+    }
+    Some((one, two, rest))
 }

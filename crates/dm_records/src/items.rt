@@ -9,7 +9,7 @@ ghost use Rattle.dm_records.specs.Inside.Answers.{saying};
 ghost use Rattle.dm_records.specs.Inside.Items.{item_with, ReadsSaid};
 ghost use Rattle.dm_records.specs.Readings.{IsRead, item_of};
 
-use crate::answers::{Answer, AnswerLine, answer_line};
+use crate::answers::{Answer, AnswerLine, answer_line, choice_with};
 use crate::fields::{LARGEST_ID, number_behind};
 use crate::kinds::{SaidKind, said_row};
 use crate::lines::is_word_line;
@@ -75,12 +75,17 @@ fn said_line(kind: SaidKind, one: u128, two: u128) -> Line
         SaidKind::Drop => Line::Say(Message::Drop(ActId(one as u32))),
         SaidKind::First => Line::Say(Message::First(EventId(one as u32), EventId(two as u32))),
         SaidKind::Now => Line::Say(Message::Now(one as u64)),
+        SaidKind::Cancel => Line::Say(Message::Cancel(EventId(one as u32))),
+        SaidKind::Restore => Line::Say(Message::Restore(EventId(one as u32))),
+        SaidKind::Lock => Line::Say(Message::Lock(choice_with(one, two))),
+        SaidKind::Unlock => Line::Say(Message::Unlock(choice_with(one, two))),
         SaidKind::Time => Line::Time(EventId(one as u32)),
         SaidKind::Cost => Line::CostNow,
         SaidKind::Read => Line::Read,
         SaidKind::Plan => Line::Plan(one as u64),
         SaidKind::Solve => Line::Solve(one as u64),
         SaidKind::Adopt => Line::Adopt,
+        SaidKind::Carry => Line::Carry,
     }
 }
 

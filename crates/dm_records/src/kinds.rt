@@ -38,12 +38,17 @@ pub(crate) enum SaidKind {
     Drop,
     First,
     Now,
+    Cancel,
+    Restore,
+    Lock,
+    Unlock,
     Time,
     Cost,
     Read,
     Plan,
     Solve,
     Adopt,
+    Carry,
 }
 
 /// A kind of answer at an entry.
@@ -61,6 +66,10 @@ pub(crate) enum ToldKind {
     UnknownPair,
     Passed,
     NotPassed,
+    Cancelled,
+    NotCancelled,
+    Locked,
+    NotLocked,
     Back,
     Full,
 }
@@ -74,7 +83,7 @@ pub(crate) enum FreeKind {
 }
 
 /// Every kind of line.
-pub(crate) const SAID: [SaidKind; 14] = [
+pub(crate) const SAID: [SaidKind; 19] = [
     SaidKind::DelayEvent,
     SaidKind::DelayActivity,
     SaidKind::Pass,
@@ -83,16 +92,21 @@ pub(crate) const SAID: [SaidKind; 14] = [
     SaidKind::Drop,
     SaidKind::First,
     SaidKind::Now,
+    SaidKind::Cancel,
+    SaidKind::Restore,
+    SaidKind::Lock,
+    SaidKind::Unlock,
     SaidKind::Time,
     SaidKind::Cost,
     SaidKind::Read,
     SaidKind::Plan,
     SaidKind::Solve,
     SaidKind::Adopt,
+    SaidKind::Carry,
 ];
 
 /// Every kind of answer at an entry.
-pub(crate) const TOLD: [ToldKind; 14] = [
+pub(crate) const TOLD: [ToldKind; 18] = [
     ToldKind::Ok,
     ToldKind::Read,
     ToldKind::Old,
@@ -105,6 +119,10 @@ pub(crate) const TOLD: [ToldKind; 14] = [
     ToldKind::UnknownPair,
     ToldKind::Passed,
     ToldKind::NotPassed,
+    ToldKind::Cancelled,
+    ToldKind::NotCancelled,
+    ToldKind::Locked,
+    ToldKind::NotLocked,
     ToldKind::Back,
     ToldKind::Full,
 ];
@@ -129,12 +147,17 @@ impl Kind for SaidKind {
             SaidKind::Drop => "drop ",
             SaidKind::First => "first ",
             SaidKind::Now => "now ",
+            SaidKind::Cancel => "cancel ",
+            SaidKind::Restore => "restore ",
+            SaidKind::Lock => "lock ",
+            SaidKind::Unlock => "unlock ",
             SaidKind::Time => "time ",
             SaidKind::Cost => "cost",
             SaidKind::Read => "read",
             SaidKind::Plan => "plan ",
             SaidKind::Solve => "solve ",
             SaidKind::Adopt => "adopt",
+            SaidKind::Carry => "carry",
         }
     }
 
@@ -146,11 +169,15 @@ impl Kind for SaidKind {
                 Shape::Double(LARGEST_ID, LARGEST_VALUE)
             }
             SaidKind::First => Shape::Double(LARGEST_ID, LARGEST_ID),
-            SaidKind::Recall | SaidKind::Keep | SaidKind::Drop | SaidKind::Time => {
-                Shape::Single(LARGEST_ID)
-            }
+            SaidKind::Recall
+            | SaidKind::Cancel
+            | SaidKind::Restore
+            | SaidKind::Keep
+            | SaidKind::Drop
+            | SaidKind::Time => Shape::Single(LARGEST_ID),
+            SaidKind::Lock | SaidKind::Unlock => Shape::Choice,
             SaidKind::Now | SaidKind::Plan | SaidKind::Solve => Shape::Single(LARGEST_VALUE),
-            SaidKind::Cost | SaidKind::Read | SaidKind::Adopt => Shape::Bare,
+            SaidKind::Cost | SaidKind::Read | SaidKind::Adopt | SaidKind::Carry => Shape::Bare,
         }
     }
 }
@@ -176,6 +203,10 @@ impl Kind for ToldKind {
             ToldKind::UnknownPair => " refused unknown-pair ",
             ToldKind::Passed => " refused passed ",
             ToldKind::NotPassed => " refused not-passed ",
+            ToldKind::Cancelled => " refused cancelled ",
+            ToldKind::NotCancelled => " refused not-cancelled ",
+            ToldKind::Locked => " refused locked ",
+            ToldKind::NotLocked => " refused not-locked ",
             ToldKind::Back => " refused back ",
             ToldKind::Full => " refused full",
         }
@@ -192,7 +223,10 @@ impl Kind for ToldKind {
             ToldKind::UnknownEvent
             | ToldKind::UnknownActivity
             | ToldKind::UnknownChange
-            | ToldKind::NotPassed => Shape::Single(LARGEST_ID),
+            | ToldKind::NotPassed
+            | ToldKind::Cancelled
+            | ToldKind::NotCancelled => Shape::Single(LARGEST_ID),
+            ToldKind::Locked | ToldKind::NotLocked => Shape::Choice,
             ToldKind::UnknownPair => Shape::Double(LARGEST_ID, LARGEST_ID),
             ToldKind::Passed => Shape::Double(LARGEST_ID, u128::MAX),
         }

@@ -10,7 +10,7 @@ ghost use Rattle.dm_cert.specs.RunTexts.{spaced_id, reason_text, reply_text, ite
 use crate::words::{put_labelled, put_number};
 use dm_base::ActId;
 use dm_cert::{FeedLog, LogItem, Reply, put_plan, put_solved};
-use dm_feed::{FeedStop, put_line};
+use dm_feed::{FeedStop, put_choice, put_line};
 use dm_outside::{Page, Piece, Sink, WriteFault};
 use dm_parts::PlanByParts;
 use dm_rows::{At, Refusal};
@@ -68,6 +68,12 @@ fn put_reason<K: Sink>(sink: &mut K, page: &mut Page, why: &Refusal) -> Result<(
             page.put_pair(sink, "passed ", (event.0 as u128, *time as u128))
         }
         Refusal::NotPassed(event) => put_number(sink, page, "not-passed ", event.0 as u128, ""),
+        Refusal::Cancelled(event) => put_number(sink, page, "cancelled ", event.0 as u128, ""),
+        Refusal::NotCancelled(event) => {
+            put_number(sink, page, "not-cancelled ", event.0 as u128, "")
+        }
+        Refusal::Locked(choice) => put_choice(sink, page, "locked ", *choice),
+        Refusal::NotLocked(choice) => put_choice(sink, page, "not-locked ", *choice),
         Refusal::Back(clock) => put_number(sink, page, "back ", *clock as u128, ""),
         Refusal::Cycle(ids) => put_cycle(sink, page, ids.as_slice()),
         Refusal::Full(_) => page.put_bytes(sink, b"full"),

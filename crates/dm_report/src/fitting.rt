@@ -1,7 +1,7 @@
 //! The numbers of what is printed. Each is one that its type holds; a proof knows that where the number is read.
 ghost use Rattle.std.specs.Prelude.{◌≤◌, All};
 ghost use Rattle.dm_feed.specs.Parts.{Fits, largest_id, largest_value};
-ghost use Rattle.dm_feed.specs.Lines.{parts_of_line, parts_of_message};
+ghost use Rattle.dm_feed.specs.Lines.{parts_of_choice, parts_of_line, parts_of_message};
 ghost use Rattle.dm_cert.specs.PlanTexts.{FitsDecision, FitsNode, FitsPlan};
 ghost use Rattle.dm_cert.specs.SolvedTexts.{FitsPartNode, FitsPart, FitsSolved};
 ghost use Rattle.dm_cert.specs.RunTexts.{FitsEntry, FitsItem, FitsLog, FitsNote, FitsReason, FitsReply};
@@ -45,6 +45,19 @@ fn decision_fits(decision: &Decision)
     }
 }
 
+#[tactic(auto, using(crate::proofs::Fits::all_one, crate::proofs::Fits::all_more))]
+fn choice_fits(choice: &Choice)
+    ensures { All Fits (parts_of_choice choice.now) }
+{
+    match choice {
+        Choice::Change(act) => activity_fits(act),
+        Choice::Pair(small, large) => {
+            event_fits(small);
+            event_fits(large);
+        }
+    }
+}
+
 fn decisions_fit(decisions: &[Decision])
     ensures { All FitsDecision decisions.now }
 {
@@ -66,7 +79,10 @@ fn message_fits(message: &Message)
             activity_fits(act);
             value_fits(value);
         }
-        Message::Recall(event) => event_fits(event),
+        Message::Recall(event) | Message::Cancel(event) | Message::Restore(event) => {
+            event_fits(event)
+        }
+        Message::Lock(choice) | Message::Unlock(choice) => choice_fits(choice),
         Message::Keep(act) | Message::Drop(act) => activity_fits(act),
         Message::First(first, second) => {
             event_fits(first);
@@ -102,7 +118,7 @@ fn line_fits(line: &Line)
         Line::Say(message) => message_fits(message),
         Line::Time(event) => event_fits(event),
         Line::Plan(value) | Line::Solve(value) => value_fits(value),
-        Line::CostNow | Line::Adopt | Line::Read => {}
+        Line::CostNow | Line::Adopt | Line::Carry | Line::Read => {}
     }
 }
 
@@ -119,7 +135,11 @@ fn reason_fits(reason: &Refusal)
 {
     match reason {
         Refusal::Range(value) | Refusal::Back(value) => value_fits(value),
-        Refusal::UnknownEvent(event) | Refusal::NotPassed(event) => event_fits(event),
+        Refusal::UnknownEvent(event)
+        | Refusal::NotPassed(event)
+        | Refusal::Cancelled(event)
+        | Refusal::NotCancelled(event) => event_fits(event),
+        Refusal::Locked(choice) | Refusal::NotLocked(choice) => choice_fits(choice),
         Refusal::UnknownActivity(act) | Refusal::UnknownChange(act) => activity_fits(act),
         Refusal::UnknownPair(first, second) => {
             event_fits(first);

@@ -1,8 +1,8 @@
 //! Whole texts in print: runs, timetables and the generator's summary.
 //!
 //! It stands on dm_cert, whose `specs/` say how runs are spelled, on dm_history and dm_times for what is printed, and on
-//! dm_outside for the page that gathers bytes before a sink takes them. `dispatch` calls `write_timetable` for the command
-//! `follow`.
+//! dm_outside for the page that gathers bytes before a sink takes them. `dispatch` calls `write_timetable` and `write_cancelled`
+//! for the command `follow`.
 //!
 //! # What is promised
 //!
@@ -10,6 +10,7 @@
 //!
 //! - [`print_run`] writes exactly the run's spelling in version 2. Its condition is that the run has a spelling.
 //! - [`write_timetable`] writes exactly the lines `id; time` of all events of a network, in ascending id.
+//! - [`write_cancelled`] writes exactly the lines `cancelled id` of the events that are cancelled, in ascending id.
 //! - [`write_summary`] writes exactly the seven lines of a generated day.
 //! - `put_ids` prints exactly the ids, each behind a space.
 //! - `put_labelled` prints exactly the numbers, each behind its words, and then the last text.
@@ -27,6 +28,6 @@ mod words;
 
 pub use answers::{put_ids, put_items};
 pub use fitting::items_fit;
-pub use runs::{Run, print_run, write_timetable};
+pub use runs::{Run, print_run, write_cancelled, write_timetable};
 pub use summaries::{Summary, write_summary};
 pub use words::put_labelled;

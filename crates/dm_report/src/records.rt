@@ -1,5 +1,7 @@
 //! The records of a run besides its logs, in print.
 ghost use Rattle.std.specs.Prelude.{◌≡◌, ◌<◌, length};
+ghost use Rattle.dm_report.specs.Printed.{mark_text, cancelled_text};
+ghost use Rattle.dm_rows.specs.Rows.{IsSized};
 ghost use Rattle.std.specs.List.{flat_map};
 ghost use Rattle.dm_outside.specs.Printing.{Prints};
 ghost use Rattle.dm_cert.specs.RunTexts.{entry_text, entries_text, note_text, time_text, timetable_text, header_text, boards_text, heading_text, ending_text};
@@ -10,7 +12,7 @@ use dm_cert::Note;
 use dm_feed::put_message;
 use dm_network::Network;
 use dm_outside::{Page, Sink, WriteFault};
-use dm_rows::Entry;
+use dm_rows::{Entry, Rows};
 use dm_times::Times;
 
 /// Prints the version, the penalty, and how many feeds and entries there are.
@@ -144,6 +146,44 @@ pub fn put_times<K: Sink>(
 {
     for i in 0..net.events() {
         let Ok(()) = put_time(sink, page, net, times, i) else {
+            return Err(WriteFault);
+        };
+    }
+    Ok(())
+}
+
+/// Prints the line of an event that is cancelled, and nothing for another.
+#[tactic(auto, unfolding(crate::specs::Printed::mark_text))]
+fn put_mark<K: Sink>(
+    sink: &mut K,
+    page: &mut Page,
+    net: &Network,
+    rows: &Rows,
+    i: usize,
+) -> Result<(), WriteFault>
+    requires sized { IsSized net.now rows.now }
+    requires is_event { i < length net.now.events }
+    ensures { Prints K.taken K.faults sink.old sink.new page.old page.new result (mark_text net.now rows.now i) }
+{
+    if rows.cancelled(i) {
+        put_number(sink, page, "cancelled ", net.event(i).id.0 as u128, "\n")
+    } else {
+        page.put_bytes(sink, b"")
+    }
+}
+
+/// Prints the lines of all events that are cancelled.
+pub fn put_cancelled<K: Sink>(
+    sink: &mut K,
+    page: &mut Page,
+    net: &Network,
+    rows: &Rows,
+) -> Result<(), WriteFault>
+    requires { IsSized net.now rows.now }
+    ensures { Prints K.taken K.faults sink.old sink.new page.old page.new result (cancelled_text net.now rows.now) }
+{
+    for i in 0..net.events() {
+        let Ok(()) = put_mark(sink, page, net, rows, i) else {
             return Err(WriteFault);
         };
     }

@@ -1,19 +1,22 @@
 //! Runs and timetables in print.
 ghost use Rattle.std.specs.Prelude.{◌≡◌, length};
 ghost use Rattle.dm_outside.specs.Printing.{Prints, Puts};
+ghost use Rattle.dm_rows.specs.Rows.{IsSized};
 ghost use Rattle.dm_cert.specs.RunTexts.{FitsRun, IsSpelledRun, run_text, timetable_text};
-ghost use Rattle.dm_report.specs.Printed.{printed_run};
+ghost use Rattle.dm_report.specs.Printed.{cancelled_text, printed_run};
 
 use crate::answers::put_logs;
 use crate::fitting::{entries_fit, logs_fit, notes_fit, times_fit};
 use crate::records::{
-    put_boards, put_ending, put_entries, put_header, put_heading, put_notes, put_times,
+    put_boards, put_cancelled, put_ending, put_entries, put_header, put_heading, put_notes,
+    put_times,
 };
 use dm_base::Cost;
 use dm_cert::{FeedLog, Note};
 use dm_history::History;
 use dm_network::Network;
 use dm_outside::{Page, Sink, WriteFault};
+use dm_rows::Rows;
 use dm_times::Times;
 
 /// What a run is printed of.
@@ -84,8 +87,9 @@ fn put_run<K: Sink>(sink: &mut K, page: &mut Page, run: &Run<'_>) -> Result<(), 
 }
 
 /// Writes the one spelling of the run in version 2. The run has one: no log item is of an adopted list as a line, tells want
-/// of memory, or tells a full history at another number of entries than 1,000,000; and there is a time for each event. A write
-/// fault comes only where a write failed; the sink has then taken a front of the spelling, and not all of it.
+/// of memory, or tells a full history at another number of entries than 1,000,000; where an entry or an item names a pair as
+/// locked or unlocked, its smaller id stands first; and there is a time for each event. A write fault comes only where a write
+/// failed; the sink has then taken a front of the spelling, and not all of it.
 pub fn print_run<K: Sink>(run: &Run<'_>, sink: &mut K) -> Result<(), WriteFault>
     requires { IsSpelledRun (printed_run run.now) }
     ensures { Puts K.taken K.faults sink.old sink.new result (run_text 2 (printed_run run.now)) }
@@ -109,6 +113,19 @@ pub fn write_timetable<K: Sink>(
 {
     let mut page = Page::new();
     let Ok(()) = put_times(sink, &mut page, net, times) else {
+        return Err(WriteFault);
+    };
+    page.finish(sink)
+}
+
+/// Writes a line `cancelled id` for each event that is cancelled, in ascending id. A write fault comes only where a write failed;
+/// the sink has then taken a front of the lines, and not all of them.
+pub fn write_cancelled<K: Sink>(net: &Network, rows: &Rows, sink: &mut K) -> Result<(), WriteFault>
+    requires { IsSized net.now rows.now }
+    ensures { Puts K.taken K.faults sink.old sink.new result (cancelled_text net.now rows.now) }
+{
+    let mut page = Page::new();
+    let Ok(()) = put_cancelled(sink, &mut page, net, rows) else {
         return Err(WriteFault);
     };
     page.finish(sink)

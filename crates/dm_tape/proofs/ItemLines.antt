@@ -4,11 +4,12 @@ use Rattle.std.specs.List.{flat_map}
 use Rattle.std.specs.Fmt.{decimal}
 use Rattle.std.proofs.lemmas.List.Elements.{All-head, All-tail}
 use Rattle.dm_base.specs.declared.ids.ActId.{ActId}
+use Rattle.dm_rows.specs.declared.messages.Choice.{Choice}
 use Rattle.dm_rows.specs.declared.messages.Refusal.{Refusal}
 use Rattle.dm_rows.specs.declared.messages.Refusal.TheVariants as refusal
 use Rattle.dm_feed.specs.declared.grammar.Line.{Line}
 use Rattle.dm_feed.specs.Parts.{largest_id, Fits}
-use Rattle.dm_feed.specs.Lines.{spelling_of_line, parts_of_line}
+use Rattle.dm_feed.specs.Lines.{spelling_of_choice, spelling_of_line, parts_of_choice, parts_of_line}
 use Rattle.dm_tree.specs.declared.plans.Plan.{Plan}
 use Rattle.dm_parts.specs.declared.parts.PlanByParts.{PlanByParts}
 use Rattle.dm_cert.specs.declared.solved_lines.SolvedHeading.{SolvedHeading}
@@ -47,6 +48,11 @@ two_numbers : (words : List ℕ) (m n : ℕ) → NoFeed words → m ≤ largest_
 two_numbers words m n none low high =
     no_feed_append words (decimal m ++ (codes " " ++ (decimal n ++ []))) none (number_then m (codes " " ++ (decimal n ++ [])) low (one_number (codes " ") n refl high))
 
+-- words with the ids of a choice
+choice_no_feed : (words : List ℕ) (c : Choice) → NoFeed words → All Fits (parts_of_choice c) → NoFeed (words ++ (spelling_of_choice c ++ []))
+choice_no_feed words c none fits =
+    no_feed_append words (spelling_of_choice c ++ []) none (no_feed_append (spelling_of_choice c) [] (parts_no_feed (parts_of_choice c) fits) refl)
+
 reason_no_feed : (why : Refusal) → IsFormedReason why → NoFeed (reason_text why)
 reason_no_feed (refusal.Range v) formed = one_number (codes "range ") v refl formed
 reason_no_feed (refusal.UnknownEvent e) formed = one_number (codes "unknown-event ") e.0 refl (omega (arith, formed))
@@ -55,6 +61,10 @@ reason_no_feed (refusal.UnknownChange a) formed = one_number (codes "unknown-cha
 reason_no_feed (refusal.UnknownPair i j) formed = two_numbers (codes "unknown-pair ") i.0 j.0 refl (omega (arith, formed.0)) (omega (arith, formed.1))
 reason_no_feed (refusal.Passed e t) formed = two_numbers (codes "passed ") e.0 t refl (omega (arith, formed.0)) formed.1
 reason_no_feed (refusal.NotPassed e) formed = one_number (codes "not-passed ") e.0 refl (omega (arith, formed))
+reason_no_feed (refusal.Cancelled e) formed = one_number (codes "cancelled ") e.0 refl (omega (arith, formed))
+reason_no_feed (refusal.NotCancelled e) formed = one_number (codes "not-cancelled ") e.0 refl (omega (arith, formed))
+reason_no_feed (refusal.Locked c) formed = choice_no_feed (codes "locked ") c refl formed.0
+reason_no_feed (refusal.NotLocked c) formed = choice_no_feed (codes "not-locked ") c refl formed.0
 reason_no_feed (refusal.Back c) formed = one_number (codes "back ") c refl formed
 reason_no_feed (refusal.Cycle ids) formed = no_feed_append (codes "cycle") (flat_map spaced_id ids ++ []) refl (no_feed_append (flat_map spaced_id ids) [] (ids_no_feed ids formed.1) refl)
 reason_no_feed (refusal.Full n) formed = refl

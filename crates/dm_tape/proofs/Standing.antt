@@ -56,6 +56,10 @@ formed_reason (refusal.UnknownChange a) fits spelled some = fits
 formed_reason (refusal.UnknownPair i j) fits spelled some = fits
 formed_reason (refusal.Passed e t) fits spelled some = let low = fits.1 in (fits.0, omega (arith, low))
 formed_reason (refusal.NotPassed e) fits spelled some = fits
+formed_reason (refusal.Cancelled e) fits spelled some = fits
+formed_reason (refusal.NotCancelled e) fits spelled some = fits
+formed_reason (refusal.Locked c) fits spelled some = (fits, spelled)
+formed_reason (refusal.NotLocked c) fits spelled some = (fits, spelled)
 formed_reason (refusal.Back c) fits spelled some = omega (arith, fits)
 formed_reason (refusal.Cycle ids) fits spelled some = (some, fits)
 formed_reason (refusal.Full n) fits spelled some = spelled

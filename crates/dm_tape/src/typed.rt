@@ -65,6 +65,10 @@ fn reason_in(alloc: Global, reason: &Reason) -> Result<Option<Refusal>, AllocErr
             Ok(Some(Refusal::Passed(*event, time)))
         }
         Reason::NotPassed(event) => Ok(Some(Refusal::NotPassed(*event))),
+        Reason::Cancelled(event) => Ok(Some(Refusal::Cancelled(*event))),
+        Reason::NotCancelled(event) => Ok(Some(Refusal::NotCancelled(*event))),
+        Reason::Locked(choice) => Ok(Some(Refusal::Locked(*choice))),
+        Reason::NotLocked(choice) => Ok(Some(Refusal::NotLocked(*choice))),
         Reason::Back(clock) => {
             let Some(clock) = value_of(*clock) else {
                 return Ok(None);

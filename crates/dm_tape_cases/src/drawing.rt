@@ -9,11 +9,12 @@ use std::alloc::{AllocError, Global};
 const ROOM: usize = 100_000;
 
 /// Lines that are no messages: quiet ones, malformed ones, and questions.
-const OTHERS: [&[u8]; 12] = [
+const OTHERS: [&[u8]; 13] = [
     b"",
     b"# a comment",
     b"delay event 1",
     b"adopt",
+    b"carry",
     b"plan 3",
     b"solve 5",
     b"cost",
@@ -43,7 +44,7 @@ fn put_drawn(
     feed: &mut MemSink,
     page: &mut Page,
 ) -> Result<Result<(), WriteFault>, AllocError> {
-    let other = draws.below(36) as usize;
+    let other = draws.below(39) as usize;
     let put = if let Some(line) = OTHERS.get(other) {
         page.put_bytes(feed, line)
     } else {

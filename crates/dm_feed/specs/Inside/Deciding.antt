@@ -7,7 +7,7 @@ use Rattle.dm_rows.specs.declared.messages.Message.{Message}
 use Rattle.dm_feed.specs.declared.messages.MessageFault.{MessageFault}
 use Rattle.dm_feed.specs.declared.messages.MessageFault.TheVariants.{Form, OutOfMemory}
 use Rattle.dm_feed.specs.Parts.{StandForAll}
-use Rattle.dm_feed.specs.Lines.{parts_of_decision, parts_of_message}
+use Rattle.dm_feed.specs.Lines.{parts_of_decision, parts_of_message, HasSortedChoice}
 
 -- the texts stand for the decisions
 abbrev pub AreDecisions : List Decision → List (List ℕ) → Type 0
@@ -19,10 +19,15 @@ ReadsDecisions texts (Ok decisions) = AreDecisions decisions.items texts
 ReadsDecisions texts (Err Form) = (decisions : List Decision) → AreDecisions decisions texts → ⊥
 ReadsDecisions texts (Err OutOfMemory) = Unit {0}
 
+-- the texts stand for the message, and of a pair to lock or unlock the smaller id is first
+pub record StandForMessage (texts : List (List ℕ)) (said : Message) : Type 0 where
+  pub parts : StandForAll (parts_of_message said) texts
+  pub sorted : HasSortedChoice said
+
 -- the message that the texts stand for, or none does
 abbrev pub ReadsParts : List (List ℕ) → Result Message MessageFault → Type 0
-ReadsParts texts (Ok said) = StandForAll (parts_of_message said) texts
-ReadsParts texts (Err Form) = (said : Message) → StandForAll (parts_of_message said) texts → ⊥
+ReadsParts texts (Ok said) = StandForMessage texts said
+ReadsParts texts (Err Form) = (said : Message) → StandForMessage texts said → ⊥
 ReadsParts texts (Err OutOfMemory) = Unit {0}
 
 -- the decisions go on behind those that are held

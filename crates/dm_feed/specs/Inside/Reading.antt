@@ -10,10 +10,13 @@ use Rattle.dm_base.specs.declared.ids.EventId.{EventId}
 use Rattle.dm_base.specs.declared.ids.ActId.{ActId}
 use Rattle.dm_rows.specs.declared.messages.Decision.{Decision}
 use Rattle.dm_rows.specs.declared.messages.Decision.TheVariants as decision
+use Rattle.dm_rows.specs.declared.messages.Choice.{Choice}
+use Rattle.dm_rows.specs.declared.messages.Choice.TheVariants as choice
+use Rattle.dm_rows.specs.Sides.{sorted_choice}
 use Rattle.dm_rows.specs.declared.messages.Message.{Message}
 use Rattle.dm_rows.specs.declared.messages.Message.TheVariants as message
 use Rattle.dm_feed.specs.declared.vocabulary.Word.{Word}
-use Rattle.dm_feed.specs.declared.vocabulary.Word.TheVariants.{Delay, Event, Activity, Pass, Recall, Keep, Drop, First, Now, Time, Cost, Read, Plan, Solve, Adopt}
+use Rattle.dm_feed.specs.declared.vocabulary.Word.TheVariants.{Delay, Event, Activity, Pass, Recall, Keep, Drop, First, Now, Cancel, Restore, Lock, Unlock, Time, Cost, Read, Plan, Solve, Adopt, Carry}
 use Rattle.dm_feed.specs.declared.grammar.Line.{Line}
 use Rattle.dm_feed.specs.declared.grammar.Line.TheVariants as line
 use Rattle.dm_feed.specs.declared.grammar.Heard.{Heard}
@@ -23,7 +26,9 @@ use Rattle.dm_feed.specs.Parts.{largest_id, largest_value}
 
 -- the words that lines are made of
 abbrev pub every_word : List Word
-every_word = Delay ∷ Event ∷ Activity ∷ Pass ∷ Recall ∷ Keep ∷ Drop ∷ First ∷ Now ∷ Time ∷ Cost ∷ Read ∷ Plan ∷ Solve ∷ Adopt ∷ []
+every_word =
+    Delay ∷ Event ∷ Activity ∷ Pass ∷ Recall ∷ Keep ∷ Drop ∷ First ∷ Now ∷ Cancel ∷ Restore ∷ Lock ∷ Unlock ∷ Time ∷ Cost ∷ Read
+    ∷ Plan ∷ Solve ∷ Adopt ∷ Carry ∷ []
 
 -- the word that is spelled so
 abbrev pub word_named : List ℕ → Option Word
@@ -82,6 +87,17 @@ abbrev pub delay_behind : List (List ℕ) → Option Line
 delay_behind [] = None
 delay_behind (what ∷ texts) = delay_of (word_named what) texts
 
+-- the choice that is the id of a change or the two ids of a pair, which may stand in either order
+abbrev pub choice_behind : Option ℕ → List (List ℕ) → Option Choice
+choice_behind None texts = None
+choice_behind (Some m) [] = Some (choice.Change (act m))
+choice_behind (Some m) (text ∷ texts) =
+    option_map (λ n. sorted_choice (choice.Pair (event m) (event n))) (only id_in (text ∷ texts))
+
+abbrev pub choice_in : List (List ℕ) → Option Choice
+choice_in [] = None
+choice_in (text ∷ texts) = choice_behind (id_in text) texts
+
 -- the line that begins with the word
 abbrev pub line_behind : Word → List (List ℕ) → Option Line
 line_behind Delay texts = delay_behind texts
@@ -93,12 +109,17 @@ line_behind Keep texts = option_map (λ n. line.Say (message.Keep (act n))) (onl
 line_behind Drop texts = option_map (λ n. line.Say (message.Drop (act n))) (only id_in texts)
 line_behind First texts = option_map (λ p. line.Say (message.First (event p.0) (event p.1))) (two id_in id_in texts)
 line_behind Now texts = option_map (λ n. line.Say (message.Now n)) (only value_in texts)
+line_behind Cancel texts = option_map (λ n. line.Say (message.Cancel (event n))) (only id_in texts)
+line_behind Restore texts = option_map (λ n. line.Say (message.Restore (event n))) (only id_in texts)
+line_behind Lock texts = option_map (λ c. line.Say (message.Lock c)) (choice_in texts)
+line_behind Unlock texts = option_map (λ c. line.Say (message.Unlock c)) (choice_in texts)
 line_behind Time texts = option_map (λ n. line.Time (event n)) (only id_in texts)
 line_behind Cost texts = alone line.CostNow texts
 line_behind Read texts = alone line.Read texts
 line_behind Plan texts = option_map (λ n. line.Plan n) (only value_in texts)
 line_behind Solve texts = option_map (λ n. line.Solve n) (only value_in texts)
 line_behind Adopt texts = alone line.Adopt texts
+line_behind Carry texts = alone line.Carry texts
 
 -- the line that begins with what the text names
 abbrev pub line_with : Option Word → List (List ℕ) → Option Line
@@ -128,6 +149,7 @@ message_of line.CostNow = None
 message_of (line.Plan b) = None
 message_of (line.Solve b) = None
 message_of line.Adopt = None
+message_of line.Carry = None
 message_of line.Read = None
 
 -- the id that is first, and the texts behind it
@@ -138,6 +160,22 @@ next_id (text ∷ texts) = option_map (λ n. (n, texts)) (id_in text)
 abbrev pub first_behind : Option (ℕ × List (List ℕ)) → Option (Decision × List (List ℕ))
 first_behind None = None
 first_behind (Some p) = option_map (λ q. (decision.First (event p.0) (event q.0), q.1)) (next_id p.1)
+
+-- no larger id stands before a smaller one
+abbrev pub is_sorted_decision : Decision → Bool
+is_sorted_decision (decision.First i j) = nat_le i.0 j.0
+is_sorted_decision (decision.Keep a) = true
+is_sorted_decision (decision.Drop a) = true
+
+abbrev pub is_sorted_first : Option (Decision × List (List ℕ)) → Bool
+is_sorted_first None = true
+is_sorted_first (Some p) = is_sorted_decision p.0
+
+-- behind the word of a message in print: of a pair to lock or unlock the smaller id stands first
+abbrev pub are_sorted : Word → List (List ℕ) → Bool
+are_sorted Lock texts = is_sorted_first (first_behind (next_id texts))
+are_sorted Unlock texts = is_sorted_first (first_behind (next_id texts))
+are_sorted w texts = true
 
 abbrev pub decision_behind : Option Word → List (List ℕ) → Option (Decision × List (List ℕ))
 decision_behind (Some Keep) texts = option_map (λ p. (decision.Keep (act p.0), p.1)) (next_id texts)

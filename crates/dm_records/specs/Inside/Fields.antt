@@ -1,9 +1,10 @@
 -- Lines made of words and numbers, read from their front.
-use Rattle.std.specs.Prelude.{ℕ, ◌≡◌, ◌≤◌, List, [], ◌∷◌, ◌++◌, codes, Option, Some, None, is_some, option_and_then, find}
+use Rattle.std.specs.Prelude.{ℕ, ◌≡◌, ◌==◌, ◌≤◌, nat_le, if◌then◌else◌, List, [], ◌∷◌, ◌++◌, codes, Option, Some, None, is_some, option_and_then, find}
 use Rattle.std.specs.Option.{option_map}
 use Rattle.std.specs.Fmt.{decimal}
 use Rattle.dm_records.specs.declared.fields.Shape.{Shape}
-use Rattle.dm_records.specs.declared.fields.Shape.TheVariants.{Bare, Single, Double}
+use Rattle.dm_records.specs.declared.fields.Shape.TheVariants.{Bare, Single, Double, Choice}
+use Rattle.dm_feed.specs.Parts.{largest_id}
 use Rattle.dm_text.specs.Inside.Parts.{behind, number_in_front}
 
 -- a number behind the text
@@ -33,26 +34,39 @@ field_text [] numbers rest = rest
 field_text (f ∷ fs) [] rest = rest
 field_text (f ∷ fs) (n ∷ numbers) rest = f.0 ++ (decimal n ++ field_text fs numbers rest)
 
--- ---- kinds: some words, and no number, one, or two with a space between them
+-- ---- kinds: some words, and no number, one, two with a space between them, or the one or two ids of a choice
 
 abbrev pub with_none : ℕ × List ℕ → (ℕ × ℕ) × List ℕ
 with_none p = ((p.0, 0), p.1)
+
+-- in place of the second id of a choice that has one alone
+abbrev pub no_id : ℕ
+no_id = 4294967296
+
+-- a first id, and the second one where it stands behind that and is not smaller
+abbrev pub with_second : ℕ → List ℕ → Option (ℕ × List ℕ) → Option ((ℕ × ℕ) × List ℕ)
+with_second a rest None = Some ((a, no_id), rest)
+with_second a rest (Some q) = if nat_le a q.0 then Some ((a, q.0), q.1) else None
 
 abbrev pub numbers_in : Shape → List ℕ → Option ((ℕ × ℕ) × List ℕ)
 numbers_in Bare line = Some ((0, 0), line)
 numbers_in (Single largest) line = option_map with_none (number_in_front largest line)
 numbers_in (Double largest other) line =
     option_and_then (λ p. option_map (λ q. ((p.0, q.0), q.1)) (number_behind other (codes " ") p.1)) (number_in_front largest line)
+numbers_in Choice line =
+    option_and_then (λ p. with_second p.0 p.1 (number_behind largest_id (codes " ") p.1)) (number_in_front largest_id line)
 
 abbrev pub numbers_text : Shape → ℕ → ℕ → List ℕ
 numbers_text Bare a b = []
 numbers_text (Single largest) a b = decimal a
 numbers_text (Double largest other) a b = decimal a ++ (codes " " ++ decimal b)
+numbers_text Choice a b = if b == no_id then decimal a else decimal a ++ (codes " " ++ decimal b)
 
 abbrev pub NumbersFit : Shape → ℕ → ℕ → Type 0
 NumbersFit Bare a b = (a ≡ 0) × (b ≡ 0)
 NumbersFit (Single largest) a b = (a ≤ largest) × (b ≡ 0)
 NumbersFit (Double largest other) a b = (a ≤ largest) × (b ≤ other)
+NumbersFit Choice a b = (a ≤ largest_id) × (a ≤ b) × (b ≤ no_id)
 
 -- the first kind whose words stand in front
 abbrev pub kind_in_front : {K : Type 0} → (K → List ℕ) → List K → List ℕ → Option K
