@@ -61,6 +61,10 @@ fn reason_in(alloc: Global, why: &Refusal) -> Result<Reason, AllocError>
         Refusal::UnknownPair(one, other) => Ok(Reason::UnknownPair(*one, *other)),
         Refusal::Passed(event, time) => Ok(Reason::Passed(*event, *time as u128)),
         Refusal::NotPassed(event) => Ok(Reason::NotPassed(*event)),
+        Refusal::Cancelled(event) => Ok(Reason::Cancelled(*event)),
+        Refusal::NotCancelled(event) => Ok(Reason::NotCancelled(*event)),
+        Refusal::Locked(choice) => Ok(Reason::Locked(*choice)),
+        Refusal::NotLocked(choice) => Ok(Reason::NotLocked(*choice)),
         Refusal::Back(clock) => Ok(Reason::Back(*clock as u128)),
         Refusal::Cycle(ids) => match copy_of_ids(alloc, ids.as_slice()) {
             Ok(ids) => Ok(Reason::Cycle(ids)),
@@ -89,6 +93,7 @@ pub(crate) fn copy_of_line(said: &Line) -> Line
         Line::Plan(nodes) => Line::Plan(*nodes),
         Line::Solve(nodes) => Line::Solve(*nodes),
         Line::Adopt => Line::Adopt,
+        Line::Carry => Line::Carry,
         Line::Read => Line::Read,
     }
 }
@@ -106,6 +111,10 @@ fn copy_of_message(message: &Message) -> Message
         Message::Drop(act) => Message::Drop(*act),
         Message::First(first, second) => Message::First(*first, *second),
         Message::Now(time) => Message::Now(*time),
+        Message::Cancel(event) => Message::Cancel(*event),
+        Message::Restore(event) => Message::Restore(*event),
+        Message::Lock(choice) => Message::Lock(*choice),
+        Message::Unlock(choice) => Message::Unlock(*choice),
         Message::Adopt(_) => unreachable!(),
     }
 }

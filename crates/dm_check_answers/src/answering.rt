@@ -52,6 +52,7 @@ impl<'a> Replay<'a> {
                 Ok(is_true_of_plan(&self.journal, asked, *budget, answer))
             }
             Line::Adopt => Ok(is_true_of_adopt(&self.journal, asked, answer)),
+            Line::Carry => self.is_true_of_carry(asked, answer),
         }
     }
 }

@@ -32,7 +32,7 @@ impl Answered {
                 Answer::Cost(number, _) => Some(*number),
                 _ => None,
             },
-            Line::Plan(_) | Line::Solve(_) | Line::Adopt | Line::Read => None,
+            Line::Plan(_) | Line::Solve(_) | Line::Adopt | Line::Carry | Line::Read => None,
         }
     }
 }

@@ -10,7 +10,8 @@
 //! # What is promised
 //!
 //! A `Replay` is seen as its journal and as the number of the entry whose rows it holds. No call of it changes the journal. Its
-//! `is_true_answer` tells exactly which answers of one line are true. `go_to` and `rows` give the rows at an entry.
+//! `is_true_answer` tells exactly which answers of one line are true. An answer to `carry` is judged by what of the feed's latest
+//! plan is free in the rows before its entry, or where it is refused. `go_to` and `rows` give the rows at an entry.
 //!
 //! `learn` judges what answers claim of rows ([`Answered`]) in the order of the entries, so that several logs cost one walk. An
 //! answer that makes the next of these claims is then told by the verdict that was found. Every other answer is told from the
@@ -20,12 +21,13 @@
 //! order behind it. `add_malformed`, `add_answer` and `add_plan` put an item behind it, `add_plan` a plan of either kind.
 //! [`is_budget`] tells exactly whether a plan may be asked to have so many nodes.
 //!
-//! Memory is taken for the rows, for the admission of an `Adopt`, and for the claims.
+//! Memory is taken for the rows, for the admission of an `Adopt`, for the claims, and for the choices of a carried plan.
 #![tactic(auto)]
 
 mod adopting;
 mod answering;
 mod asked;
+mod carrying;
 mod claims;
 mod journal;
 mod known;

@@ -9,7 +9,7 @@ use crate::claims::Answered;
 use dm_base::ActId;
 use dm_feed::Line;
 use dm_records::{Answer, Reason};
-use dm_rows::{Decision, Entry, Message};
+use dm_rows::{Choice, Decision, Entry, Message};
 use dm_tree::Chosen;
 
 /// Whether two decisions are one.
@@ -20,6 +20,17 @@ fn is_decision(one: Decision, other: Decision) -> bool
         (Decision::Keep(a), Decision::Keep(b)) => a.0 == b.0,
         (Decision::Drop(a), Decision::Drop(b)) => a.0 == b.0,
         (Decision::First(i, j), Decision::First(k, l)) => i.0 == k.0 && j.0 == l.0,
+        _ => false,
+    }
+}
+
+/// Whether two choices are one.
+fn is_choice(one: Choice, other: Choice) -> bool
+    ensures { Tells (one ≡ other) result }
+{
+    match (one, other) {
+        (Choice::Change(a), Choice::Change(b)) => a.0 == b.0,
+        (Choice::Pair(i, j), Choice::Pair(k, l)) => i.0 == k.0 && j.0 == l.0,
         _ => false,
     }
 }
@@ -55,6 +66,10 @@ fn is_message(one: &Message, other: &Message) -> bool
             are_decisions(decisions.as_slice(), others.as_slice())
         }
         (Message::Now(t), Message::Now(u)) => *t == *u,
+        (Message::Cancel(e), Message::Cancel(f)) => e.0 == f.0,
+        (Message::Restore(e), Message::Restore(f)) => e.0 == f.0,
+        (Message::Lock(c), Message::Lock(d)) => is_choice(*c, *d),
+        (Message::Unlock(c), Message::Unlock(d)) => is_choice(*c, *d),
         _ => false,
     }
 }
@@ -93,6 +108,10 @@ fn is_reason(one: &Reason, other: &Reason) -> bool
         (Reason::UnknownPair(i, j), Reason::UnknownPair(k, l)) => i.0 == k.0 && j.0 == l.0,
         (Reason::Passed(e, t), Reason::Passed(f, u)) => e.0 == f.0 && *t == *u,
         (Reason::NotPassed(e), Reason::NotPassed(f)) => e.0 == f.0,
+        (Reason::Cancelled(e), Reason::Cancelled(f)) => e.0 == f.0,
+        (Reason::NotCancelled(e), Reason::NotCancelled(f)) => e.0 == f.0,
+        (Reason::Locked(c), Reason::Locked(d)) => is_choice(*c, *d),
+        (Reason::NotLocked(c), Reason::NotLocked(d)) => is_choice(*c, *d),
         (Reason::Back(v), Reason::Back(w)) => *v == *w,
         (Reason::Cycle(ids), Reason::Cycle(others)) => are_ids(ids.as_slice(), others.as_slice()),
         (Reason::Full, Reason::Full) => true,

@@ -1,7 +1,7 @@
 //! Answers that tell times, costs and refusals of rows.
 ghost use Rattle.std.specs.Prelude.{◌≡◌, ◌≤◌, ℕ, List, length, IfOk};
 ghost use Rattle.dm_base.specs.declared.limits.TheConstants.{PENALTY};
-ghost use Rattle.dm_feed.specs.Lines.{IsSaid, IsSpelledLine};
+ghost use Rattle.dm_feed.specs.Lines.{IsSpelledLine};
 ghost use Rattle.dm_rows.specs.declared.messages.Entry.{Entry};
 ghost use Rattle.dm_cert.specs.Answers.{Setting, IsRefused, IsTimeAt, IsUnknownAt, IsCostAt, rows_after};
 ghost use Rattle.dm_records.specs.Readings.{reply_of, reason_of};
@@ -44,18 +44,17 @@ impl<'a> Replay<'a> {
                 Answer::Cost(number, cost) => self.is_cost_at(*number, *cost),
                 _ => Ok(false),
             },
-            Line::Plan(_) | Line::Solve(_) | Line::Adopt | Line::Read => Ok(false),
+            Line::Plan(_) | Line::Solve(_) | Line::Adopt | Line::Carry | Line::Read => Ok(false),
         }
     }
 
     /// Whether the rows after so many entries refuse a message for this reason.
-    fn is_refused_at(
+    pub(crate) fn is_refused_at(
         &mut self,
         number: u32,
         message: &Message,
         why: &Reason,
     ) -> Result<bool, AllocError>
-        requires { IsSaid message.now }
         ensures tells { IfOk result (Tells (IsRefused self.old.journal.setting self.old.journal.history number message.now
             (reason_of why.now))) }
         ensures same { self.new.journal ≡ self.old.journal }

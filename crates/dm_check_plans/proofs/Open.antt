@@ -5,12 +5,12 @@ use Rattle.std.specs.List.{range_with_len}
 use Rattle.std.proofs.lemmas.Bool.{both_ways}
 use Rattle.std.proofs.lemmas.List.Elements.{Contains-append_cases}
 use Rattle.dm_network.specs.Net.{Net, activity_at, is_change}
-use Rattle.dm_rows.specs.Active.{has_passed}
+use Rattle.dm_rows.specs.Active.{has_passed, has_cancelled_end}
 use Rattle.dm_rows.specs.declared.messages.Decision.{Decision}
 use Rattle.dm_rows.specs.Cost.{comes_too_early}
 use Rattle.dm_rows.specs.Decide.{change_choice, pair_choice}
 use Rattle.dm_rows.specs.Relax.{is_decided, is_undecided_change, is_undecided_pair, is_violated_change, is_violated_pair}
-use Rattle.dm_rows.specs.Rows.{RowsValue}
+use Rattle.dm_rows.specs.Rows.{RowsValue, is_locked_change}
 use Rattle.dm_paths.proofs.Naming.{from_place}
 use Rattle.dm_check_rows.specs.Claims.{Tells}
 use Rattle.dm_paths.specs.declared.places.ChoicePlace.TheVariants.{Change, Pair}
@@ -21,7 +21,8 @@ use Rattle.dm_paths.proofs.Violating.{violated_change_by, violated_pair_by}
 use Rattle.dm_paths.proofs.Open.{place_is_listed}
 
 pub no_free_change : (net : Net) (rows : RowsValue) (path : List Decision) (a : ℕ) → is_change (activity_at net a).kind ≡ false → is_undecided_change net rows path a ≡ false
-no_free_change net rows path a other = ap (λ (b : Bool). (b && not (has_passed rows (activity_at net a).head)) && not (is_decided path (change_choice net a))) other
+no_free_change net rows path a other = ap (λ (b : Bool). b && not (has_passed rows (activity_at net a).head) && not (has_cancelled_end net rows a) && not (is_locked_change rows a)
+    && not (is_decided path (change_choice net a))) other
 
 -- some choice is violated where a flagged change or a flagged pair is, and none where none is
 module _ (net : Net) (rows : RowsValue) (path : List Decision) (x : List ℕ) (changes pairs : List Bool)

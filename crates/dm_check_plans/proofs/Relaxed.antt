@@ -1,16 +1,15 @@
 -- The relaxed problem of a path has the floors, the spans and the passed events of the rows themselves.
-use Rattle.std.proofs.Common.{◌≡◌, ℕ, ◌+◌, ◌*◌, Bool, List, length, Option, None, sym, ap, subst, ◌∙◌, inl, inr, arith}
-use Rattle.std.specs.Prelude.{◌&&◌, nat_lt, is_some, slice_index_or, sum_by, if◌then◌else◌}
-use Rattle.std.specs.List.{range_with_len}
-use Rattle.dm_network.specs.Net.{Net, activity_at, is_change}
+use Rattle.std.proofs.Common.{◌≡◌, ℕ, Bool, List, Option, sym, ap, subst, ◌∙◌, inl, inr, arith}
+use Rattle.std.specs.Prelude.{slice_index_or}
+use Rattle.dm_network.specs.Net.{Net, activity_at}
 use Rattle.dm_network.specs.Held.{arcs_of}
 use Rattle.dm_rows.specs.declared.messages.Decision.{Decision}
 use Rattle.dm_rows.specs.Rows.{RowsValue}
-use Rattle.dm_rows.specs.Cost.{cost_charging, event_cost, charged_weight}
+use Rattle.dm_rows.specs.Cost.{cost_charging}
 use Rattle.dm_rows.specs.Decide.{with_decisions}
 use Rattle.dm_rows.specs.Laws.{EntersNoPassed}
-use Rattle.dm_rows.specs.Relax.{is_relaxed_active, is_relaxed_dropped}
-use Rattle.dm_rows.specs.Timetable.{time_at, MeetsHolding, IsLeastHolding}
+use Rattle.dm_rows.specs.Relax.{is_relaxed_active, is_relaxed_lost}
+use Rattle.dm_rows.specs.Timetable.{MeetsHolding, IsLeastHolding}
 use Rattle.dm_rows.proofs.AsGraph.{relaxed_enter_no_passed}
 use Rattle.dm_tree.specs.Relaxed.{IsRelaxedLeast, HasNoRelaxedCycle, relaxed_cost_of}
 use Rattle.dm_check_plans.specs.RelaxedProblems.{RelaxedProblemValue, HasRelaxedCycle, times_of}
@@ -23,6 +22,9 @@ differs_back rows r h = record {
   event_delays = sym h.event_delays;
   act_delays = sym h.act_delays;
   passed = sym h.passed;
+  cancelled = sym h.cancelled;
+  locked_changes = sym h.locked_changes;
+  locked_pairs = sym h.locked_pairs;
   clock = sym h.clock;
   kept = sym h.kept;
   small_first = sym h.small_first;
@@ -62,18 +64,14 @@ module _ (net : Net) (rows : RowsValue) (path : List Decision) where
   enters_no_passed a below h =
       sym (passed_same rows (with_decisions net rows path) over_path (activity_at net a).head) ∙ relaxed_enter_no_passed net rows path a below h
 
-  pub relaxed_cost : (x : List ℕ) (penalty : ℕ) → cost_charging net rows (is_relaxed_dropped net rows path) x penalty ≡ relaxed_cost_of net rows path x penalty
+  pub relaxed_cost : (x : List ℕ) (penalty : ℕ) → cost_charging net rows (is_relaxed_lost net rows path) x penalty ≡ relaxed_cost_of net rows path x penalty
   relaxed_cost x penalty =
       let r : RowsValue = with_decisions net rows path in
-      sym (ap (λ (p : List (Option ℕ)). costs p r.act_delays) over_path.passed ∙ ap (λ (d : List ℕ). costs rows.passed d) over_path.act_delays)
-    where
-      costs : List (Option ℕ) → List ℕ → ℕ
-      costs passed delays =
-          sum_by (event_cost net x) (range_with_len 0 (length net.events))
-          + penalty * sum_by (charged_weight net (is_relaxed_dropped net rows path)) (range_with_len 0 (length net.activities))
-          + penalty * sum_by (λ a. if is_change (activity_at net a).kind && is_some (slice_index_or passed (activity_at net a).head None)
-          && nat_lt (time_at x (activity_at net a).head) (time_at x (activity_at net a).tail + ((activity_at net a).lower + slice_index_or delays a 0))
-          then (activity_at net a).weight else 0) (range_with_len 0 (length net.activities))
+      let costs : List (Option ℕ) → List ℕ → List Bool → ℕ = λ passed delays cancelled.
+      cost_charging net (record rows { passed = passed; act_delays = delays; cancelled = cancelled }) (is_relaxed_lost net rows path) x penalty in
+      sym (ap (λ (p : List (Option ℕ)). costs p r.act_delays r.cancelled) over_path.passed
+      ∙ ap (λ (d : List ℕ). costs rows.passed d r.cancelled) over_path.act_delays
+      ∙ ap (λ (c : List Bool). costs rows.passed rows.act_delays c) over_path.cancelled)
 
   pub has_cycle : (HasNoRelaxedCycle net rows path → ⊥) → HasRelaxedCycle net rows path
   has_cycle some = elim (cycle_or_none (arcs_of net (is_relaxed_active net rows path))) [

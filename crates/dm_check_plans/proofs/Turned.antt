@@ -1,17 +1,16 @@
 -- The relaxed problem of a path with one decision more, or one less, by its flags.
 use Rattle.std.proofs.Common.{IsTrue, slice_index, ◌≡◌, ℕ, ◌<◌, Bool, true, false, cond, List, [], ◌∷◌, ◌++◌, length, map, refl, sym, ap, subst, ◌∙◌, Vec, Global, arith}
-use Rattle.std.specs.Prelude.{Contains, ◌&&◌, not, replicate}
+use Rattle.std.specs.Prelude.{Contains}
 use Rattle.std.specs.Vec.{with_items}
-use Rattle.std.proofs.lemmas.List.{map-append, length-replicate, get_or-replicate, with_items_is}
+use Rattle.std.proofs.lemmas.List.{map-append, with_items_is}
 use Rattle.std.proofs.lemmas.List.Elements.{All-contains, Contains-append_left}
-use Rattle.dm_network.specs.Net.{Net, activity_at, is_change}
+use Rattle.dm_network.specs.Net.{Net}
 use Rattle.dm_network.specs.Start.{IsNetwork}
 use Rattle.dm_rows.specs.declared.messages.Decision.{Decision}
 use Rattle.dm_rows.specs.declared.messages.Flip.{Flip}
-use Rattle.dm_rows.specs.Active.{has_passed}
 use Rattle.dm_rows.specs.Decide.{IsChoiceList, choice_of, free_choices_of}
-use Rattle.dm_rows.specs.Relax.{is_undecided_change, is_undecided_pair, is_relaxed_active, is_relaxed_dropped}
-use Rattle.dm_rows.specs.Rows.{RowsValue, IsSized, kept_at}
+use Rattle.dm_rows.specs.Relax.{is_undecided_change, is_undecided_pair, is_relaxed_active, is_relaxed_lost}
+use Rattle.dm_rows.specs.Rows.{RowsValue, IsSized}
 use Rattle.dm_check_plans.specs.Inside.Flags.{AreSetWhere}
 use Rattle.dm_paths.specs.Flags.{AreFlags, is_flagged, with_change, with_pair}
 use Rattle.dm_paths.specs.Decisions.{is_held_by, is_charged_by}
@@ -87,7 +86,7 @@ module _ (net : Net) (network : IsNetwork net) (rows : RowsValue) (sized : IsSiz
         pairs = pairs_decided net network rows sized old.path other was.is_path list d adds flip named old.pairs was.pairs;
         held = flags_on (is_held_by net flip) (is_relaxed_active net rows old.path) (is_relaxed_active net rows other) (length net.activities) old.timetable.kept.held timetable.kept.held was.held holds
             (held_differs net network rows sized old.path other was.is_path list d adds flip named);
-        charged = flags_on (is_charged_by flip) (is_relaxed_dropped net rows old.path) (is_relaxed_dropped net rows other) (length net.activities) old.charged charged was.charged charges
+        charged = flags_on (is_charged_by flip) (is_relaxed_lost net rows old.path) (is_relaxed_lost net rows other) (length net.activities) old.charged charged was.charged charges
             (charge_differs net network rows sized old.path other was.is_path list d adds flip named);
         costed = costed;
         places = was.places;
@@ -110,8 +109,8 @@ module _ (net : Net) (network : IsNetwork net) (rows : RowsValue) (sized : IsSiz
         held = flags_off (is_held_by net flip) (is_relaxed_active net rows path) (is_relaxed_active net rows other) (length net.activities) old.timetable.kept.held timetable.kept.held
             (subst (λ (p : List Decision). AreFlags (is_relaxed_active net rows p) (length net.activities) old.timetable.kept.held) is was.held) holds
             (held_differs net network rows sized path other less list d adds flip named);
-        charged = flags_off (is_charged_by flip) (is_relaxed_dropped net rows path) (is_relaxed_dropped net rows other) (length net.activities) old.charged charged
-            (subst (λ (p : List Decision). AreFlags (is_relaxed_dropped net rows p) (length net.activities) old.charged) is was.charged) charges
+        charged = flags_off (is_charged_by flip) (is_relaxed_lost net rows path) (is_relaxed_lost net rows other) (length net.activities) old.charged charged
+            (subst (λ (p : List Decision). AreFlags (is_relaxed_lost net rows p) (length net.activities) old.charged) is was.charged) charges
             (charge_differs net network rows sized path other less list d adds flip named);
         costed = costed;
         places = was.places;
@@ -139,33 +138,20 @@ pub taken : (net : Net) (rows : RowsValue) (old : RelaxedProblemValue) → IsRel
 taken net rows old was cost moved kept priced as_many same =
     settled_again net rows old was old.timetable cost moved true was.costed.timetable refl (record { spans = refl; floors = refl; clock = refl }) kept priced as_many (λ so e unmarked. ap (λ (x : List ℕ). slice_index x e) same)
 
--- where nothing is decided nothing is charged for
-none_dropped : (change kept passed : Bool) → ((change && not kept && not passed) && not ((change && not passed) && true)) ≡ false
-none_dropped true true passed = refl
-none_dropped true false true = refl
-none_dropped true false false = refl
-none_dropped false kept passed = refl
-
-pub none_charged : (net : Net) (rows : RowsValue) (a : ℕ) → is_relaxed_dropped net rows [] a ≡ false
-none_charged net rows a = none_dropped (is_change (activity_at net a).kind) (kept_at rows a) (has_passed rows (activity_at net a).head)
-
 -- where nothing is decided
 pub begins : (net : Net) (rows : RowsValue) (changes pairs charged : List Bool) (timetable : HeldTimetableValue) (cost : KeptCostValue) (moved : PlaceSetValue) (places : List ℕ) (path : List Decision) → path ≡ [] →
     AreFlags (is_undecided_change net rows []) (length net.activities) changes → AreFlags (is_undecided_pair net rows []) (length net.pairs) pairs →
-    charged ≡ replicate (length net.activities) false → IsTimetableOf net timetable → AreOfRows net rows timetable → AreFlags (is_relaxed_active net rows []) (length net.activities) timetable.kept.held → IsKeptCostOf net cost →
+    AreFlags (is_relaxed_lost net rows []) (length net.activities) charged → IsTimetableOf net timetable → AreOfRows net rows timetable → AreFlags (is_relaxed_active net rows []) (length net.activities) timetable.kept.held → IsKeptCostOf net cost →
     IsPricedFor net rows (is_flagged charged) cost → AreChangesTo net (length net.activities) places →
     length moved.flags ≡ length net.events →
     IsRelaxedProblemOf net rows (record { path = path; changes = changes; pairs = pairs; charged = charged; timetable = timetable; kept_cost = cost; moved = moved; is_noted = false; places = places })
-begins net rows changes pairs charged timetable cost moved places path is are_changes are_pairs none is_timetable of_rows held kept priced are_places as_many =
+begins net rows changes pairs charged timetable cost moved places path is are_changes are_pairs are_charged is_timetable of_rows held kept priced are_places as_many =
     subst (λ (p : List Decision). IsRelaxedProblemOf net rows (record { path = p; changes = changes; pairs = pairs; charged = charged; timetable = timetable; kept_cost = cost; moved = moved; is_noted = false; places = places })) (sym is) (record {
       is_path = choice_list_from net rows [] tt (λ d c. let past = c.1 in absurd (omega (arith, past)));
       changes = are_changes;
       pairs = are_pairs;
       held = held;
-      charged = record {
-        size = ap (λ (f : List Bool). length f) none ∙ length-replicate (length net.activities) false;
-        each = λ a below. ap (λ (f : List Bool). is_flagged f a) none ∙ (get_or-replicate (length net.activities) a false false below ∙ sym (none_charged net rows a));
-      };
+      charged = are_charged;
       costed = record { timetable = is_timetable; of_rows = of_rows; cost = kept; priced = priced; as_many_moved = as_many; noted = λ no. absurd cc };
       places = are_places;
     })

@@ -3,7 +3,7 @@ use Rattle.std.specs.Prelude.{ℕ, ◌≡◌, Bool, IsTrue, List, length}
 use Rattle.dm_network.specs.Net.{Net}
 use Rattle.dm_rows.specs.declared.messages.Decision.{Decision}
 use Rattle.dm_rows.specs.Decide.{IsChoiceList}
-use Rattle.dm_rows.specs.Relax.{is_undecided_change, is_undecided_pair, is_relaxed_active, is_relaxed_dropped}
+use Rattle.dm_rows.specs.Relax.{is_undecided_change, is_undecided_pair, is_relaxed_active, is_relaxed_lost}
 use Rattle.dm_rows.specs.Rows.{RowsValue}
 use Rattle.dm_tree.specs.Relaxed.{IsRelaxedLeast, IsRelaxedCycle, HasNoRelaxedCycle}
 use Rattle.dm_check_times.specs.Binding.{AreBelowLimit}
@@ -48,7 +48,7 @@ pub record IsRelaxedProblemOf (net : Net) (rows : RowsValue) (problem : RelaxedP
   pub changes : AreFlags (is_undecided_change net rows problem.path) (length net.activities) problem.changes
   pub pairs : AreFlags (is_undecided_pair net rows problem.path) (length net.pairs) problem.pairs
   pub held : AreFlags (is_relaxed_active net rows problem.path) (length net.activities) problem.timetable.kept.held
-  pub charged : AreFlags (is_relaxed_dropped net rows problem.path) (length net.activities) problem.charged
+  pub charged : AreFlags (is_relaxed_lost net rows problem.path) (length net.activities) problem.charged
   pub costed : IsCosted net rows problem.charged problem.timetable problem.kept_cost problem.moved problem.is_noted
   pub places : AreChangesTo net (length net.activities) problem.places
 

@@ -3,12 +3,12 @@ ghost use Rattle.std.specs.Prelude.{◌≡◌, ◌<◌, ◌≤◌, ◌++◌, [],
 ghost use Rattle.dm_base.specs.declared.limits.TheConstants.{PENALTY};
 ghost use Rattle.dm_rows.specs.Rows.{IsSized};
 ghost use Rattle.dm_rows.specs.Decide.{choice_of};
-ghost use Rattle.dm_rows.specs.Relax.{is_relaxed_dropped};
+ghost use Rattle.dm_rows.specs.Relax.{is_relaxed_lost};
 ghost use Rattle.dm_tree.specs.Relaxed.{relaxed_cost_of, IsViolated};
 ghost use Rattle.dm_check_rows.specs.Claims.{Tells};
 ghost use Rattle.dm_check_times.specs.Binding.{AreBelowLimit};
 ghost use Rattle.dm_check_times.specs.KeptCosts.{IsKeptCostOf, IsPricedFor};
-ghost use Rattle.dm_paths.specs.Flags.{is_flagged};
+ghost use Rattle.dm_paths.specs.Flags.{AreFlags, is_flagged};
 ghost use Rattle.dm_paths.specs.Decisions.{IsOpen};
 ghost use Rattle.dm_check_plans.specs.RelaxedProblems.{IsRelaxedProblemOf, IsSolved, HasRelaxedCycle, times_of};
 ghost use Rattle.dm_check_plans.specs.Inside.Violations.{IsSomeViolated};
@@ -21,7 +21,7 @@ use dm_check_times::{Charges, HeldCycle, KeptCost, changes_of};
 use dm_marks::PlaceSet;
 use dm_network::Network;
 use dm_paths::{Undecided, all_undecided, binding_flags, flip_of, place_of_choice};
-use dm_rows::{Choice, Decision, Rows};
+use dm_rows::{Choice, Decision, Rows, is_free_change, is_lost_change};
 use std::alloc::{AllocError, Global};
 use std::marker::Model;
 
@@ -87,7 +87,7 @@ impl RelaxedProblem {
         ensures path { IfOk result (λ problem. problem.path ≡ []) }
     {
         let held = binding_flags(alloc, net, rows)?;
-        let charged = vec![in alloc; false; net.activities()]?;
+        let charged = lost_flags(alloc, net, rows)?;
         let kept_cost = cost_charging(alloc, net, rows, &charged)?;
         Ok(RelaxedProblem {
             path: Vec::new(alloc),
@@ -213,7 +213,7 @@ impl RelaxedProblem {
     pub fn is_charged(&self, net: &Network, rows: &Rows, a: usize) -> bool
         requires problem { IsRelaxedProblemOf net.now rows.now self.now }
         requires is_activity { a < length net.now.activities }
-        ensures { result ≡ is_relaxed_dropped net.now rows.now self.now.path a }
+        ensures { result ≡ is_relaxed_lost net.now rows.now self.now.path a }
     {
         self.charged[a]
     }
@@ -259,6 +259,27 @@ impl RelaxedProblem {
         };
         timed.is_any_violated(&self.undecided, &self.places)
     }
+}
+
+/// A flag for each activity: set for each lost change that no path may decide.
+fn lost_flags(alloc: Global, net: &Network, rows: &Rows) -> Result<Vec<bool>, AllocError>
+    requires { IsSized net.now rows.now }
+    ensures { IfOk result (λ flags. AreFlags (is_relaxed_lost net.now rows.now []) (length net.now.activities) flags.items) }
+{
+    let mut flags = Vec::with_capacity(alloc, net.activities())?;
+    for a in 0..net.activities() {
+        flags.push(is_lost_for_good(net, rows, a))?;
+    }
+    Ok(flags)
+}
+
+/// Whether an activity is a lost change that no path may decide: it is not free.
+fn is_lost_for_good(net: &Network, rows: &Rows, a: usize) -> bool
+    requires sized { IsSized net.now rows.now }
+    requires is_activity { a < length net.now.activities }
+    ensures { result ≡ is_relaxed_lost net.now rows.now [] a }
+{
+    is_lost_change(net, rows, a) && !is_free_change(net, rows, a)
 }
 
 /// A cost of the rows with every event at 0, where the flagged activities are charged for.

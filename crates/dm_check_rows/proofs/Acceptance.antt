@@ -11,7 +11,7 @@ use Rattle.dm_rows.specs.Rows.{RowsValue, IsSized}
 use Rattle.dm_rows.specs.Active.{HasNoCycle}
 use Rattle.dm_rows.specs.Resolve.{after, after_change, after_named, change_named}
 use Rattle.dm_rows.specs.Refuse.{RefusesAdmission, PassesAtOnce, IsNow}
-use Rattle.dm_check_rows.specs.Claims.{IsAccepted, IsKnownFree, IsKept, IsPriced, AreCheckedRowsOf, TellsAcceptance}
+use Rattle.dm_check_rows.specs.Claims.{IsAccepted, IsKnownFree, IsKept, IsPriced, PassesIf, AreCheckedRowsOf, TellsAcceptance}
 use Rattle.dm_schedule.specs.declared.schedule.Scheduled.{Scheduled}
 use Rattle.dm_check_times.specs.KeptCosts.{KeptCostValue, IsKeptCostOf}
 use Rattle.dm_marks.specs.Places.{PlaceSetValue}
@@ -39,25 +39,26 @@ refused_cycle net rows new n m is passes other cyclic accepted =
     (λ cycle c. accepted (Cycle (ids_of net cycle)) (passes, other, record { places = cycle; is_cycle = c; named = refl })))
 
 -- what is known of the rows before a message that makes no cycle is known after it
-pub stays_known : (net : Net) (rows : RowsValue) (m : Message) (known : Bool) → IsHarmless m → IsKnownFree net rows known → IsKnownFree net (after net rows m) known
-stays_known net rows m known harmless free is_known = never_make_cycles net rows m harmless (free is_known)
+pub stays_known : (net : Net) (rows : RowsValue) (m : Message) (known : Bool) → IsSized net rows → IsHarmless m → IsKnownFree net rows known → IsKnownFree net (after net rows m) known
+stays_known net rows m known sized harmless free is_known = never_make_cycles net rows m sized harmless (free is_known)
 
 -- the rows after a message, with what is known of them
-pub entered : (net : Net) (m : Message) (change : Change) (was now : RowsValue) (known stays kept still priced priced_still : Bool) (t new : KeptTimetableValue) (cost cost_new : KeptCostValue) (moved : PlaceSetValue) (settled : Bool) (schedule : List Scheduled) →
+pub entered : (net : Net) (m : Message) (change : Change) (was now : RowsValue) (known stays kept still priced priced_now priced_still : Bool) (t new : KeptTimetableValue) (cost cost_new : KeptCostValue) (moved : PlaceSetValue) (settled : Bool) (schedule : List Scheduled) →
     AreCheckedRowsOf net (record { rows = was; is_free = known; is_kept = kept; is_priced = priced; is_settled = settled; schedule = schedule; timetable = t; kept_cost = cost; moved = moved }) → change_named net m ≡ Some change → now ≡ after_change was change →
-    ((rows : RowsValue) → IsKnownFree net rows known → IsKnownFree net (after net rows m) stays) → (IsSized net was → IsSized net now) → IsRoomOf net new →
+    ((rows : RowsValue) → IsSized net rows → IsKnownFree net rows known → IsKnownFree net (after net rows m) stays) → (IsSized net was → IsSized net now) → IsRoomOf net new →
     ((before : RowsValue) → now ≡ after_change before change → IsKept net before t kept → IsKept net now new still) → new.times ≡ t.times → IsKeptCostOf net cost_new → cost_new.times ≡ cost.times →
-    ((before : RowsValue) → now ≡ after_change before change → IsPriced net before cost priced → IsPriced net now cost_new priced_still) → (IsTrue priced_still → IsTrue priced) →
+    ((before : RowsValue) → now ≡ after_change before change → PassesIf before change priced_now → IsPriced net before cost priced_now → IsPriced net now cost_new priced_still) →
+    (IsTrue priced_still → IsTrue priced_now) → (IsTrue priced_now → IsTrue priced) → PassesIf was change priced_now →
     AreCheckedRowsOf net (record { rows = now; is_free = stays; is_kept = still; is_priced = priced_still; is_settled = false; schedule = schedule; timetable = new; kept_cost = cost_new; moved = moved })
-entered net m change was now known stays kept still priced priced_still t new cost cost_new moved settled schedule stands named is free sized room keeps times is_cost cost_times prices noted = record {
+entered net m change was now known stays kept still priced priced_now priced_still t new cost cost_new moved settled schedule stands named is free sized room keeps times is_cost cost_times prices noted was_priced passes = record {
   sized = sized stands.sized;
-  free = subst (λ (rows : RowsValue). IsKnownFree net rows stays) (sym (after_is net was now m change named is)) (free was stands.free);
+  free = subst (λ (rows : RowsValue). IsKnownFree net rows stays) (sym (after_is net was now m change named is)) (free was stands.sized stands.free);
   schedule = stands.schedule;
   room = room;
   kept = keeps was is stands.kept;
   cost = is_cost;
-  priced = prices was is stands.priced;
-  noted = λ yes e unmarked. ap (λ (x : List ℕ). slice_index x e) cost_times ∙ (stands.noted (noted yes) e unmarked ∙ ap (λ (x : List ℕ). slice_index x e) (sym times));
+  priced = prices was is passes (λ yes. stands.priced (was_priced yes));
+  noted = λ yes e unmarked. ap (λ (x : List ℕ). slice_index x e) cost_times ∙ (stands.noted (was_priced (noted yes)) e unmarked ∙ ap (λ (x : List ℕ). slice_index x e) (sym times));
   as_many_moved = stands.as_many_moved;
   settled = λ is. absurd cc;
 }

@@ -1,19 +1,20 @@
 -- What may be claimed of a network's rows.
 use Rattle.std.specs.Prelude.{ℕ, ◌≡◌, List, length, Bool, true, false, IsTrue}
 use Rattle.dm_network.specs.Net.{Net}
+use Rattle.dm_rows.specs.declared.messages.Change.{Change}
 use Rattle.dm_rows.specs.declared.messages.Message.{Message}
 use Rattle.dm_rows.specs.declared.messages.Refusal.{Refusal}
 use Rattle.dm_rows.specs.declared.messages.Refusal.TheVariants.{Cycle, Full, OutOfMemory}
 use Rattle.dm_rows.specs.Rows.{RowsValue, IsSized}
 use Rattle.dm_rows.specs.Active.{HasNoCycle}
-use Rattle.dm_rows.specs.Cost.{is_dropped_change}
+use Rattle.dm_rows.specs.Cost.{is_lost_change}
 use Rattle.dm_rows.specs.Refuse.{Refuses}
 use Rattle.dm_rows.specs.Resolve.{after}
 use Rattle.dm_rows.specs.Timetable.{IsLeast, time_at}
 use Rattle.dm_schedule.specs.Schedule.{IsScheduleOf}
 use Rattle.dm_schedule.specs.declared.schedule.Scheduled.{Scheduled}
 use Rattle.dm_check_times.specs.Binding.{AreBelowLimit}
-use Rattle.dm_check_times.specs.KeptCosts.{KeptCostValue, IsKeptCostOf, IsPricedFor}
+use Rattle.dm_check_times.specs.KeptCosts.{KeptCostValue, IsKeptCostOf, IsPricedFor, PassesRunning}
 use Rattle.dm_check_times.specs.Noting.{AreAlikeBut}
 use Rattle.dm_marks.specs.Places.{PlaceSetValue}
 use Rattle.dm_check_times.specs.Timetables.{KeptTimetableValue, IsRoomOf, IsTimetableOf, AgreesWith}
@@ -78,9 +79,13 @@ pub record KeepsTo (net : Net) (rows : RowsValue) (t : KeptTimetableValue) : Typ
 abbrev pub IsKept : Net → RowsValue → KeptTimetableValue → Bool → Type 0
 IsKept net rows t kept = IsTrue kept → KeepsTo net rows t
 
--- the weights of the cost are those of the rows, where dropped changes are charged for
+-- the cost is kept for the rows, where lost changes are charged for
 abbrev pub IsPriced : Net → RowsValue → KeptCostValue → Bool → Type 0
-IsPriced net rows cost priced = IsTrue priced → IsPricedFor net rows (is_dropped_change net rows) cost
+IsPriced net rows cost priced = IsTrue priced → IsPricedFor net rows (is_lost_change net rows) cost
+
+-- where the weights are kept, no event that is cancelled passes by the change
+abbrev pub PassesIf : RowsValue → Change → Bool → Type 0
+PassesIf rows change priced = IsTrue priced → PassesRunning rows change
 
 -- the times of the cost are those of the timetable, but at the events that have moved
 abbrev pub IsNoted : KeptTimetableValue → KeptCostValue → PlaceSetValue → Bool → Type 0
@@ -92,7 +97,7 @@ pub record IsCosted (net : Net) (rows : RowsValue) (t : KeptTimetableValue) (kep
   pub early : AreBelowLimit t.times
   pub no_cycle : HasNoCycle net rows
   pub times : kept.times ≡ t.times
-  pub priced : IsPricedFor net rows (is_dropped_change net rows) kept
+  pub priced : IsPricedFor net rows (is_lost_change net rows) kept
 
 abbrev pub IsSettledIf : Net → RowsValue → KeptTimetableValue → KeptCostValue → Bool → Type 0
 IsSettledIf net rows t kept settled = IsTrue settled → IsCosted net rows t kept

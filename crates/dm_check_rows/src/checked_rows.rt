@@ -4,6 +4,7 @@ ghost use Rattle.dm_base.specs.declared.limits.TheConstants.{ENTRIES, PENALTY};
 ghost use Rattle.dm_network.specs.Net.{Net};
 ghost use Rattle.dm_rows.specs.Rows.{RowsValue, IsSized};
 ghost use Rattle.dm_rows.specs.Active.{HasNoCycle};
+ghost use Rattle.dm_rows.specs.Reach.{Reaches};
 ghost use Rattle.dm_rows.specs.Resolve.{after, after_change};
 ghost use Rattle.dm_rows.specs.Refuse.{PassesAtOnce, RefusesAdmission, IsNow};
 ghost use Rattle.dm_rows.specs.Timetable.{IsLeast};
@@ -14,11 +15,13 @@ ghost use Rattle.dm_check_times.specs.Binding.{AreBelowLimit};
 ghost use Rattle.dm_check_times.specs.Noting.{NotesMoves};
 ghost use Rattle.dm_check_times.specs.KeptCosts.{IsKeptCostOf};
 ghost use Rattle.dm_check_times.specs.Timetables.{IsRoomOf, IsTimetableOf, IsSettledFor, ChangesNet};
-ghost use Rattle.dm_check_rows.specs.Claims.{AreCheckedRowsOf, IsTimeOf, IsKnownFree, IsKept, IsPriced, Tells, TellsAcceptance, times_of};
+ghost use Rattle.dm_check_rows.specs.Claims.{AreCheckedRowsOf, IsTimeOf, IsKnownFree, IsKept, IsPriced, PassesIf, Tells, TellsAcceptance, times_of};
 ghost use Rattle.dm_rows.specs.Harmless.{IsHarmless};
 
 use dm_base::Cost;
-use dm_check_times::{Charges, HeldCycle, KeptCost, KeptTimetable, cost_of, keep_cost, keep_up};
+use dm_check_times::{
+    Charges, HeldCycle, KeptCost, KeptTimetable, cost_of, keep_cost, keep_up, passes_running,
+};
 use dm_marks::PlaceSet;
 use dm_network::Network;
 use dm_rows::{Change, Message, Refusal, Rows, admit};
@@ -37,7 +40,7 @@ pub struct CheckedRows {
     /// Whether the timetable is kept with the rows.
     is_kept: bool,
 
-    /// Whether the weights of the cost are kept with the rows.
+    /// Whether the cost is kept with the rows.
     is_priced: bool,
 
     /// Whether the timetable is that of the rows, and the cost is kept of its times.
@@ -178,6 +181,7 @@ impl CheckedRows {
             Ok(change) => change,
             Err(refusal) => return Err(refusal),
         };
+        let is_priced = prices_still(self.is_priced, &self.rows, &change);
         self.is_settled = false;
         self.is_free = stays_free(self.is_free, message);
         self.rows.apply(&change);
@@ -189,13 +193,7 @@ impl CheckedRows {
             &self.rows,
             &change,
         );
-        self.is_priced = price_if(
-            self.is_priced,
-            &mut self.kept_cost,
-            net,
-            &self.rows,
-            &change,
-        );
+        self.is_priced = price_if(is_priced, &mut self.kept_cost, net, &self.rows, &change);
         Ok(())
     }
 
@@ -283,7 +281,7 @@ impl CheckedRows {
         self.kept_cost.bring(
             net,
             &self.rows,
-            &Charges::Dropped,
+            &Charges::Lost,
             self.timetable.times(),
             self.is_priced,
             &mut self.moved,
@@ -352,7 +350,20 @@ fn keep_if(
     keep_up(timetable, net, schedule, rows, change)
 }
 
-/// Keeps the weights of a cost with rows that have just changed so, if they are. Answers whether they are kept still.
+/// Whether a cost that may be kept with rows can be kept through this change of theirs: no cancelled event passes.
+fn prices_still(is_priced: bool, rows: &Rows, change: &Change) -> bool
+    requires as_many { length rows.now.cancelled ≡ length rows.now.passed }
+    requires reaches { Reaches rows.now change.now }
+    ensures only { IsTrue result → IsTrue is_priced }
+    ensures passes { PassesIf rows.now change.now result }
+{
+    if !is_priced {
+        return false;
+    }
+    passes_running(rows, change)
+}
+
+/// Keeps a cost with rows that have just changed so, if it is. Answers whether it is kept still.
 fn price_if(
     is_priced: bool,
     cost: &mut KeptCost,
@@ -366,7 +377,7 @@ fn price_if(
     ensures kept { IsKeptCostOf net.now cost.new }
     ensures times { cost.new.times ≡ cost.old.times }
     ensures only { IsTrue result → IsTrue is_priced }
-    ensures priced { (before : RowsValue) → rows.now ≡ after_change before change.now
+    ensures priced { (before : RowsValue) → rows.now ≡ after_change before change.now → PassesIf before change.now is_priced
         → IsPriced net.now before cost.old is_priced → IsPriced net.now rows.now cost.new result }
 {
     if !is_priced {
@@ -402,7 +413,8 @@ fn least(
 
 /// Whether rows that may be known to have no cycle are known to have none after this message, as far as its kind tells.
 pub(crate) fn stays_free(is_free: bool, message: &Message) -> bool
-    ensures { (net : Net) (rows : RowsValue) → IsKnownFree net rows is_free → IsKnownFree net (after net rows message.now) result }
+    ensures { (net : Net) (rows : RowsValue) → IsSized net rows → IsKnownFree net rows is_free
+        → IsKnownFree net (after net rows message.now) result }
 {
     if is_harmless(message) { is_free } else { false }
 }
@@ -416,8 +428,15 @@ fn is_harmless(message: &Message) -> bool
         | Message::DelayActivity(_, _)
         | Message::Pass(_, _)
         | Message::Drop(_)
-        | Message::Now(_) => true,
-        Message::Recall(_) | Message::Keep(_) | Message::First(_, _) | Message::Adopt(_) => false,
+        | Message::Now(_)
+        | Message::Cancel(_)
+        | Message::Lock(_)
+        | Message::Unlock(_) => true,
+        Message::Recall(_)
+        | Message::Restore(_)
+        | Message::Keep(_)
+        | Message::First(_, _)
+        | Message::Adopt(_) => false,
     }
 }
 

@@ -13,9 +13,10 @@
 //! [`is_refused`] tells exactly whether a message is refused for the reason that is said. A cycle may be any cycle of the rows
 //! after the message ([`shows_cycle`]).
 //!
-//! Where the rows are known to have no cycle, none is looked for after delays, passed events, dropped changes and clocks. A
-//! proof says that these make none. A clock looks at the events that are scheduled before it. `settle_times` keeps no cost.
-//! Times follow those of before. They are computed from scratch only after an adopted list, and from the first rows.
+//! Where the rows are known to have no cycle, none is looked for after delays, passed and cancelled events, dropped changes,
+//! locks and clocks. A proof says that these make none. A clock looks at the events that are scheduled before it. `settle_times`
+//! keeps no cost. Times follow those of before. They are computed from scratch only after an adopted list, and from the first
+//! rows; the cost also where an event is cancelled or restored, or passes while it is cancelled.
 //!
 //! Memory is taken when a `CheckedRows` is made, for the rows, one timetable with its cost, and the events by their scheduled
 //! times. It is also taken for the admission of an `Adopt`, and by `is_refused`. No clause speaks of that time and memory.

@@ -5,8 +5,7 @@ ghost use Rattle.dm_rows.specs.Rows.{IsSized};
 ghost use Rattle.dm_rows.specs.Active.{HasNoCycle};
 ghost use Rattle.dm_rows.specs.Reach.{Reaches};
 ghost use Rattle.dm_rows.specs.Resolve.{change_named, after, after_change};
-ghost use Rattle.dm_rows.specs.Refuse.{Refuses, PassesAtOnce};
-ghost use Rattle.dm_feed.specs.Lines.{IsSaid};
+ghost use Rattle.dm_rows.specs.Refuse.{Refuses, RefusesAdmission, PassesAtOnce};
 ghost use Rattle.dm_records.specs.Readings.{reason_of};
 ghost use Rattle.dm_check_rows.specs.Claims.{AreCheckedRowsOf, Tells};
 ghost use Rattle.dm_check_rows.specs.Inside.Claimed.{IsRefused};
@@ -20,11 +19,10 @@ use dm_check_times::{HeldCycle, KeptTimetable};
 use dm_marks::PlaceSet;
 use dm_network::Network;
 use dm_records::Reason;
-use dm_rows::{Change, Message, Rows, admit};
+use dm_rows::{Change, Message, Refusal, Rows, admit};
 use std::alloc::{AllocError, Global};
 
-/// Whether a message that a line says is refused at so many entries, and for this reason. A cycle is any of the rows after the
-/// message.
+/// Whether a message is refused at so many entries, and for this reason. A cycle is any of the rows after the message.
 pub fn is_refused(
     alloc: Global,
     net: &Network,
@@ -33,8 +31,7 @@ pub fn is_refused(
     message: &Message,
     why: &Reason,
 ) -> Result<bool, AllocError>
-    requires stands { AreCheckedRowsOf net.now checked.now }
-    requires said { IsSaid message.now }
+    requires { AreCheckedRowsOf net.now checked.now }
     ensures { IfOk result (Tells (Refuses net.now checked.now.rows entries message.now (reason_of why.now))) }
 {
     let claimed = ClaimedRefusal {
@@ -50,12 +47,22 @@ pub fn is_refused(
 
 impl ClaimedRefusal<'_> {
     fn is_true(&self, alloc: Global) -> Result<bool, AllocError>
-        requires said { IsSaid self.now.message.now }
         ensures { IfOk result (Tells (IsRefused self.now)) }
     {
         match admit(alloc, self.net, self.rows, self.message) {
             Ok(change) => self.is_true_after(alloc, &change),
-            Err(refusal) => Ok(is_said_by(&refusal, self.why)),
+            Err(refusal) => self.is_true_of(&refusal),
+        }
+    }
+
+    /// The same where the message is not admitted, for this refusal.
+    fn is_true_of(&self, refusal: &Refusal) -> Result<bool, AllocError>
+        requires { RefusesAdmission self.now.net.now self.now.rows.now self.now.message.now refusal.now }
+        ensures { IfOk result (Tells (IsRefused self.now)) }
+    {
+        match refusal {
+            Refusal::OutOfMemory => Err(AllocError),
+            _ => Ok(is_said_by(refusal, self.why)),
         }
     }
 

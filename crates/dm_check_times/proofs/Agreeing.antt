@@ -1,19 +1,21 @@
 -- A timetable kept with rows, one place after the other.
 use Rattle.std.proofs.Common.{◌≡◌, ℕ, ◌+◌, ◌<◌, ◌≤◌, ◌⊎◌, Bool, true, false, List, length, take, Option, Some, None, sym, ap, subst, ◌∙◌, inl, inr, refl, arith, slice_index, length-set, get_or-set_same, get_or-set_other}
-use Rattle.std.specs.Prelude.{slice_set, slice_index_or, is_some, unwrap_or, max}
+use Rattle.std.specs.Prelude.{slice_set, slice_index_or, unwrap_or, max}
 use Rattle.std.proofs.lemmas.Bool.{cases_eq, cases_lt}
 use Rattle.dm_network.specs.Net.{Net, event_at, activity_at, pair_at, places_into, places_out_of}
 use Rattle.dm_network.specs.Held.{is_held}
 use Rattle.dm_network.specs.Pairs.{IsPaired}
 use Rattle.dm_rows.specs.Active.{is_active}
 use Rattle.dm_rows.specs.Reach.{Reaches}
-use Rattle.dm_rows.specs.Resolve.{after_change, after_flip}
-use Rattle.dm_rows.specs.Rows.{RowsValue, IsSized, passed_at}
+use Rattle.dm_rows.specs.Resolve.{after_change, after_flip, after_lock}
+use Rattle.dm_rows.specs.Rows.{RowsValue, IsSized, passed_at, is_cancelled}
 use Rattle.dm_rows.specs.Timetable.{planned_time, floor_of, span_of}
+use Rattle.dm_rows.specs.declared.messages.Spot.{Spot}
+use Rattle.dm_rows.specs.declared.messages.Spot.TheVariants.{Change as AtChange, Pair as AtPair}
 use Rattle.dm_rows.specs.declared.messages.Flip.{Flip}
 use Rattle.dm_rows.specs.declared.messages.Flip.TheVariants.{Keep, Drop, First}
 use Rattle.dm_rows.specs.declared.messages.Change.{Change}
-use Rattle.dm_rows.specs.declared.messages.Change.TheVariants.{EventDelay, ActDelay, Passed, Recalled, Flipped, Adopted, Clock}
+use Rattle.dm_rows.specs.declared.messages.Change.TheVariants.{EventDelay, ActDelay, Passed, Recalled, Flipped, Adopted, Clock, Cancelled, Restored, Locked, Unlocked}
 use Rattle.dm_schedule.specs.Schedule.{IsScheduleOf}
 use Rattle.dm_schedule.specs.declared.schedule.Scheduled.{Scheduled}
 use Rattle.dm_schedule.proofs.Standing.{in_front_or_late, front_next}
@@ -22,7 +24,7 @@ use Rattle.dm_check_times.specs.Inside.Agreeing.{FloorAgrees, ActivityAgrees, Re
 use Rattle.dm_network.proofs.EventRows.{stands_out}
 use Rattle.dm_network.proofs.EventRows.{stands_into}
 use Rattle.dm_check_times.proofs.OfTimetables.{agrees_same}
-use Rattle.dm_rows.proofs.Alike.{active_alike, EndsAtPair, pair_ends, flip_keeps_floor, flip_keeps_span}
+use Rattle.dm_rows.proofs.Alike.{active_alike, standing_leaves, lock_leaves, lock_keeps_floor, lock_keeps_span, EndsAtPair, pair_ends, flip_keeps_floor, flip_keeps_span}
 
 -- ---- one place after the other
 
@@ -231,44 +233,43 @@ flip_leaves : (net : Net) (rows : RowsValue) (flip : Flip) (b : ℕ) → b < len
 flip_leaves net rows (Keep a) b below ends =
     elim (cases_eq b a) [
       | inl is ↦ inr is
-      | inr ne ↦ inl (active_alike net rows (after_flip rows (Keep a)) b refl (get_or-set_other rows.kept a b true true ne) refl (λ p e. refl))
+      | inr ne ↦ inl (active_alike net rows (after_flip rows (Keep a)) b refl refl (get_or-set_other rows.kept a b true true ne) refl (λ p e. refl))
     ]
 flip_leaves net rows (Drop a) b below ends =
     elim (cases_eq b a) [
       | inl is ↦ inr is
-      | inr ne ↦ inl (active_alike net rows (after_flip rows (Drop a)) b refl (get_or-set_other rows.kept a b false true ne) refl (λ p e. refl))
+      | inr ne ↦ inl (active_alike net rows (after_flip rows (Drop a)) b refl refl (get_or-set_other rows.kept a b false true ne) refl (λ p e. refl))
     ]
 flip_leaves net rows (First p small) b below ends = pair_leaves (activity_at net b).pair refl where
   pair_leaves : (pair : Option ℕ) → (activity_at net b).pair ≡ pair →
       (is_active net (after_flip rows (First p small)) b ≡ is_active net rows b) ⊎ IsDecided net (First p small) b
-  pair_leaves None none = inl (active_alike net rows (after_flip rows (First p small)) b refl refl refl (λ q e. let e' : Some q ≡ None = sym e ∙ none in absurd cc))
+  pair_leaves None none = inl (active_alike net rows (after_flip rows (First p small)) b refl refl refl refl (λ q e. let e' : Some q ≡ None = sym e ∙ none in absurd cc))
   pair_leaves (Some q) some =
       elim (cases_eq q p) [
         | inl is ↦ inr (below, subst (λ (r : ℕ). ((activity_at net b).tail ≡ (pair_at net r).small) ⊎ ((activity_at net b).tail ≡ (pair_at net r).large)) is (ends q some))
-        | inr ne ↦ inl (active_alike net rows (after_flip rows (First p small)) b refl refl refl
+        | inr ne ↦ inl (active_alike net rows (after_flip rows (First p small)) b refl refl refl refl
             (λ r e. let same : r ≡ q = cc in get_or-set_other rows.small_first p r small true (λ at. ne (sym same ∙ at))))
       ]
+
+lock_keeps_clock : (rows : RowsValue) (spot : Spot) (locked : Bool) → (after_lock rows spot locked).clock ≡ rows.clock
+lock_keeps_clock rows (AtChange a) locked = refl
+lock_keeps_clock rows (AtPair p) locked = refl
 
 flip_keeps_clock : (rows : RowsValue) (flip : Flip) → (after_flip rows flip).clock ≡ rows.clock
 flip_keeps_clock rows (Keep b) = refl
 flip_keeps_clock rows (Drop b) = refl
 flip_keeps_clock rows (First p small) = refl
 
--- a passed event, or one that is recalled, leaves every activity but those at it, and every floor but its own
-passed_leaves : (net : Net) (rows : RowsValue) (i : ℕ) (o : Option ℕ) (b : ℕ) → b < length net.activities → (is_active net (record rows { passed = slice_set rows.passed i o }) b ≡ is_active net rows b) ⊎ LeadsAt net i b
-passed_leaves net rows i o b below =
-    elim (cases_eq (activity_at net b).head i) [
-      | inl is ↦ inr (below, inl is)
-      | inr no_head ↦ elim (cases_eq (activity_at net b).tail i) [
-        | inl is ↦ inr (below, inr is)
-        | inr no_tail ↦ inl (active_alike net rows (record rows { passed = slice_set rows.passed i o }) b
-            (ap is_some (get_or-set_other rows.passed i (activity_at net b).head o None no_head)) refl
-            (ap is_some (get_or-set_other rows.passed i (activity_at net b).tail o None no_tail)) (λ p e. refl))
-      ]
-    ]
+-- where one event alone stands otherwise, every activity but those at it stays, and every floor but its own
+stands_otherwise : (net : Net) (rows : RowsValue) (i : ℕ) (passed : List (Option ℕ)) (cancelled : List Bool) (b : ℕ) → b < length net.activities →
+    ((j : ℕ) → (j ≡ i → ⊥) → slice_index_or passed j None ≡ passed_at rows j) → ((j : ℕ) → (j ≡ i → ⊥) → slice_index_or cancelled j false ≡ is_cancelled rows j) →
+    (is_active net (record rows { passed = passed; cancelled = cancelled }) b ≡ is_active net rows b) ⊎ LeadsAt net i b
+stands_otherwise net rows i passed cancelled b below others running =
+    elim (standing_leaves net rows i passed cancelled b others running) [ inl same ↦ inl same | inr at ↦ inr (below, at) ]
 
-passed_floor : (net : Net) (rows : RowsValue) (i : ℕ) (o : Option ℕ) (e : ℕ) → (e ≡ i → ⊥) → floor_of net (record rows { passed = slice_set rows.passed i o }) e ≡ floor_of net rows e
-passed_floor net rows i o e ne = ap (λ (p : Option ℕ). unwrap_or p (max (planned_time net rows e) rows.clock)) (get_or-set_other rows.passed i e o None ne)
+passed_floor : (net : Net) (rows : RowsValue) (passed : List (Option ℕ)) (cancelled : List Bool) (e : ℕ) → slice_index_or passed e None ≡ passed_at rows e →
+    floor_of net (record rows { passed = passed; cancelled = cancelled }) e ≡ floor_of net rows e
+passed_floor net rows passed cancelled e same = ap (λ (p : Option ℕ). unwrap_or p (max (planned_time net rows e) rows.clock)) same
 
 -- a floor that is no earlier than a clock that goes on is as before
 late_stays : (o : Option ℕ) (planned was clock : ℕ) → was ≤ clock → clock ≤ unwrap_or o (max planned was) → unwrap_or o (max planned clock) ≡ unwrap_or o (max planned was)
@@ -340,24 +341,47 @@ module _ (net : Net) (before rows : RowsValue) (old new : KeptTimetableValue) (a
       ]))
       (rw is refl)
 
-  passed_or_not : (i : ℕ) (o : Option ℕ) → rows ≡ record before { passed = slice_set before.passed i o } → Renews net rows (Here i) (LeadsAt net i) old new → AgreesWith net rows new
-  passed_or_not i o is renews =
+  otherwise : (i : ℕ) (passed : List (Option ℕ)) (cancelled : List Bool) → rows ≡ record before { passed = passed; cancelled = cancelled } →
+      ((j : ℕ) → (j ≡ i → ⊥) → slice_index_or passed j None ≡ passed_at before j) → ((j : ℕ) → (j ≡ i → ⊥) → slice_index_or cancelled j false ≡ is_cancelled before j) →
+      Renews net rows (Here i) (LeadsAt net i) old new → AgreesWith net rows new
+  otherwise i passed cancelled is others running renews =
       still_agrees net before rows (Here i) (LeadsAt net i) old new renews agrees
       (λ e below. rw is (elim (cases_eq e i) [
         | inl here ↦ inr here
-        | inr ne ↦ inl (passed_floor net before i o e ne)
+        | inr ne ↦ inl (passed_floor net before passed cancelled e (others e ne))
       ]))
-      (λ a below. rw is (elim (passed_leaves net before i o a below) [
+      (λ a below. rw is (elim (stands_otherwise net before i passed cancelled a below others running) [
         | inl same ↦ inl (same, refl)
         | inr there ↦ inr there
       ]))
       (rw is refl)
 
   pub agrees_passed : (i t : ℕ) → rows ≡ after_change before (Passed i t) → Renews net rows (Here i) (LeadsAt net i) old new → AgreesWith net rows new
-  agrees_passed i t is renews = passed_or_not i (Some t) is renews
+  agrees_passed i t is renews =
+      otherwise i (slice_set before.passed i (Some t)) (slice_set before.cancelled i false) is
+      (λ j ne. get_or-set_other before.passed i j (Some t) None ne) (λ j ne. get_or-set_other before.cancelled i j false false ne) renews
 
   pub agrees_recalled : (i : ℕ) → rows ≡ after_change before (Recalled i) → Renews net rows (Here i) (LeadsAt net i) old new → AgreesWith net rows new
-  agrees_recalled i is renews = passed_or_not i None is renews
+  agrees_recalled i is renews =
+      otherwise i (slice_set before.passed i None) before.cancelled is
+      (λ j ne. get_or-set_other before.passed i j None None ne) (λ j ne. refl) renews
+
+  pub agrees_cancelled : (i : ℕ) → rows ≡ after_change before (Cancelled i) → Renews net rows (Here i) (LeadsAt net i) old new → AgreesWith net rows new
+  agrees_cancelled i is renews =
+      otherwise i before.passed (slice_set before.cancelled i true) is
+      (λ j ne. refl) (λ j ne. get_or-set_other before.cancelled i j true false ne) renews
+
+  pub agrees_restored : (i : ℕ) → rows ≡ after_change before (Restored i) → Renews net rows (Here i) (LeadsAt net i) old new → AgreesWith net rows new
+  agrees_restored i is renews =
+      otherwise i before.passed (slice_set before.cancelled i false) is
+      (λ j ne. refl) (λ j ne. get_or-set_other before.cancelled i j false false ne) renews
+
+  pub agrees_locked : (spot : Spot) (locked : Bool) → rows ≡ after_lock before spot locked → new ≡ old → AgreesWith net rows new
+  agrees_locked spot locked is same =
+      still_agrees net before rows Nowhere Nowhere old new (subst (λ (t : KeptTimetableValue). Renews net rows Nowhere Nowhere old t) (sym same) (renews_none net rows old)) agrees
+      (λ e below. rw is (inl (lock_keeps_floor net before spot locked e)))
+      (λ a below. rw is (inl (lock_leaves net before spot locked a, lock_keeps_span net before spot locked a)))
+      (rw is (lock_keeps_clock before spot locked))
 
   pub agrees_flipped : IsPaired net → (flip : Flip) → rows ≡ after_change before (Flipped flip) → Renews net rows Nowhere (IsDecided net flip) old new → AgreesWith net rows new
   agrees_flipped paired flip is renews =
@@ -401,6 +425,10 @@ times_for net rows (Recalled i) old new renews = renews.keeps.times
 times_for net rows (Flipped flip) old new renews = renews.keeps.times
 times_for net rows (Adopted flips) old new same = ap (λ (t : KeptTimetableValue). t.times) same
 times_for net rows (Clock t) old new moves = moves.takes.times ∙ moves.renews.keeps.times
+times_for net rows (Cancelled i) old new renews = renews.keeps.times
+times_for net rows (Restored i) old new renews = renews.keeps.times
+times_for net rows (Locked spot) old new same = ap (λ (t : KeptTimetableValue). t.times) same
+times_for net rows (Unlocked spot) old new same = ap (λ (t : KeptTimetableValue). t.times) same
 
 pub agrees_for : (net : Net) → IsPaired net → (before rows : RowsValue) (old new : KeptTimetableValue) → AgreesWith net before old → (change : Change) → is_adopted change ≡ false → rows ≡ after_change before change →
     RenewsFor net rows change old new → AgreesWith net rows new
@@ -411,6 +439,10 @@ agrees_for net paired before rows old new agrees (Recalled i) other is renews = 
 agrees_for net paired before rows old new agrees (Flipped flip) other is renews = agrees_flipped net before rows old new agrees paired flip is renews
 agrees_for net paired before rows old new agrees (Adopted flips) other is renews = absurd (let both : true ≡ false = other in cc)
 agrees_for net paired before rows old new agrees (Clock t) other is moves = agrees_timed net before rows old moves.mid agrees new t is moves.renews moves.takes
+agrees_for net paired before rows old new agrees (Cancelled i) other is renews = agrees_cancelled net before rows old new agrees i is renews
+agrees_for net paired before rows old new agrees (Restored i) other is renews = agrees_restored net before rows old new agrees i is renews
+agrees_for net paired before rows old new agrees (Locked spot) other is same = agrees_locked net before rows old new agrees spot true is same
+agrees_for net paired before rows old new agrees (Unlocked spot) other is same = agrees_locked net before rows old new agrees spot false is same
 
 pub changes_net : (net : Net) (rows : RowsValue) (change : Change) → IsSized net rows → Reaches rows change → ChangesNet net change
 changes_net net rows (EventDelay i d) sized reaches = let s = sized.event_delays in let r = reaches.0 in omega arith
@@ -422,3 +454,7 @@ changes_net net rows (Flipped (Drop a)) sized reaches = let s = sized.kept in om
 changes_net net rows (Flipped (First p small)) sized reaches = let s = sized.small_first in omega arith
 changes_net net rows (Adopted flips) sized reaches = tt
 changes_net net rows (Clock t) sized reaches = tt
+changes_net net rows (Cancelled i) sized reaches = let s = sized.cancelled in let r = reaches.0 in omega arith
+changes_net net rows (Restored i) sized reaches = let s = sized.cancelled in omega arith
+changes_net net rows (Locked spot) sized reaches = tt
+changes_net net rows (Unlocked spot) sized reaches = tt

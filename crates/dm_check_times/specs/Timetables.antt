@@ -8,7 +8,7 @@ use Rattle.dm_rows.specs.Timetable.{floor_of, span_of, IsLeast}
 use Rattle.dm_rows.specs.declared.messages.Flip.{Flip}
 use Rattle.dm_rows.specs.declared.messages.Flip.TheVariants.{Keep, Drop, First}
 use Rattle.dm_rows.specs.declared.messages.Change.{Change}
-use Rattle.dm_rows.specs.declared.messages.Change.TheVariants.{EventDelay, ActDelay, Passed, Recalled, Flipped, Adopted, Clock}
+use Rattle.dm_rows.specs.declared.messages.Change.TheVariants.{EventDelay, ActDelay, Passed, Recalled, Flipped, Adopted, Clock, Cancelled, Restored, Locked, Unlocked}
 use Rattle.dm_check_times.specs.Binding.{graph_with, is_due, AreBindings, AreFlags, AreSpansOf, AreFloorsOf, AreBelowLimit}
 use Rattle.dm_check_times.specs.Following.{Follows}
 use Rattle.dm_marks.specs.Marked.{is_marked}
@@ -124,3 +124,7 @@ ChangesNet net (Recalled i) = i < length net.events
 ChangesNet net (Flipped flip) = FlipsNet net flip
 ChangesNet net (Adopted flips) = Unit {0}
 ChangesNet net (Clock t) = Unit {0}
+ChangesNet net (Cancelled i) = i < length net.events
+ChangesNet net (Restored i) = i < length net.events
+ChangesNet net (Locked spot) = Unit {0}
+ChangesNet net (Unlocked spot) = Unit {0}

@@ -2,20 +2,20 @@
 ghost use Rattle.std.specs.Prelude.{◌≡◌, ◌<◌, ◌≤◌, ◌*◌, length};
 ghost use Rattle.dm_base.specs.declared.limits.TheConstants.{WEIGHT};
 ghost use Rattle.dm_rows.specs.Rows.{IsSized};
-ghost use Rattle.dm_rows.specs.Cost.{charged_weight, is_dropped_change};
+ghost use Rattle.dm_rows.specs.Cost.{charged_weight};
 ghost use Rattle.dm_check_times.specs.Binding.{AreBelowLimit};
 ghost use Rattle.dm_check_times.specs.KeptCosts.{charges_of, AreChargesTo, priced_weight};
 
 use crate::costing::missed_weight;
-use dm_base::{ActKind, Milli, Secs};
+use dm_base::{Milli, Secs};
 use dm_network::Network;
-use dm_rows::Rows;
+use dm_rows::{Rows, is_lost_change};
 
 /// The activities that the penalty is charged for, beside the changes that their passed heads have missed.
 #[derive(Clone, Copy)]
 pub enum Charges<'a> {
-    /// The dropped changes of the rows, where their heads have not passed.
-    Dropped,
+    /// The changes of the rows whose heads have not passed and that are dropped or have a cancelled end.
+    Lost,
 
     /// Those that are flagged. There is a flag for each activity.
     Flagged(&'a [bool]),
@@ -64,20 +64,7 @@ fn is_charged(net: &Network, rows: &Rows, charges: &Charges<'_>, a: usize) -> bo
     ensures { result ≡ charges_of net.now rows.now charges.now a }
 {
     match charges {
-        Charges::Dropped => is_dropped_change(net, rows, a),
+        Charges::Lost => is_lost_change(net, rows, a),
         Charges::Flagged(flags) => flags[a],
     }
-}
-
-/// Whether an activity is a dropped change whose head has not passed.
-fn is_dropped_change(net: &Network, rows: &Rows, a: usize) -> bool
-    requires sized { IsSized net.now rows.now }
-    requires is_activity { a < length net.now.activities }
-    ensures { result ≡ is_dropped_change net.now rows.now a }
-{
-    net.reveal();
-    let activity = net.activity(a);
-    matches!(activity.kind, ActKind::Change)
-        && !rows.kept(a)
-        && !rows.passed(activity.head).is_some()
 }

@@ -67,6 +67,9 @@ fn renew_for(
         Change::ActDelay { act, .. } => timetable.renew_activity(net, rows, *act),
         Change::Passed { event, .. } => renew_around(timetable, net, rows, *event),
         Change::Recalled { event } => renew_around(timetable, net, rows, *event),
+        Change::Cancelled { event } => renew_around(timetable, net, rows, *event),
+        Change::Restored { event } => renew_around(timetable, net, rows, *event),
+        Change::Locked(_) | Change::Unlocked(_) => {}
         Change::Flipped(flip) => renew_flipped(timetable, net, rows, *flip),
         Change::Adopted(_) => {}
         Change::Clock { .. } => renew_clock(timetable, net, schedule, rows),

@@ -5,13 +5,13 @@ ghost use Rattle.dm_marks.specs.Moved.{ListsMoved};
 ghost use Rattle.dm_rows.specs.Rows.{RowsValue, IsSized};
 ghost use Rattle.dm_rows.specs.Cost.{cost_charging};
 ghost use Rattle.dm_check_times.specs.Binding.{AreBelowLimit};
-ghost use Rattle.dm_check_times.specs.KeptCosts.{IsKeptCostOf, IsPricedFor, RenewsWeight, charges_of, AreChargesTo};
+ghost use Rattle.dm_check_times.specs.KeptCosts.{IsKeptCostOf, IsLateFor, IsPricedFor, KeepsLate, RenewsWeight, charges_of, AreChargesTo};
 ghost use Rattle.dm_check_times.specs.Noting.{AreAlikeBut};
 ghost use Rattle.dm_check_times.specs.Inside.Agreeing.{InRow};
 ghost use Rattle.dm_check_times.specs.Inside.Pricing.{Reprices};
 
 use crate::charges::{Charges, priced_weight};
-use crate::costing::{event_cost, lateness_cost};
+use crate::costing::{cancelled_weights, event_cost, lateness_cost};
 use crate::row::{row_into, row_out_of};
 use dm_base::{Cost, Milli, Secs};
 use dm_marks::PlaceSet;
@@ -20,11 +20,12 @@ use dm_rows::Rows;
 use std::alloc::{AllocError, Global};
 use std::marker::Model;
 
-/// Times of a network's events, with what their lateness costs, and for each activity the weight of which the penalty is taken, with
-/// their sum. So the cost of these times is a sum of two numbers.
+/// Times of a network's events, with what their lateness costs and what the cancelled arrivals weigh, and for each activity the
+/// weight of which the penalty is taken, with their sum. So the cost of these times is a sum of few numbers.
 pub struct KeptCost {
     times: Vec<Secs>,
     lateness: Cost,
+    cancelled: Cost,
     weights: Vec<Milli>,
     penalized: Cost,
 }
@@ -34,6 +35,7 @@ impl Drop for KeptCost {
         let KeptCost {
             times: _,
             lateness: _,
+            cancelled: _,
             weights: _,
             penalized: _,
         } = self;
@@ -45,23 +47,29 @@ impl Model for KeptCost {
 
     ghost Value = { KeptCostValue };
 
-    ghost view = { λ k. record { times = k.times.items; lateness = k.lateness; weights = k.weights.items; penalized = k.penalized } };
+    ghost view = { λ k. record {
+      times = k.times.items;
+      lateness = k.lateness;
+      cancelled = k.cancelled;
+      weights = k.weights.items;
+      penalized = k.penalized;
+    } };
 
     ghost invariant = { λ k. Unit {0} };
 }
 
 impl KeptCost {
-    /// That of a network, with every event at 0 and no weight. Its weights are to be taken from rows
+    /// That of a network, with every event at 0 and no weight. What it costs is to be taken from rows
     /// ([`take`](KeptCost::take), [`renew_all`](KeptCost::renew_all)).
     pub fn new(alloc: Global, net: &Network) -> Result<KeptCost, AllocError>
         ensures { IfOk result (IsKeptCostOf net.now) }
     {
         net.reveal();
         let times = vec![in alloc; 0; net.events()]?;
-        let lateness = lateness_cost(net, &times);
         Ok(KeptCost {
             times,
-            lateness,
+            lateness: 0,
+            cancelled: 0,
             weights: vec![in alloc; 0; net.activities()]?,
             penalized: 0,
         })
@@ -111,27 +119,52 @@ impl KeptCost {
         ensures times { self.new.times ≡ times.now }
         ensures priced { IsPricedFor net.now rows.now (charges_of net.now rows.now charges.now) self.new }
     {
-        self.take_times(net, times);
+        self.set_times(net, times);
         self.renew_all(net, rows, charges);
     }
 
-    /// Takes whole other times, and leaves the weights.
-    fn take_times(&mut self, net: &Network, times: &[Secs])
+    /// Takes whole other times, and leaves what they cost.
+    fn set_times(&mut self, net: &Network, times: &[Secs])
         requires kept { IsKeptCostOf net.now self.old }
         requires as_many { length times.now ≡ length net.now.events }
         requires early { AreBelowLimit times.now }
         ensures kept { IsKeptCostOf net.now self.new }
         ensures times { self.new.times ≡ times.now }
     {
-        self.lateness = lateness_cost(net, times);
         self.times.copy_from_slice(times);
     }
 
-    /// Takes every weight anew. It takes no memory.
+    /// Takes what the times cost anew. It takes no memory.
     pub fn renew_all(&mut self, net: &Network, rows: &Rows, charges: &Charges<'_>)
         requires kept { IsKeptCostOf net.now self.old }
         requires sized { IsSized net.now rows.now }
         requires charges { AreChargesTo net.now charges.now }
+        ensures kept { IsKeptCostOf net.now self.new }
+        ensures times { self.new.times ≡ self.old.times }
+        ensures priced { IsPricedFor net.now rows.now (charges_of net.now rows.now charges.now) self.new }
+    {
+        self.renew_events(net, rows);
+        self.renew_weights(net, rows, charges);
+    }
+
+    /// Takes what lateness costs and the weights of the cancelled arrivals anew, and leaves those of the activities.
+    fn renew_events(&mut self, net: &Network, rows: &Rows)
+        requires kept { IsKeptCostOf net.now self.old }
+        requires sized { IsSized net.now rows.now }
+        ensures kept { IsKeptCostOf net.now self.new }
+        ensures times { self.new.times ≡ self.old.times }
+        ensures late { IsLateFor net.now rows.now self.new }
+    {
+        self.lateness = lateness_cost(net, rows, &self.times);
+        self.cancelled = cancelled_weights(net, rows);
+    }
+
+    /// Takes every weight of an activity anew.
+    fn renew_weights(&mut self, net: &Network, rows: &Rows, charges: &Charges<'_>)
+        requires kept { IsKeptCostOf net.now self.old }
+        requires sized { IsSized net.now rows.now }
+        requires charges { AreChargesTo net.now charges.now }
+        requires late { IsLateFor net.now rows.now self.old }
         ensures kept { IsKeptCostOf net.now self.new }
         ensures times { self.new.times ≡ self.old.times }
         ensures priced { IsPricedFor net.now rows.now (charges_of net.now rows.now charges.now) self.new }
@@ -189,24 +222,27 @@ impl KeptCost {
         if self.time(i) == time {
             return;
         }
-        self.put(net, i, time);
+        self.put(net, rows, i, time);
         self.renew_row(net, rows, charges, row_into(net, i));
         self.renew_row(net, rows, charges, row_out_of(net, i));
     }
 
     /// Takes another time of an event, and leaves the weights.
-    fn put(&mut self, net: &Network, i: usize, time: Secs)
+    fn put(&mut self, net: &Network, rows: &Rows, i: usize, time: Secs)
         requires kept { IsKeptCostOf net.now self.old }
+        requires sized { IsSized net.now rows.now }
+        requires late { IsLateFor net.now rows.now self.old }
         requires is_event { i < length net.now.events }
         requires early { time < 2 ^ 38 }
         ensures kept { IsKeptCostOf net.now self.new }
         ensures times { self.new.times ≡ slice_set self.old.times i time }
         ensures weights { self.new.weights ≡ self.old.weights }
+        ensures late { IsLateFor net.now rows.now self.new }
     {
         net.reveal();
-        let was = event_cost(net, &self.times, i);
+        let was = event_cost(net, rows, &self.times, i);
         self.times[i] = time;
-        let now = event_cost(net, &self.times, i);
+        let now = event_cost(net, rows, &self.times, i);
         self.lateness = self.lateness + now - was;
     }
 
@@ -253,6 +289,7 @@ impl KeptCost {
         ensures kept { IsKeptCostOf net.now self.new }
         ensures weights { self.new.weights ≡ slice_set self.old.weights a weight }
         ensures times { self.new.times ≡ self.old.times }
+        ensures late { KeepsLate self.old self.new }
     {
         net.reveal();
         let was = self.weight(a);
@@ -276,6 +313,6 @@ impl KeptCost {
             → result ≡ cost_charging net.now rows charges self.now.times penalty }
     {
         net.reveal();
-        self.lateness + penalty as u128 * self.penalized
+        self.lateness + penalty as u128 * (self.cancelled + self.penalized)
     }
 }

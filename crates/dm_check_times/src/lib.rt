@@ -11,7 +11,7 @@
 //! Times that were least may also follow what binds as it changes. The events that a change may concern begin anew from their
 //! floors, and rounds go on from there. A clock looks at the events that are scheduled before it.
 //!
-//! What a timetable costs is added up place by place ([`cost_of`]), or kept as a sum of two numbers ([`KeptCost`]). What a
+//! What a timetable costs is added up place by place ([`cost_of`]), or kept as a sum of three numbers ([`KeptCost`]). What a
 //! change of rows is about is weighed anew, and so are the activities at each event that has moved.
 //!
 //! # What is promised
@@ -31,9 +31,9 @@
 //! events noted before is right except at those noted afterwards.
 //!
 //! `cost_of` tells exactly what a timetable costs. A `KeptCost` tells the same of the times that it follows, for the rows
-//! from which its weights are taken. The penalty is charged for the rows' dropped changes, or for other activities
-//! ([`Charges`]). [`keep_cost`] keeps the weights with rows that have just changed, where dropped changes are charged for, and
-//! answers yes; or it answers no.
+//! from which it is taken. The penalty is charged for the rows' lost changes, or for other activities ([`Charges`]).
+//! [`keep_cost`] keeps it with rows that have just changed, where lost changes are charged for, and answers yes; or it answers
+//! no, as for an event that is cancelled or restored. [`passes_running`] tells of a change that no cancelled event passes by it.
 //!
 //! `take`, `bring` and `follow` of `KeptCost` give it other times. `renew` and `renew_all` take weights anew. `renew_event` and
 //! `renew_activity` of `KeptTimetable` take one floor, or what binds of one activity, from rows. [`fill_floors`], [`fill_spans`]
@@ -61,11 +61,11 @@ mod rows;
 
 pub use changes::changes_of;
 pub use charges::Charges;
-pub use costing::{comes_too_early, cost_of, event_cost, missed_weight};
+pub use costing::{cancelled_weight, comes_too_early, cost_of, event_cost, missed_weight};
 pub use keeping::keep_up;
 pub use kept_cost::KeptCost;
 pub use kept_timetable::KeptTimetable;
-pub use pricing::keep_cost;
+pub use pricing::{keep_cost, passes_running};
 pub use rounds::HeldCycle;
 pub use row::{row_into, row_out_of};
 pub use rows::{fill_floors, fill_spans, flag_active};

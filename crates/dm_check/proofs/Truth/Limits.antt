@@ -1,5 +1,5 @@
 -- The rows after accepted messages are within the limits, and so are their least times.
-use Rattle.std.proofs.Common.{◌≡◌, ℕ, zero, suc, ◌+◌, ◌<◌, ◌≤◌, List, [], ◌∷◌, length, set, get_or, fold, Option, Some, None, refl, sym, subst, inl, inr, arith}
+use Rattle.std.proofs.Common.{◌≡◌, ℕ, zero, suc, ◌+◌, ◌<◌, ◌≤◌, List, [], ◌∷◌, length, set, get_or, fold, Option, Some, None, refl, sym, subst, inl, inr, arith, Bool, true, false}
 use Rattle.std.specs.Prelude.{option_map}
 use Rattle.std.specs.Option.{ForSome}
 use Rattle.std.proofs.lemmas.Bool.{cases_lt}
@@ -16,6 +16,8 @@ use Rattle.dm_rows.specs.declared.messages.Message.{Message}
 use Rattle.dm_rows.specs.declared.messages.Message.TheVariants as message
 use Rattle.dm_rows.specs.declared.messages.Refusal.{Refusal}
 use Rattle.dm_rows.specs.declared.messages.Refusal.TheVariants as refusal
+use Rattle.dm_rows.specs.declared.messages.Spot.{Spot}
+use Rattle.dm_rows.specs.declared.messages.Spot.TheVariants as spot
 use Rattle.dm_rows.specs.declared.messages.Flip.{Flip}
 use Rattle.dm_rows.specs.declared.messages.Flip.TheVariants as flip
 use Rattle.dm_rows.specs.declared.messages.Change.{Change}
@@ -23,7 +25,7 @@ use Rattle.dm_rows.specs.declared.messages.Change.TheVariants as change
 use Rattle.dm_rows.specs.Active.{is_active}
 use Rattle.dm_rows.specs.Rows.{RowsValue, RowsAreWithinLimits}
 use Rattle.dm_rows.specs.Refuse.{Refuses}
-use Rattle.dm_rows.specs.Resolve.{flips_named, after, after_flip, after_change, after_named}
+use Rattle.dm_rows.specs.Resolve.{flips_named, after, after_flip, after_change, after_named, after_lock, spot_named}
 use Rattle.dm_rows.specs.History.{rows_at, IsLegal}
 use Rattle.dm_rows.specs.Timetable.{IsLeast, graph_of, time_at}
 use Rattle.dm_rows.proofs.AsGraph.{least_as_graph}
@@ -55,11 +57,19 @@ IsLowChange (change.Recalled i) = Unit {0}
 IsLowChange (change.Flipped f) = Unit {0}
 IsLowChange (change.Adopted fs) = Unit {0}
 IsLowChange (change.Clock t) = t ≤ PASSED_TIME
+IsLowChange (change.Cancelled i) = Unit {0}
+IsLowChange (change.Restored i) = Unit {0}
+IsLowChange (change.Locked spot) = Unit {0}
+IsLowChange (change.Unlocked spot) = Unit {0}
 
 flip_within : (rows : RowsValue) (f : Flip) → RowsAreWithinLimits rows → RowsAreWithinLimits (after_flip rows f)
 flip_within rows (flip.Keep a) within = within
 flip_within rows (flip.Drop a) within = within
 flip_within rows (flip.First p small) within = within
+
+lock_within : (rows : RowsValue) (s : Spot) (locked : Bool) → RowsAreWithinLimits rows → RowsAreWithinLimits (after_lock rows s locked)
+lock_within rows (spot.Change a) locked within = within
+lock_within rows (spot.Pair p) locked within = within
 
 flips_within : (rows : RowsValue) (fs : List Flip) → RowsAreWithinLimits rows → RowsAreWithinLimits (fold after_flip rows fs)
 flips_within rows [] within = within
@@ -104,6 +114,10 @@ change_within rows (change.Clock t) low within = record {
   of_passed = within.of_passed;
   of_clock = low;
 }
+change_within rows (change.Cancelled i) low within = within
+change_within rows (change.Restored i) low within = within
+change_within rows (change.Locked s) low within = lock_within rows s true within
+change_within rows (change.Unlocked s) low within = lock_within rows s false within
 
 -- ---- accepted messages
 
@@ -128,6 +142,10 @@ accepted_within net rows n (message.First i j) accepted within = named_within ro
 accepted_within net rows n (message.Adopt ds) accepted within = named_within rows (flips_named net ds) (λ fs. change.Adopted fs) (λ fs. tt) within
 accepted_within net rows n (message.Now t) accepted within =
     change_within rows (change.Clock t) (at_most t PASSED_TIME (λ more. accepted (refusal.Range t) (more, refl))) within
+accepted_within net rows n (message.Cancel e) accepted within = named_within rows (event_place net e) (λ i. change.Cancelled i) (λ i. tt) within
+accepted_within net rows n (message.Restore e) accepted within = named_within rows (event_place net e) (λ i. change.Restored i) (λ i. tt) within
+accepted_within net rows n (message.Lock c) accepted within = named_within rows (spot_named net c) (λ s. change.Locked s) (λ s. tt) within
+accepted_within net rows n (message.Unlock c) accepted within = named_within rows (spot_named net c) (λ s. change.Unlocked s) (λ s. tt) within
 
 pub legal_within : (net : Net) (start : RowsValue) (history : List Entry) → IsLegal net start history → RowsAreWithinLimits start → (n : ℕ) → n ≤ length history →
     RowsAreWithinLimits (rows_at net start history n)

@@ -7,6 +7,7 @@ use Rattle.dm_text.specs.Judging.{Times, Gives}
 use Rattle.dm_network.specs.Net.{Net, event_at}
 use Rattle.dm_rows.specs.declared.messages.Entry.{Entry}
 use Rattle.dm_rows.specs.Rows.{RowsValue}
+use Rattle.dm_feed.specs.Lines.{HasSortedChoice}
 use Rattle.dm_feed.specs.Parts.{largest_id}
 use Rattle.dm_cert.specs.declared.notes.Note.{Note}
 use Rattle.dm_cert.specs.declared.replies.LogItem.{LogItem}
@@ -28,10 +29,10 @@ use Rattle.dm_check.proofs.Truth.Standing.{IsTold, line_stands, rule_stands, the
 use Rattle.dm_check.proofs.Truth.Truths.{numbered_next, items_next, timed_next}
 
 pub entry_told : (s : Setting) (feeds : ℕ) (before : List Entry) (entry : Entry) → IsNextEntry s feeds before (numbered_next before entry) → length before + 1 ≤ largest_id → FitsEntry entry →
-    IsTold (TellsEntry s feeds) (λ k. entry_text (k + 1)) before entry
-entry_told s feeds before entry next low fits place rest left =
+    HasSortedChoice entry.message → IsTold (TellsEntry s feeds) (λ k. entry_text (k + 1)) before entry
+entry_told s feeds before entry next low fits sorted place rest left =
     rule_stands IsEntryLine (λ said. entry_text said.number said.entry) (IsNextEntry s feeds before) kind.Entry (λ said. said.entry) (numbered_next before entry) place rest
-    (entry_line (length before + 1) entry low fits) next left
+    (entry_line (length before + 1) entry low fits sorted) next left
 
 pub note_told : (history : List Entry) (before : List Note) (note : Note) → IsNextNote history before note → FitsNote note → IsTold (TellsNote history) (λ k. note_text) before note
 note_told history before note next fits place rest left =

@@ -9,15 +9,18 @@ use Rattle.dm_base.specs.declared.ids.ActId.{ActId}
 use Rattle.dm_graph.specs.Arcs.{Arcs, IsCycle}
 use Rattle.dm_network.specs.Net.{Net, activity_at}
 use Rattle.dm_network.specs.Held.{arcs_of, ShowsCycleOf}
+use Rattle.dm_rows.specs.declared.messages.Choice.{Choice}
 use Rattle.dm_rows.specs.declared.messages.Entry.{Entry}
+use Rattle.dm_rows.specs.declared.messages.Message.{Message}
 use Rattle.dm_rows.specs.declared.messages.Refusal.{Refusal}
 use Rattle.dm_rows.specs.declared.messages.Refusal.TheVariants as refusal
 use Rattle.dm_rows.specs.Active.{is_active}
 use Rattle.dm_rows.specs.Refuse.{Refuses}
 use Rattle.dm_rows.specs.Resolve.{after}
-use Rattle.dm_feed.specs.Parts.{largest_id}
+use Rattle.dm_feed.specs.Parts.{Fits, largest_id}
+use Rattle.dm_feed.specs.Lines.{parts_of_choice, spelling_of_choice}
 use Rattle.dm_feed.specs.declared.grammar.Line.{Line}
-use Rattle.dm_feed.specs.declared.grammar.Line.TheVariants.{Say, Time as AskTime, CostNow as AskCost, Plan as AskPlan, Solve as AskSolve, Adopt as AskAdopt, Read as AskRead}
+use Rattle.dm_feed.specs.declared.grammar.Line.TheVariants.{Say, Time as AskTime, CostNow as AskCost, Plan as AskPlan, Solve as AskSolve, Adopt as AskAdopt, Carry as AskCarry, Read as AskRead}
 use Rattle.dm_tree.specs.declared.adopting.Chosen.{Chosen}
 use Rattle.dm_tree.specs.declared.plans.Plan.{Plan}
 use Rattle.dm_parts.specs.declared.parts.PlanByParts.{PlanByParts}
@@ -25,12 +28,13 @@ use Rattle.dm_rows.specs.declared.messages.At.{At}
 use Rattle.dm_cert.specs.declared.replies.Reply.{Reply}
 use Rattle.dm_cert.specs.declared.replies.Reply.TheVariants as reply
 use Rattle.dm_cert.specs.declared.replies.LogItem.{LogItem}
-use Rattle.dm_cert.specs.Answers.{Setting, rows_after, latest_plan, HasNoRoom, IsTrueReply}
+use Rattle.dm_cert.specs.Answers.{Setting, rows_after, latest_plan, HasNoRoom, IsRefused, carried, IsTrueReply}
 use Rattle.dm_cert.specs.PlanTexts.{line_end, largest_cost}
 use Rattle.dm_cert.specs.RunTexts.{reply_text, reason_text, spaced_id, FitsReason, FitsReply, IsSpelledReason, IsSpelledReply}
 use Rattle.dm_cert.proofs.LineFeeds.{NoFeed, no_feed_append, no_feed_decimal}
 use Rattle.dm_records.specs.RunLines.{IsFormedReason, IsFormedReply}
 use Rattle.dm_records.proofs.LinesSpelled.{number_then}
+use Rattle.dm_records.proofs.Splitting.{parts_no_feed}
 
 -- ---- an answer of one line
 
@@ -49,6 +53,11 @@ two_numbers : (words : List ℕ) (m n : ℕ) → NoFeed words → m ≤ largest_
 two_numbers words m n none low high =
     no_feed_append words (decimal m ++ (codes " " ++ (decimal n ++ []))) none (number_then m (codes " " ++ (decimal n ++ [])) low (one_number (codes " ") n refl high))
 
+-- words with a choice
+choice_no_feed : (words : List ℕ) (c : Choice) → NoFeed words → All Fits (parts_of_choice c) → NoFeed (words ++ (spelling_of_choice c ++ []))
+choice_no_feed words c none fits =
+    no_feed_append words (spelling_of_choice c ++ []) none (no_feed_append (spelling_of_choice c) [] (parts_no_feed (parts_of_choice c) fits) refl)
+
 reason_no_feed : (why : Refusal) → IsFormedReason why → NoFeed (reason_text why)
 reason_no_feed (refusal.Range v) formed = one_number (codes "range ") v refl formed
 reason_no_feed (refusal.UnknownEvent e) formed = one_number (codes "unknown-event ") e.0 refl (omega (arith, formed))
@@ -57,6 +66,10 @@ reason_no_feed (refusal.UnknownChange a) formed = one_number (codes "unknown-cha
 reason_no_feed (refusal.UnknownPair i j) formed = two_numbers (codes "unknown-pair ") i.0 j.0 refl (omega (arith, formed.0)) (omega (arith, formed.1))
 reason_no_feed (refusal.Passed e t) formed = two_numbers (codes "passed ") e.0 t refl (omega (arith, formed.0)) formed.1
 reason_no_feed (refusal.NotPassed e) formed = one_number (codes "not-passed ") e.0 refl (omega (arith, formed))
+reason_no_feed (refusal.Cancelled e) formed = one_number (codes "cancelled ") e.0 refl (omega (arith, formed))
+reason_no_feed (refusal.NotCancelled e) formed = one_number (codes "not-cancelled ") e.0 refl (omega (arith, formed))
+reason_no_feed (refusal.Locked c) formed = choice_no_feed (codes "locked ") c refl formed.0
+reason_no_feed (refusal.NotLocked c) formed = choice_no_feed (codes "not-locked ") c refl formed.0
 reason_no_feed (refusal.Back c) formed = one_number (codes "back ") c refl formed
 reason_no_feed (refusal.Cycle ids) formed = no_feed_append (codes "cycle") (flat_map spaced_id ids ++ []) refl (no_feed_append (flat_map spaced_id ids) [] (ids_no_feed ids formed.1) refl)
 reason_no_feed (refusal.Full n) formed = refl
@@ -122,6 +135,14 @@ no_room_no_cycle : (history : List Entry) (n : ℕ) (why : Refusal) (ids : List 
 no_room_no_cycle history n why ids None is e = absurd is
 no_room_no_cycle history n why ids (Some plan) is e = let full = is.is_why in absurd cc
 
+carry_cycle : (s : Setting) (history : List Entry) (at : At Refusal) (ids : List ActId) (latest : Option Chosen) →
+    IsSomeAnd latest (λ plan. IsRefused s history at.entry (carried s history at.entry plan.choices) at.why) → at.why ≡ refusal.Cycle ids → 0 < length ids
+carry_cycle s history at ids None is e = absurd is
+carry_cycle s history at ids (Some plan) is e =
+    let message : Message = carried s history at.entry plan.choices in
+    let refuses = subst (λ (r : Refusal). Refuses s.net (rows_after s history at.entry) at.entry message r) e is.refuses in
+    some_id s.net (is_active s.net (after s.net (rows_after s history at.entry) message)) ids refuses.2
+
 refused_cycle : (s : Setting) (history : List Entry) (feed : ℕ) (before : List LogItem) (line : ℕ) (said : Line) (at : At Refusal) (ids : List ActId) →
     IsTrueReply s history feed before line said (reply.Refused at) → at.why ≡ refusal.Cycle ids → 0 < length ids
 refused_cycle s history feed before line (Say message) at ids is e =
@@ -132,6 +153,7 @@ refused_cycle s history feed before line AskCost at ids is e = absurd is
 refused_cycle s history feed before line (AskPlan budget) at ids is e = absurd is
 refused_cycle s history feed before line (AskSolve budget) at ids is e = absurd is
 refused_cycle s history feed before line AskAdopt at ids is e = absurd (no_room_no_cycle history at.entry at.why ids (latest_plan before) is e)
+refused_cycle s history feed before line AskCarry at ids is e = carry_cycle s history at ids (latest_plan before) is e
 refused_cycle s history feed before line AskRead at ids is e = absurd is
 
 -- ---- forms
@@ -144,6 +166,10 @@ formed_reason (refusal.UnknownChange a) fits is some = fits
 formed_reason (refusal.UnknownPair i j) fits is some = fits
 formed_reason (refusal.Passed e t) fits is some = (fits.0, (let low = fits.1 in omega arith))
 formed_reason (refusal.NotPassed e) fits is some = fits
+formed_reason (refusal.Cancelled e) fits is some = fits
+formed_reason (refusal.NotCancelled e) fits is some = fits
+formed_reason (refusal.Locked c) fits is some = (fits, is)
+formed_reason (refusal.NotLocked c) fits is some = (fits, is)
 formed_reason (refusal.Back c) fits is some = omega arith
 formed_reason (refusal.Cycle ids) fits is some = (some ids refl, fits)
 formed_reason (refusal.Full n) fits is some = is

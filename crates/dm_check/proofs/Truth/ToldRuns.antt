@@ -14,6 +14,7 @@ use Rattle.dm_rows.specs.Refuse.{Refuses}
 use Rattle.dm_rows.specs.History.{IsLegal}
 use Rattle.dm_rows.specs.Timetable.{IsLeast, time_at}
 use Rattle.dm_rows.specs.Cost.{cost_of}
+use Rattle.dm_feed.specs.Lines.{HasSortedChoice}
 use Rattle.dm_feed.specs.Parts.{largest_value}
 use Rattle.dm_check_rows.proofs.Telling.{one_least}
 use Rattle.dm_cert.specs.declared.notes.Note.{Note}
@@ -40,6 +41,7 @@ use Rattle.dm_check.proofs.Truth.Truths.{last_entry, next_true, next_in_order}
 record IsSoundEntry (s : Setting) (before : List Entry) (entry : Entry) : Type 0 where
   accepted : (r : Refusal) → Refuses s.net (rows_after s before (length before)) (length before) entry.message r → ⊥
   fits : FitsEntry entry
+  sorted : HasSortedChoice entry.message
 
 entry_sound : (s : Setting) (feeds : ℕ) → feeds ≤ FEEDS → Says (TellsEntry s feeds) (IsSoundEntry s)
 entry_sound s feeds few before place entry next told =
@@ -47,7 +49,7 @@ entry_sound s feeds few before place entry next told =
     let rule = told.then.0 in
     let line = told.told.spelled in
     subst (IsSoundEntry s before) (sym told.then.1)
-    (record { accepted = rule.accepted; fits = ((let low = rule.feed in omega (arith, low, few)), line.of_line, line.message) })
+    (record { accepted = rule.accepted; fits = ((let low = rule.feed in omega (arith, low, few)), line.of_line, line.message); sorted = line.sorted })
 
 legal : (s : Setting) (history : List Entry) → length history ≤ ENTRIES → Each (IsSoundEntry s) [] history → IsLegal s.net s.start history
 legal s history few each = record {
@@ -242,6 +244,7 @@ good_texts_are_true net start penalty most_plans text entries plans network limi
           cost = (let bound = cost_on.told.told.spelled.fits in let is = cost_on.told.then.1 in omega (arith, bound, is));
         };
         is_spelled = record {
+          history = all_of_each (IsSoundEntry s) (λ (entry : Entry). HasSortedChoice entry.message) (λ before entry sound_entry. sound_entry.sorted) [] history each_entry.each;
           logs = all_of_each (IsSoundLog s history) IsSpelledLog (λ before log sound_log. sound_log.spelled) [] logs each_log.each;
           times = each_time.count;
         };

@@ -8,6 +8,8 @@ use Rattle.dm_text.specs.Judging.{Times, Then, Demands}
 use Rattle.dm_network.specs.Net.{EventIdsFit}
 use Rattle.dm_rows.specs.Rows.{RowsValue}
 use Rattle.dm_rows.specs.Cost.{Costs}
+use Rattle.dm_rows.specs.declared.messages.Entry.{Entry}
+use Rattle.dm_feed.specs.Lines.{HasSortedChoice}
 use Rattle.dm_feed.specs.Parts.{largest_id, largest_value}
 use Rattle.dm_cert.specs.Answers.{Setting, rows_after}
 use Rattle.dm_cert.specs.PlanTexts.{line_end, largest_cost}
@@ -48,13 +50,15 @@ module _ (version most_plans : ℕ) (start : RowsValue) (run : Run) (text : List
 
   entries_told : Each (IsTold (TellsEntry s (length run.logs)) (λ k. entry_text (k + 1))) [] run.history
   entries_told =
-      each_both (λ before entry. IsNextEntry s (length run.logs) before (numbered_next before entry)) (λ before entry. (length before + 1 ≤ largest_id) × FitsEntry entry)
-      (IsTold (TellsEntry s (length run.logs)) (λ k. entry_text (k + 1))) (λ before entry next low. entry_told s (length run.logs) before entry next low.0 low.1) [] run.history
+      each_both (λ before entry. IsNextEntry s (length run.logs) before (numbered_next before entry))
+      (λ before entry. (length before + 1 ≤ largest_id) × FitsEntry entry × HasSortedChoice entry.message)
+      (IsTold (TellsEntry s (length run.logs)) (λ k. entry_text (k + 1))) (λ before entry next low. entry_told s (length run.logs) before entry next low.0 low.1 low.2) [] run.history
       (entries_next s run.history run.logs is.is_true.legal is.is_true.logs)
-      (each_of_splits (λ before entry. (length before + 1 ≤ largest_id) × FitsEntry entry) run.history
+      (each_of_splits (λ before entry. (length before + 1 ≤ largest_id) × FitsEntry entry × HasSortedChoice entry.message) run.history
       (λ before entry later e. (
         (let size = ap length e ∙ length-append before (entry ∷ later) in let few : length run.history ≤ 1000000 = is.is_true.legal.size in omega arith),
         all_there FitsEntry before entry later (subst (All FitsEntry) e is.fits.history),
+        all_there (λ (x : Entry). HasSortedChoice x.message) before entry later (subst (All (λ (x : Entry). HasSortedChoice x.message)) e is.is_spelled.history),
       ))
       [] run.history refl)
 

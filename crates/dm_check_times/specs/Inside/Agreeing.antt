@@ -8,7 +8,7 @@ use Rattle.dm_rows.specs.Timetable.{floor_of, span_of}
 use Rattle.dm_rows.specs.declared.messages.Flip.{Flip}
 use Rattle.dm_rows.specs.declared.messages.Flip.TheVariants.{Keep, Drop, First}
 use Rattle.dm_rows.specs.declared.messages.Change.{Change}
-use Rattle.dm_rows.specs.declared.messages.Change.TheVariants.{EventDelay, ActDelay, Passed, Recalled, Flipped, Adopted, Clock}
+use Rattle.dm_rows.specs.declared.messages.Change.TheVariants.{EventDelay, ActDelay, Passed, Recalled, Flipped, Adopted, Clock, Cancelled, Restored, Locked, Unlocked}
 use Rattle.dm_schedule.specs.Schedule.{IsInFront}
 use Rattle.dm_schedule.specs.declared.schedule.Scheduled.{Scheduled}
 use Rattle.dm_check_times.specs.Timetables.{KeptTimetableValue, TakesClock}
@@ -97,7 +97,7 @@ abbrev pub is_adopted : Change → Bool
 is_adopted (Adopted flips) = true
 is_adopted _ = false
 
--- what a change is about agrees with the rows now, and nothing has changed for an adopted list
+-- what a change is about agrees with the rows now, and nothing has changed for an adopted list and a lock
 abbrev pub RenewsFor : Net → RowsValue → Change → KeptTimetableValue → KeptTimetableValue → Type 0
 RenewsFor net rows (EventDelay i d) old new = Renews net rows (Here i) Nowhere old new
 RenewsFor net rows (ActDelay a d) old new = Renews net rows Nowhere (Here a) old new
@@ -106,3 +106,7 @@ RenewsFor net rows (Recalled i) old new = Renews net rows (Here i) (LeadsAt net 
 RenewsFor net rows (Flipped flip) old new = Renews net rows Nowhere (IsDecided net flip) old new
 RenewsFor net rows (Adopted flips) old new = new ≡ old
 RenewsFor net rows (Clock t) old new = MovesClock net rows old new
+RenewsFor net rows (Cancelled i) old new = Renews net rows (Here i) (LeadsAt net i) old new
+RenewsFor net rows (Restored i) old new = Renews net rows (Here i) (LeadsAt net i) old new
+RenewsFor net rows (Locked spot) old new = new ≡ old
+RenewsFor net rows (Unlocked spot) old new = new ≡ old

@@ -4,11 +4,12 @@ use Rattle.dm_network.specs.Net.{Net}
 use Rattle.dm_rows.specs.Rows.{RowsValue}
 use Rattle.dm_rows.specs.declared.messages.Flip.{Flip}
 use Rattle.dm_rows.specs.declared.messages.Flip.TheVariants.{Keep, Drop, First}
-use Rattle.dm_check_times.specs.KeptCosts.{KeptCostValue, IsPricedAt}
+use Rattle.dm_check_times.specs.KeptCosts.{KeptCostValue, IsPricedAt, KeepsLate}
 
 -- the weights at these places are right now, and whichever was right still is
 pub record Reprices (net : Net) (rows : RowsValue) (charges : ℕ → Bool) (places : ℕ → Type 0) (old new : KeptCostValue) : Type 0 where
   pub times : new.times ≡ old.times
+  pub late : KeepsLate old new
   pub there : (a : ℕ) → places a → IsPricedAt net rows charges new a
   pub kept : (a : ℕ) → IsPricedAt net rows charges old a → IsPricedAt net rows charges new a
 

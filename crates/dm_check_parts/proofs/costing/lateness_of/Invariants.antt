@@ -8,4 +8,4 @@ use Rattle.dm_check_parts.proofs.Summed.{IsSumTo}
 use Rattle.dm_check_parts.proofs.costing.lateness_of.Given as goal
 
 abbrev pub invariant-loop-id : goal.invariant-loop-id
-invariant-loop-id l = IsSumTo (λ (id : EventId). at_place (event_cost l.net l.times) (event_place l.net id)) l.ids (WEIGHT * 2 ^ 38) l.id-index l.total
+invariant-loop-id l = IsSumTo (λ (id : EventId). at_place (event_cost l.net l.rows l.times) (event_place l.net id)) l.ids (WEIGHT * 2 ^ 38) l.id-index l.total

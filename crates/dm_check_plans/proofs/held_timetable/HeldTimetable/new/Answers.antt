@@ -9,10 +9,10 @@ begin_again-requires c =
     let rows = c.args.rows.now in
     let kept = c.in_ok-kept.kept in
     let of_rows = c.in_ok-kept.ensures.rows in
-    let early = floors_are_early net rows kept.floors c.reveal.ensures.within c.is_within_limits.ensures of_rows.floors in
+    let early = floors_are_early net rows kept.floors c.reveal.ensures.within c.is_within_limits.ensures.limits of_rows.floors in
     record {
       room = c.in_ok-kept.ensures.room;
-      bindings = spans_are_bindings net rows kept.held kept.spans c.reveal.ensures.within c.is_within_limits.ensures (ap (λ (f : List Bool). length f) c.in_ok-kept.ensures.held ∙ c.requires.flags) of_rows.spans;
+      bindings = spans_are_bindings net rows kept.held kept.spans c.reveal.ensures.within c.is_within_limits.ensures.limits (ap (λ (f : List Bool). length f) c.in_ok-kept.ensures.held ∙ c.requires.flags) of_rows.spans;
       early_floors = early;
       first = floors_known net kept c.in_ok-first.first c.activities.result c.activities.ensures.count c.in_ok-first.ensures.held (c.in_ok-first.ensures.times ∙ c.floors.ensures) of_rows.floors.as_many early;
     }

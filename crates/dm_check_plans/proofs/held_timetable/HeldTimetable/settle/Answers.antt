@@ -9,7 +9,7 @@ keep_first-requires-clause-timetable c =
     let net = c.args.net.now in
     let rows = c.args.rows.now in
     now_settled net rows c.follow.new.self (still_of_rows net rows c.args.self.now c.follow.new.self c.requires.rows c.follow.ensures.keeps)
-    c.reveal.ensures.network c.reveal.ensures.within c.is_within_limits.ensures c.follow.ensures.room c.in-Ok.ensures.least c.follow.ensures.none_stale
+    c.reveal.ensures.network c.reveal.ensures.within c.is_within_limits.ensures.limits c.follow.ensures.room c.in-Ok.ensures.least c.follow.ensures.none_stale
 
 pub returns-in-Ok-clause-least : goal.returns-in-Ok-clause-least
 returns-in-Ok-clause-least c = λ holds flags enters.
@@ -32,7 +32,7 @@ returns-in-Ok-clause-early c =
     let rows = c.args.rows.now in
     subst (λ (x : List ℕ). AreBelowLimit x) (sym c.keep_first.ensures.times)
     (now_below net rows c.follow.new.self (still_of_rows net rows c.args.self.now c.follow.new.self c.requires.rows c.follow.ensures.keeps) c.reveal.ensures.network
-    c.reveal.ensures.within c.is_within_limits.ensures c.follow.ensures.room.room.times c.in-Ok.ensures.least)
+    c.reveal.ensures.within c.is_within_limits.ensures.limits c.follow.ensures.room.room.times c.in-Ok.ensures.least)
 
 pub returns-in-Err-clause-cyclic : goal.returns-in-Err-clause-cyclic
 returns-in-Err-clause-cyclic c = λ holds flags.

@@ -7,6 +7,5 @@ pub returns : goal.returns
 returns c =
     let zeros : c.in_ok-times.times.items ≡ replicate c.events.result 0 = search rules in
     let none : c.in_ok-vec.field-0.items ≡ replicate c.activities.result 0 = search rules in
-    begins c.args.net.now c.in_ok-times.times.items c.deref.result.now c.in_ok-vec.field-0.items c.lateness_cost-lateness.result
-    (zeros ∙ ap (λ (n : ℕ). replicate n 0) c.events.ensures.count) c.deref.ensures.value c.lateness_cost-lateness.ensures.cost c.lateness_cost-lateness.ensures.limit
-    (none ∙ ap (λ (n : ℕ). replicate n 0) c.activities.ensures.count)
+    begins c.args.net.now c.in_ok-times.times.items c.in_ok-vec.field-0.items
+    (zeros ∙ ap (λ (n : ℕ). replicate n 0) c.events.ensures.count) (none ∙ ap (λ (n : ℕ). replicate n 0) c.activities.ensures.count)

@@ -10,4 +10,4 @@ returns-clause-renews c =
     let size = c.requires.kept.weighed.as_many in
     weight_renewed net c.args.rows.now charges c.args.a c.priced_weight-weight.result c.args.self.now c.set.new.self (omega (arith, size, c.requires.is_activity))
     (c.priced_weight-weight.ensures.weight ∙ ap (λ (x : List ℕ). priced_weight net c.args.rows.now charges x c.args.a) (c.deref.ensures.value ∙ ap (λ (k : KeptCostValue). k.times) c.self.view_is))
-    c.set.ensures.weights c.set.ensures.times
+    c.set.ensures.weights c.set.ensures.times c.set.ensures.late

@@ -61,14 +61,14 @@ returns-clause-settled c =
     let as_many : length c.raise.new.times ≡ length net.events = c.raise.ensures.as_many ∙ (ap (λ (x : List ℕ). length x) (began c) ∙ of_rows.floors.as_many) in
     let size : length c.copy_from_slice.new.self.items ≡ length net.events = ap (λ (x : List ℕ). length x) (copied c) ∙ of_rows.floors.as_many in
     let flag_size : length (held c) ≡ length net.activities = ap (λ (x : List Bool). length x) (held_is c) ∙ c.flag_active.ensures.as_many in
-    settled_ok c.raise.result net rows c.reveal.ensures.network c.reveal.ensures.within c.is_within_limits.ensures (held c) c.deref-2.result.now (spans c) c.deref-3.result.now (floors c) (floors c)
+    settled_ok c.raise.result net rows c.reveal.ensures.network c.reveal.ensures.within c.is_within_limits.ensures.limits (held c) c.deref-2.result.now (spans c) c.deref-3.result.now (floors c) (floors c)
     c.deref-2.ensures.value c.deref-3.ensures.value refl c.clock-self-inside.result c.raise.new.times (with_items c.copy_from_slice.new.self c.raise.new.times).items c.clear_all.new.self c.raise.new.due
     (written c.copy_from_slice.new.self c.raise.new.times (length net.events) as_many size)
     (record { held = flag_size; spans = of_rows.spans.as_many; floors = of_rows.floors.as_many; times = as_many; stale = c.clear_all.ensures.as_many ∙ (room c).stale; due = c.raise.ensures.as_many_due ∙ all_due })
-    (spans_are_bindings net rows (held c) (spans c) c.reveal.ensures.within c.is_within_limits.ensures flag_size of_rows.spans) (floors_are_early net rows (floors c) c.reveal.ensures.within c.is_within_limits.ensures of_rows.floors)
+    (spans_are_bindings net rows (held c) (spans c) c.reveal.ensures.within c.is_within_limits.ensures.limits flag_size of_rows.spans) (floors_are_early net rows (floors c) c.reveal.ensures.within c.is_within_limits.ensures.limits of_rows.floors)
     (record { held = of_rows.held; spans = of_rows.spans; floors = of_rows.floors; clock = of_rows.clock }) c.clear_all.ensures.none (c.raise.ensures.least (slice_index (floors c)) (begins c))
 
 pub returns-clause-cyclic : goal.returns-clause-cyclic
 returns-clause-cyclic c =
-    settled_err c.raise.result c.args.net.now c.args.rows.now c.reveal.ensures.network c.reveal.ensures.within c.is_within_limits.ensures (held c) c.deref-2.result.now (spans c) c.deref-3.result.now (floors c) (floors c)
+    settled_err c.raise.result c.args.net.now c.args.rows.now c.reveal.ensures.network c.reveal.ensures.within c.is_within_limits.ensures.limits (held c) c.deref-2.result.now (spans c) c.deref-3.result.now (floors c) (floors c)
     c.deref-2.ensures.value c.deref-3.ensures.value refl c.clock-self-inside.result (floors c) c.clear_all.new.self c.raise.new.due (agrees c) (c.raise.ensures.cyclic (slice_index (floors c)) (begins c))

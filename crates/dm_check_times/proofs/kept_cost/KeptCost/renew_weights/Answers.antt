@@ -1,7 +1,7 @@
 use Rattle.std.proofs.Common.{arith}
 use Rattle.dm_check_times.specs.KeptCosts.{charges_of}
-use Rattle.dm_check_times.proofs.Weighing.{below_none, below_more, weight_reprices}
-use Rattle.dm_check_times.proofs.kept_cost.KeptCost.renew_all.Goals as goal
+use Rattle.dm_check_times.proofs.Weighing.{all_priced, below_none, below_more, weight_reprices}
+use Rattle.dm_check_times.proofs.kept_cost.KeptCost.renew_weights.Goals as goal
 
 pub loop-a-init : goal.loop-a-init
 loop-a-init c = record {
@@ -20,4 +20,6 @@ pub returns-clause-times : goal.returns-clause-times
 returns-clause-times c = c.loop-a.invariant.reprices.times
 
 pub returns-clause-priced : goal.returns-clause-priced
-returns-clause-priced c = λ a below. c.loop-a.invariant.reprices.there a (omega (arith, below, c.activities-a-end.ensures.count))
+returns-clause-priced c =
+    all_priced c.args.net.now c.args.rows.now (charges_of c.args.net.now c.args.rows.now c.args.charges.now) c.loop-a.a c.args.self.now c.loop-a.self
+    (omega (arith, c.activities-a-end.ensures.count)) c.requires.late c.loop-a.invariant.reprices

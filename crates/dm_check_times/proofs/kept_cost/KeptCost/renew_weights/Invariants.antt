@@ -1,7 +1,7 @@
 use Rattle.dm_check_times.specs.Inside.Agreeing.{Below}
 use Rattle.dm_check_times.specs.Inside.Pricing.{Reprices}
 use Rattle.dm_check_times.specs.KeptCosts.{IsKeptCostOf, charges_of}
-use Rattle.dm_check_times.proofs.kept_cost.KeptCost.renew_all.Given as goal
+use Rattle.dm_check_times.proofs.kept_cost.KeptCost.renew_weights.Given as goal
 
 abbrev pub invariant-loop-a : goal.invariant-loop-a
 invariant-loop-a l = record {
