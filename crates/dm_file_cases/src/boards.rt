@@ -23,6 +23,24 @@ fn file_board_appends_what_changes(rt: HostRuntime) -> Result<(), Fail> {
 }
 
 #[test]
+fn file_board_tells_what_is_cancelled(rt: HostRuntime) -> Result<(), Fail> {
+    let path = String::from_str(rt.alloc(), "board-3.txt")?;
+    let mut board = FileBoard::new(rt.alloc(), rt, path, 3);
+    assert!(rt; board.cancel(&[(3, true)]).is_ok());
+    assert!(rt; board.show(&[(2, 200), (3, 220)]).is_ok());
+    assert_eq!(rt; board.cancelled(3), Some(true));
+    assert!(rt; board.cancel(&[(3, false), (2, true)]).is_ok());
+    assert!(rt; board.show(&[(3, 220)]).is_ok());
+    assert_eq!(rt; board.cancelled(3), Some(false));
+    let bytes = fs::read(&rt, "board-3.txt")?;
+    assert_eq!(rt;
+        bytes.as_slice(),
+        b"3; cancelled\n2; 200\n2; cancelled\n3; 220\n".as_slice()
+    );
+    Ok(())
+}
+
+#[test]
 fn file_board_fails_where_its_file_cannot_be_made(rt: HostRuntime) -> Result<(), Fail> {
     fs::create_dir(&rt, "board-4.txt")?;
     let path = String::from_str(rt.alloc(), "board-4.txt")?;

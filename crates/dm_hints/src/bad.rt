@@ -79,7 +79,9 @@ fn tell_look<R: Eprint>(rt: &R, plans: u32, line: u64, kind: &[u8]) -> io::Resul
             rt,
             line,
             &[
-                Piece::Text("are the network, its columns, the delays at the start and --plans="),
+                Piece::Text(
+                    "are the network, its columns, the delays and the cancelled events at the start and --plans=",
+                ),
                 Piece::Number(plans as u128),
                 Piece::Text(" those of the run, and the text unchanged?"),
             ],
@@ -89,7 +91,7 @@ fn tell_look<R: Eprint>(rt: &R, plans: u32, line: u64, kind: &[u8]) -> io::Resul
         rt,
         line,
         &[Piece::Text(
-            "are the network, its columns and the delays at the start those of the run, and the text unchanged?",
+            "are the network, its columns, the delays and the cancelled events at the start those of the run, and the text unchanged?",
         )],
     )
 }

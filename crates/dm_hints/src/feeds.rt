@@ -14,7 +14,7 @@ use std::io;
 use std::rt::Files;
 
 /// The first words of lines, and the form of such a line.
-const FORMS: [(&str, &str); 13] = [
+const FORMS: [(&str, &str); 18] = [
     (
         "delay",
         "the form is `delay event E D` or `delay activity A D`",
@@ -25,12 +25,17 @@ const FORMS: [(&str, &str); 13] = [
     ("drop", "the form is `drop A`"),
     ("first", "the form is `first E F`"),
     ("now", "the form is `now T`"),
+    ("cancel", "the form is `cancel E`"),
+    ("restore", "the form is `restore E`"),
+    ("lock", "the form is `lock A` or `lock E F`"),
+    ("unlock", "the form is `unlock A` or `unlock E F`"),
     ("time", "the form is `time E`"),
     ("cost", "the form is `cost`"),
     ("read", "the form is `read`"),
     ("plan", "the form is `plan B`"),
     ("solve", "the form is `solve B`"),
     ("adopt", "the form is `adopt`"),
+    ("carry", "the form is `carry`"),
 ];
 
 /// Says what is amiss in a run: in its feeds, in its answers, and in its boards.
@@ -207,7 +212,7 @@ fn form_of(line: &[u8]) -> &'static str {
             return *form;
         }
     }
-    "no line begins with this word: delay, pass, recall, keep, drop, first, now, time, cost, read, plan, solve, adopt"
+    "no line begins with this word: delay, pass, recall, cancel, restore, keep, drop, first, lock, unlock, now, time, cost, read, plan, solve, adopt, carry"
 }
 
 /// Says how many lines were refused for each reason.

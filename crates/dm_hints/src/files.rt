@@ -78,6 +78,7 @@ fn name_in_folder<'a>(files: &FileWords<'a>, file: InputFile) -> &'a str {
         InputFile::Activities => "Activities-expanded.giv",
         InputFile::EventDelays => files.event_delays.unwrap_or(""),
         InputFile::ActivityDelays => files.activity_delays.unwrap_or(""),
+        InputFile::CancelledEvents => files.cancelled.unwrap_or(""),
     }
 }
 
@@ -135,6 +136,7 @@ pub fn columns_of(words: &[String], file: InputFile) -> &str {
         InputFile::Events => value_or("--event-columns=", words, EVENT_WORDS),
         InputFile::Activities => value_or("--activity-columns=", words, ACTIVITY_WORDS),
         InputFile::EventDelays | InputFile::ActivityDelays => "id,delay",
+        InputFile::CancelledEvents => "id",
     }
 }
 

@@ -61,7 +61,7 @@ pub enum Stop {
 }
 
 /// Why a line is refused.
-pub const REASONS: [&str; 13] = [
+pub const REASONS: [&str; 17] = [
     "range",
     "unknown-event",
     "unknown-activity",
@@ -69,6 +69,10 @@ pub const REASONS: [&str; 13] = [
     "unknown-pair",
     "passed",
     "not-passed",
+    "cancelled",
+    "not-cancelled",
+    "locked",
+    "not-locked",
     "cycle",
     "back",
     "full",
@@ -113,7 +117,7 @@ pub struct Heard {
     pub feeds: [FeedHeard; FEEDS],
 
     /// How many lines were refused for each reason, in the order of `REASONS`.
-    pub refused: [u32; 13],
+    pub refused: [u32; 17],
 }
 
 impl Heard {
@@ -131,7 +135,7 @@ impl Heard {
             is_done: false,
             feed: 0,
             feeds: [silent; FEEDS],
-            refused: [0; 13],
+            refused: [0; 17],
         }
     }
 

@@ -186,7 +186,7 @@ fn tell_false<'a, R: Eprint>(rt: &R, line: &'a str, means: &'a str) -> io::Resul
             Piece::Text(" of the text of the journal: "),
             Piece::Text(means),
             Piece::Text(
-                "; are the network, its columns and the delays at the start those of the store?",
+                "; are the network, its columns, the delays and the cancelled events at the start those of the store?",
             ),
         ],
     )

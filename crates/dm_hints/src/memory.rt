@@ -51,6 +51,7 @@ fn folder_bytes<R: Files<File = File> + AllocGlobal>(rt: &R, files: &FileWords<'
         .saturating_add(file_bytes(rt, files, InputFile::Activities))
         .saturating_add(file_bytes(rt, files, InputFile::EventDelays))
         .saturating_add(file_bytes(rt, files, InputFile::ActivityDelays))
+        .saturating_add(file_bytes(rt, files, InputFile::CancelledEvents))
 }
 
 /// How many bytes a file of the folder has, or none where the words name no such file.
@@ -62,6 +63,7 @@ fn file_bytes<R: Files<File = File> + AllocGlobal>(
     let is_named = match file {
         InputFile::EventDelays => files.event_delays.is_some(),
         InputFile::ActivityDelays => files.activity_delays.is_some(),
+        InputFile::CancelledEvents => files.cancelled.is_some(),
         InputFile::Events | InputFile::Activities => true,
     };
     if !is_named {

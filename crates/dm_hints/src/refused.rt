@@ -1,12 +1,12 @@
 //! Why the files of a folder make no network with start rows.
 use crate::cycles::tell_network;
-use crate::files::{columns_of, path_of, size_of_file, tell_reason};
+use crate::files::{columns_of, path_of, read_again, size_of_file, tell_reason};
 use crate::records::{FileLine, field_under, fields, line_of_record};
 use crate::saying::{say, say_at};
 use crate::text::shown;
 use dm_base::limits::FILE;
 use dm_input::{File as InputFile, FileFlaw, InputFlaw, InputStop, read_opening, take_name};
-use dm_lintim::{Column, FileFault, FileKind};
+use dm_lintim::{Column, FileFault, FileKind, read_delays};
 use dm_outside::{FolderShelf, Piece};
 use dm_rows::StartFault;
 use dm_words::FileWords;
@@ -216,8 +216,8 @@ fn types_of(file: InputFile) -> &'static str {
     }
 }
 
-/// Says which delay is of no event or of no activity.
-fn tell_start<R: Eprint + AllocGlobal>(
+/// Says which delay is of no event or of no activity, or which event to cancel is none.
+fn tell_start<R: Eprint + Files<File = File> + AllocGlobal>(
     rt: &R,
     files: &FileWords<'_>,
     fault: &StartFault,
@@ -225,14 +225,25 @@ fn tell_start<R: Eprint + AllocGlobal>(
     match fault {
         StartFault::UnknownEvent(id) => {
             let rest = ", and the events file has no such event";
-            tell_delay(
-                rt,
-                files,
-                InputFile::EventDelays,
-                " has a delay of event ",
-                id.0,
-                rest,
-            )
+            if has_delay(rt, files, id.0) {
+                tell_delay(
+                    rt,
+                    files,
+                    InputFile::EventDelays,
+                    " has a delay of event ",
+                    id.0,
+                    rest,
+                )
+            } else {
+                tell_delay(
+                    rt,
+                    files,
+                    InputFile::CancelledEvents,
+                    " cancels event ",
+                    id.0,
+                    rest,
+                )
+            }
         }
         StartFault::UnknownActivity(id) => {
             let rest = ", and the activities file has no such activity";
@@ -249,7 +260,21 @@ fn tell_start<R: Eprint + AllocGlobal>(
     }
 }
 
-/// Says of a file of delays what it has a delay of.
+/// Whether the file of the event delays has a delay of the event with this id.
+fn has_delay<R: Files<File = File> + AllocGlobal>(rt: &R, files: &FileWords<'_>, id: u32) -> bool {
+    if files.event_delays.is_none() {
+        return false;
+    }
+    let Some(file) = read_again(rt, files, InputFile::EventDelays) else {
+        return false;
+    };
+    match read_delays(rt.alloc(), file.bytes()) {
+        Ok(delays) => delays.iter().any(|delay| delay.id == id),
+        Err(_) => false,
+    }
+}
+
+/// Says of a file of delays, or of cancelled events, what it has a line of.
 fn tell_delay<R: Eprint + AllocGlobal>(
     rt: &R,
     files: &FileWords<'_>,

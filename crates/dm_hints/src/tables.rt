@@ -72,12 +72,15 @@ const MINIMAL: u32 = 4096;
 
 const SOLVE: u32 = 8192;
 
+const CANCELLED: u32 = 16384;
+
 const FILES: u32 = PENALTY
     + PLANS
     + EVENT_COLUMNS
     + ACTIVITY_COLUMNS
     + EVENT_DELAYS
-    + ACTIVITY_DELAYS;
+    + ACTIVITY_DELAYS
+    + CANCELLED;
 
 /// All commands.
 pub const COMMANDS: [CommandTable; 9] = [
@@ -147,7 +150,7 @@ pub const COMMANDS: [CommandTable; 9] = [
 ];
 
 /// All options.
-pub const OPTIONS: [OptionTable; 14] = [
+pub const OPTIONS: [OptionTable; 15] = [
     OptionTable {
         bit: PENALTY,
         name: "--penalty=",
@@ -156,7 +159,7 @@ pub const OPTIONS: [OptionTable; 14] = [
             least: 0,
             most: 1_000_000,
         },
-        meaning: "seconds for each passenger who misses a change (3600)",
+        meaning: "seconds for each passenger who misses a change, or whose train is cancelled (3600)",
     },
     OptionTable {
         bit: PLANS,
@@ -212,6 +215,13 @@ pub const OPTIONS: [OptionTable; 14] = [
         example: "--activity-delays=Delays-Activities.giv",
         value: OptionValue::Text,
         meaning: "a file in DIR with delays of activities at the start",
+    },
+    OptionTable {
+        bit: CANCELLED,
+        name: "--cancelled=",
+        example: "--cancelled=Reserve.giv",
+        value: OptionValue::Text,
+        meaning: "a file in DIR with ids of events that are cancelled at the start",
     },
     OptionTable {
         bit: CHANGES,

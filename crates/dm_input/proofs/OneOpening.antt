@@ -8,21 +8,21 @@ use Rattle.dm_base.specs.declared.rows.DelayRow.{DelayRow}
 use Rattle.dm_base.specs.declared.ids.EventId.{EventId}
 use Rattle.dm_base.specs.declared.ids.ActId.{ActId}
 use Rattle.dm_lintim.specs.declared.fault.FileFault.{FileFault}
-use Rattle.dm_lintim.specs.Files.{ReadsEvents, ReadsActivities, ReadsDelays}
-use Rattle.dm_lintim.proofs.LawLemmas.{events_one, activities_one, delays_one}
+use Rattle.dm_lintim.specs.Files.{ReadsEvents, ReadsActivities, ReadsDelays, ReadsIds}
+use Rattle.dm_lintim.proofs.LawLemmas.{events_one, activities_one, delays_one, ids_one}
 use Rattle.dm_network.specs.Net.{Net}
 use Rattle.dm_rows.specs.declared.messages.StartFault.{StartFault}
 use Rattle.dm_rows.specs.declared.messages.StartFault.TheVariants.{UnknownEvent, UnknownActivity, OutOfMemory}
-use Rattle.dm_rows.specs.StartFaults.{RefusesDelayRecords, AllAreKnown, IsFirstUnknown, event_numbered, activity_numbered}
+use Rattle.dm_rows.specs.StartFaults.{RefusesCancelledIds, RefusesDelayRecords, RefusesStart, AllAreKnown, AllIdsAreKnown, IsFirstUnknown, IsFirstUnknownId, event_numbered, activity_numbered}
 use Rattle.dm_input.specs.declared.flaws.File.{File}
-use Rattle.dm_input.specs.declared.flaws.File.TheVariants.{Events, Activities, EventDelays, ActivityDelays}
+use Rattle.dm_input.specs.declared.flaws.File.TheVariants.{Events, Activities, EventDelays, ActivityDelays, CancelledEvents}
 use Rattle.dm_input.specs.declared.flaws.FileFlaw.{FileFlaw}
 use Rattle.dm_input.specs.declared.flaws.FileFlaw.TheVariants.{Record, TooLong}
 use Rattle.dm_input.specs.declared.flaws.InputFlaw.{InputFlaw}
 use Rattle.dm_input.specs.declared.flaws.InputFlaw.TheVariants.{InFile, Network, Start}
 use Rattle.dm_words.specs.Words.{FilesAsked}
 use Rattle.dm_input.specs.Order.{AreOne, IsOne, IsReadBy, SameFault, SameFlaw, stage_of, stage_place, reads}
-use Rattle.dm_input.specs.Input.{Told, IsHeld, AnswersRows, NamedAnswers, FileAnswers, FileStage, EventsAnswer, ActivitiesAnswer, EventDelaysAnswer, ActivityDelaysAnswer, NetworkAnswers, StartAnswers, Raised, Then, IsAnswer, FilesAnswer, OpeningAnswer, PassesBefore, file_name}
+use Rattle.dm_input.specs.Input.{Told, IsHeld, AnswersRows, NamedAnswers, FileAnswers, FileStage, EventsAnswer, ActivitiesAnswer, EventDelaysAnswer, ActivityDelaysAnswer, CancelledEventsAnswer, NetworkAnswers, StartAnswers, Raised, Then, IsAnswer, FilesAnswer, OpeningAnswer, PassesBefore, file_name}
 use Rattle.dm_input.proofs.OneNetwork.{one_network}
 use Rattle.dm_input.proofs.OneAnswer.{one_fault, not_both}
 
@@ -151,6 +151,14 @@ one_unknown place records i j p q =
 unknown_known : (place : ℕ → Option ℕ) (records : List DelayRow) (i : ℕ) → IsFirstUnknown place records i → AllAreKnown place records → ⊥
 unknown_known place records i p known = none_is_some (place p.row.id) p.unknown (known p.at p.row p.stands)
 
+one_unknown_id : (net : Net) (ids : List ℕ) (i j : ℕ) → IsFirstUnknownId net ids i → IsFirstUnknownId net ids j → i ≡ j
+one_unknown_id net ids i j p q =
+    elim (cases_order p.at q.at) [
+      | inl same ↦ some_is i j (sym p.stands ∙ (ap (slice_get ids) same ∙ q.stands))
+      | inr (inl less) ↦ absurd (none_is_some (event_numbered net i) p.unknown (q.known_before p.at i less p.stands))
+      | inr (inr more) ↦ absurd (none_is_some (event_numbered net j) q.unknown (p.known_before q.at j more q.stands))
+    ]
+
 event_id_is : (i j : EventId) → i.0 ≡ j.0 → i ≡ j
 event_id_is i j e = ap (λ (n : ℕ). let id : EventId = record { 0 = n } in id) e
 
@@ -172,11 +180,35 @@ module _ (net : Net) (events activities : List DelayRow) where
   start_clash (UnknownActivity i) p nf es known = unknown_known (activity_numbered net) activities i.0 p.1 known
   start_clash OutOfMemory p nf es known = nf refl
 
-  start_one : AreOne same (StartAnswers net events activities)
+module _ (net : Net) (ids : List ℕ) where
+  ids_fault_one : (f g : StartFault) → RefusesCancelledIds net ids f → RefusesCancelledIds net ids g → f ≢ OutOfMemory → g ≢ OutOfMemory → f ≡ g
+  ids_fault_one (UnknownEvent i) (UnknownEvent j) p q nf ng = ap UnknownEvent (event_id_is i j (one_unknown_id net ids i.0 j.0 p q))
+  ids_fault_one (UnknownEvent i) (UnknownActivity j) p q nf ng = absurd q
+  ids_fault_one (UnknownEvent i) OutOfMemory p q nf ng = absurd (ng refl)
+  ids_fault_one (UnknownActivity i) g p q nf ng = absurd p
+  ids_fault_one OutOfMemory g p q nf ng = absurd (nf refl)
+
+  ids_clash : (f : StartFault) → RefusesCancelledIds net ids f → f ≢ OutOfMemory → AllIdsAreKnown net ids → ⊥
+  ids_clash (UnknownEvent i) p nf known = none_is_some (event_numbered net i.0) p.unknown (known p.at i.0 p.stands)
+  ids_clash (UnknownActivity i) p nf known = p
+  ids_clash OutOfMemory p nf known = nf refl
+
+module _ (net : Net) (events activities : List DelayRow) (ids : List ℕ) where
+  refused_one : (f g : StartFault) → RefusesStart net events activities ids f → RefusesStart net events activities ids g → f ≢ OutOfMemory → g ≢ OutOfMemory → f ≡ g
+  refused_one f g (inl p) (inl q) nf ng = start_fault_one net events activities f g p q nf ng
+  refused_one f g (inl p) (inr q) nf ng = absurd (start_clash net events activities f p nf q.0 q.1)
+  refused_one f g (inr p) (inl q) nf ng = absurd (start_clash net events activities g q ng p.0 p.1)
+  refused_one f g (inr p) (inr q) nf ng = ids_fault_one net ids f g p.2 q.2 nf ng
+
+  refused_clash : (f : StartFault) → RefusesStart net events activities ids f → f ≢ OutOfMemory → AllAreKnown (event_numbered net) events → AllAreKnown (activity_numbered net) activities → AllIdsAreKnown net ids → ⊥
+  refused_clash f (inl p) nf known_events known_acts known = start_clash net events activities f p nf known_events known_acts
+  refused_clash f (inr p) nf known_events known_acts known = ids_clash net ids f p.2 nf known
+
+  start_one : AreOne same (StartAnswers net events activities ids)
   start_one (Ok x) (Ok y) p q = p.are ∙ sym q.are
-  start_one (Ok x) (Err g) p q = start_clash g q.1 q.0 p.events_known p.activities_known
-  start_one (Err f) (Ok y) p q = start_clash f p.1 p.0 q.events_known q.activities_known
-  start_one (Err f) (Err g) p q = start_fault_one f g p.1 q.1 p.0 q.0
+  start_one (Ok x) (Err g) p q = refused_clash g q.1 q.0 p.events_known p.activities_known p.ids_known
+  start_one (Err f) (Ok y) p q = refused_clash f p.1 p.0 q.events_known q.activities_known q.ids_known
+  start_one (Err f) (Err g) p q = refused_one f g p.1 q.1 p.0 q.0
 
 -- ---- the whole
 
@@ -193,39 +225,48 @@ module _ (told : Told) (asked : FilesAsked) (known : IsSome told) where
   activity_delays_are_one : IsOne (ActivityDelaysAnswer told asked)
   activity_delays_are_one = stage_one ReadsDelays delays_one told (file_name asked ActivityDelays) ActivityDelays known
 
+  cancelled_are_one : IsOne (CancelledEventsAnswer told asked)
+  cancelled_are_one = stage_one ReadsIds ids_one told (file_name asked CancelledEvents) CancelledEvents known
+
   files_are_one : IsOne (FilesAnswer told asked)
   files_are_one =
       then_one (EventsAnswer told asked) _ events_are_one (λ e.
       then_one (ActivitiesAnswer told asked) _ activities_are_one (λ a.
       then_one (EventDelaysAnswer told asked) _ event_delays_are_one (λ d.
-      then_one (ActivityDelaysAnswer told asked) _ activity_delays_are_one (λ x. answer_one _))))
+      then_one (ActivityDelaysAnswer told asked) _ activity_delays_are_one (λ x.
+      then_one (CancelledEventsAnswer told asked) _ cancelled_are_one (λ c. answer_one _)))))
 
   network_is_one : (events : List EventRow) (activities : List ActRow) → IsOne (Raised Network (NetworkAnswers events activities))
   network_is_one events activities = raised_one Network SameFault (NetworkAnswers events activities) (λ f g e. e) (network_one events activities)
 
-  start_is_one : (net : Net) (events activities : List DelayRow) → IsOne (Raised Start (StartAnswers net events activities))
-  start_is_one net events activities = raised_one Start same (StartAnswers net events activities) (λ f g e. ap Start e) (start_one net events activities)
+  start_is_one : (net : Net) (events activities : List DelayRow) (ids : List ℕ) → IsOne (Raised Start (StartAnswers net events activities ids))
+  start_is_one net events activities ids = raised_one Start same (StartAnswers net events activities ids) (λ f g e. ap Start e) (start_one net events activities ids)
 
   pub opening_is_one : IsOne (OpeningAnswer told asked)
   opening_is_one =
       then_one (FilesAnswer told asked) _ files_are_one (λ files.
       then_one (Raised Network (NetworkAnswers files.events files.activities)) _ (network_is_one files.events files.activities) (λ net.
-      then_one (Raised Start (StartAnswers net files.event_delays files.activity_delays)) _ (start_is_one net files.event_delays files.activity_delays) (λ rows. answer_one _)))
+      then_one (Raised Start (StartAnswers net files.event_delays files.activity_delays files.cancelled)) _
+      (start_is_one net files.event_delays files.activity_delays files.cancelled) (λ rows. answer_one _)))
 
   -- what is refused of the files is refused of one of them
   refused_file : (flaw : InputFlaw) → FilesAnswer told asked (Err flaw)
-      → EventsAnswer told asked (Err flaw) ⊎ (ActivitiesAnswer told asked (Err flaw) ⊎ (EventDelaysAnswer told asked (Err flaw) ⊎ ActivityDelaysAnswer told asked (Err flaw)))
+      → EventsAnswer told asked (Err flaw) ⊎ (ActivitiesAnswer told asked (Err flaw) ⊎ (EventDelaysAnswer told asked (Err flaw)
+      ⊎ (ActivityDelaysAnswer told asked (Err flaw) ⊎ CancelledEventsAnswer told asked (Err flaw))))
   refused_file flaw (inl e) = inl e
   refused_file flaw (inr p) = elim p.2 [
     | inl a ↦ inr (inl a)
     | inr q ↦ elim q.2 [
       | inl d ↦ inr (inr (inl d))
-      | inr r ↦ elim r.2 [ inl x ↦ inr (inr (inr x)) | inr t ↦ let e = t.2 in absurd (cc e) ]
+      | inr r ↦ elim r.2 [
+        | inl x ↦ inr (inr (inr (inl x)))
+        | inr t ↦ elim t.2 [ inl c ↦ inr (inr (inr (inr c))) | inr u ↦ let e = u.2 in absurd (cc e) ]
+      ]
     ]
   ]
 
   -- or comes after all files
-  late_or_file : (flaw : InputFlaw) → OpeningAnswer told asked (Err flaw) → FilesAnswer told asked (Err flaw) ⊎ (4 ≤ stage_place (stage_of flaw))
+  late_or_file : (flaw : InputFlaw) → OpeningAnswer told asked (Err flaw) → FilesAnswer told asked (Err flaw) ⊎ (5 ≤ stage_place (stage_of flaw))
   late_or_file flaw (inl f) = inl f
   late_or_file flaw (inr p) = elim p.2 [
     | inl n ↦ inr (let e = ap (λ (f : InputFlaw). stage_place (stage_of f)) n.2 in omega arith)
@@ -245,19 +286,26 @@ module _ (told : Told) (asked : FilesAsked) (known : IsSome told) where
     place_activity_delays : ActivityDelaysAnswer told asked (Err flaw) → stage_place (stage_of flaw) ≡ 3
     place_activity_delays x = place_of_file ReadsDelays delays_one told (file_name asked ActivityDelays) ActivityDelays flaw x
 
+    place_cancelled : CancelledEventsAnswer told asked (Err flaw) → stage_place (stage_of flaw) ≡ 4
+    place_cancelled c = place_of_file ReadsIds ids_one told (file_name asked CancelledEvents) CancelledEvents flaw c
+
     -- a place that is not behind the refusal, whichever file that is of, is not behind the first
-    not_behind : (place : ℕ) → place ≤ 4
+    not_behind : (place : ℕ) → place ≤ 5
         → (EventsAnswer told asked (Err flaw) → place ≤ stage_place (stage_of flaw))
         → (ActivitiesAnswer told asked (Err flaw) → place ≤ stage_place (stage_of flaw))
         → (EventDelaysAnswer told asked (Err flaw) → place ≤ stage_place (stage_of flaw))
         → (ActivityDelaysAnswer told asked (Err flaw) → place ≤ stage_place (stage_of flaw))
+        → (CancelledEventsAnswer told asked (Err flaw) → place ≤ stage_place (stage_of flaw))
         → place ≤ stage_place (stage_of flaw)
-    not_behind place few events activities event_delays activity_delays = elim (late_or_file flaw first) [
+    not_behind place few events activities event_delays activity_delays cancelled = elim (late_or_file flaw first) [
       | inl f ↦ elim (refused_file flaw f) [
         | inl e ↦ events e
         | inr rest ↦ elim rest [
           | inl a ↦ activities a
-          | inr delays ↦ elim delays [ inl d ↦ event_delays d | inr x ↦ activity_delays x ]
+          | inr delays ↦ elim delays [
+            | inl d ↦ event_delays d
+            | inr others ↦ elim others [ inl x ↦ activity_delays x | inr c ↦ cancelled c ]
+          ]
         ]
       ]
       | inr late ↦ omega arith
@@ -269,10 +317,16 @@ module _ (told : Told) (asked : FilesAsked) (known : IsSome told) where
     not_after Activities passes =
         not_behind 1 (omega arith) (λ e. absurd (events_are_one (Ok passes.0) (Err flaw) passes.1 e))
         (λ a. let e = place_activities a in omega arith) (λ d. let e = place_event_delays d in omega arith) (λ x. let e = place_activity_delays x in omega arith)
+        (λ c. let e = place_cancelled c in omega arith)
     not_after EventDelays passes =
         not_behind 2 (omega arith) (λ e. absurd (events_are_one (Ok passes.0) (Err flaw) passes.1 e))
         (λ a. absurd (activities_are_one (Ok passes.2) (Err flaw) passes.3 a)) (λ d. let e = place_event_delays d in omega arith) (λ x. let e = place_activity_delays x in omega arith)
+        (λ c. let e = place_cancelled c in omega arith)
     not_after ActivityDelays passes =
         not_behind 3 (omega arith) (λ e. absurd (events_are_one (Ok passes.0) (Err flaw) passes.1 e))
         (λ a. absurd (activities_are_one (Ok passes.2) (Err flaw) passes.3 a)) (λ d. absurd (event_delays_are_one (Ok passes.4) (Err flaw) passes.5 d))
-        (λ x. let e = place_activity_delays x in omega arith)
+        (λ x. let e = place_activity_delays x in omega arith) (λ c. let e = place_cancelled c in omega arith)
+    not_after CancelledEvents passes =
+        not_behind 4 (omega arith) (λ e. absurd (events_are_one (Ok passes.0) (Err flaw) passes.1 e))
+        (λ a. absurd (activities_are_one (Ok passes.2) (Err flaw) passes.3 a)) (λ d. absurd (event_delays_are_one (Ok passes.4) (Err flaw) passes.5 d))
+        (λ x. absurd (activity_delays_are_one (Ok passes.6) (Err flaw) passes.7 x)) (λ c. let e = place_cancelled c in omega arith)

@@ -4,17 +4,17 @@ use Rattle.dm_base.specs.declared.rows.EventRow.{EventRow}
 use Rattle.dm_base.specs.declared.rows.ActRow.{ActRow}
 use Rattle.dm_base.specs.declared.rows.DelayRow.{DelayRow}
 use Rattle.dm_lintim.specs.declared.fault.FileFault.{FileFault}
-use Rattle.dm_lintim.specs.Files.{ReadsActivities, ReadsDelays}
+use Rattle.dm_lintim.specs.Files.{ReadsActivities, ReadsDelays, ReadsIds}
 use Rattle.dm_network.specs.Net.{Net}
 use Rattle.dm_rows.specs.Rows.{RowsValue}
 use Rattle.dm_input.specs.declared.flaws.File.{File}
-use Rattle.dm_input.specs.declared.flaws.File.TheVariants.{Activities, EventDelays, ActivityDelays}
+use Rattle.dm_input.specs.declared.flaws.File.TheVariants.{Activities, EventDelays, ActivityDelays, CancelledEvents}
 use Rattle.dm_input.specs.declared.flaws.InputFlaw.{InputFlaw}
 use Rattle.dm_input.specs.declared.flaws.InputFlaw.TheVariants.{InFile, Network, Start}
 use Rattle.dm_input.specs.declared.flaws.InputStop.{InputStop}
 use Rattle.dm_input.specs.declared.flaws.InputStop.TheVariants.{Refused, ReadFault, NoMemory}
 use Rattle.dm_words.specs.Words.{FilesAsked}
-use Rattle.dm_input.specs.Input.{Told, NamedAnswers, FileStage, EventsAnswer, ActivitiesAnswer, EventDelaysAnswer, ActivityDelaysAnswer, FilesAnswer, FileRows, NetworkAnswers, StartAnswers, OpeningAnswer, PassesBefore, Raised, file_name}
+use Rattle.dm_input.specs.Input.{Told, NamedAnswers, FileStage, EventsAnswer, ActivitiesAnswer, EventDelaysAnswer, ActivityDelaysAnswer, CancelledEventsAnswer, FilesAnswer, FileRows, NetworkAnswers, StartAnswers, OpeningAnswer, PassesBefore, Raised, file_name}
 use Rattle.dm_input.specs.Stops.{IsKept, StopsOpening}
 use Rattle.dm_input.specs.Inside.Stages.{StopsAtFile, StopsAtName, StopsMaking}
 
@@ -39,6 +39,23 @@ three_read asked act_rows delay_rows first second third activities delays = reco
   kept = kept_then (kept_then first second) third;
   activities = answers_back (file_name asked Activities) Activities (ReadsActivities asked.columns.activities) (Ok act_rows) first activities;
   delays = answers_back (file_name asked EventDelays) EventDelays ReadsDelays (Ok delay_rows) (kept_then first second) delays;
+}
+
+-- the same of the first four files
+pub record FourRead {H : Type 0} (files : H → Told) (is_sound : H → List ℕ → Type 0) (before now : H) (asked : FilesAsked) (act_rows : List ActRow) (delay_rows act_delay_rows : List DelayRow) : Type 0 where
+  pub kept : IsKept files is_sound before now
+  pub activities : ActivitiesAnswer (files before) asked (Ok act_rows)
+  pub delays : EventDelaysAnswer (files before) asked (Ok delay_rows)
+  pub act_delays : ActivityDelaysAnswer (files before) asked (Ok act_delay_rows)
+
+pub four_read : {H : Type 0} {files : H → Told} {is_sound : H → List ℕ → Type 0} {a d e : H} (asked : FilesAsked) (act_rows : List ActRow) (delay_rows act_delay_rows : List DelayRow)
+    → ThreeRead files is_sound a d asked act_rows delay_rows → IsKept files is_sound d e → ActivityDelaysAnswer (files d) asked (Ok act_delay_rows)
+    → FourRead files is_sound a e asked act_rows delay_rows act_delay_rows
+four_read asked act_rows delay_rows act_delay_rows three fourth act_delays = record {
+  kept = kept_then three.kept fourth;
+  activities = three.activities;
+  delays = three.delays;
+  act_delays = answers_back (file_name asked ActivityDelays) ActivityDelays ReadsDelays (Ok act_delay_rows) three.kept act_delays;
 }
 
 stops_back_name : {R : Type 0} {H : Type 0} {files : H → Told} {is_sound : H → List ℕ → Type 0} {a b : H} (name : List ℕ) (file : File) (Reads : List ℕ → Result (List R) FileFault → Type 0) (stop : InputStop)
@@ -77,6 +94,13 @@ module _ (told : Told) (is_sound : List ℕ → Type 0) (asked : FilesAsked) whe
       stops_at told is_sound asked ActivityDelays (file_name asked ActivityDelays) ReadsDelays stop refl (events, e, activities, a, delays, d)
       (λ flaw x. inl (inr (events, e, inr (activities, a, inr (delays, d, inl x))))) h
 
+  pub stops_cancelled : (events : List EventRow) (activities : List ActRow) (delays others : List DelayRow) (stop : InputStop)
+      → EventsAnswer told asked (Ok events) → ActivitiesAnswer told asked (Ok activities) → EventDelaysAnswer told asked (Ok delays) → ActivityDelaysAnswer told asked (Ok others)
+      → StopsAtFile told is_sound (file_name asked CancelledEvents) CancelledEvents ReadsIds stop → StopsOpening told is_sound asked stop
+  stops_cancelled events activities delays others stop e a d x h =
+      stops_at told is_sound asked CancelledEvents (file_name asked CancelledEvents) ReadsIds stop refl (events, e, activities, a, delays, d, others, x)
+      (λ flaw c. inl (inr (events, e, inr (activities, a, inr (delays, d, inr (others, x, inl c)))))) h
+
   -- the files are read, and what they make is refused
   pub stops_network : (files : FileRows) (stop : InputStop) → FilesAnswer told asked (Ok files) → StopsMaking Network (NetworkAnswers files.events files.activities) stop → StopsOpening told is_sound asked stop
   stops_network files (Refused flaw) f h = inr (files, f, inl h)
@@ -84,17 +108,19 @@ module _ (told : Told) (is_sound : List ℕ → Type 0) (asked : FilesAsked) whe
   stops_network files NoMemory f h = tt
 
   pub stops_start : (files : FileRows) (net : Net) (stop : InputStop) → FilesAnswer told asked (Ok files) → NetworkAnswers files.events files.activities (Ok net)
-      → StopsMaking Start (StartAnswers net files.event_delays files.activity_delays) stop → StopsOpening told is_sound asked stop
+      → StopsMaking Start (StartAnswers net files.event_delays files.activity_delays files.cancelled) stop → StopsOpening told is_sound asked stop
   stops_start files net (Refused flaw) f n h = inr (files, f, inr (net, n, inl h))
   stops_start files net (ReadFault file) f n h = absurd h
   stops_start files net NoMemory f n h = tt
 
-pub files_answer : (told : Told) (asked : FilesAsked) (events : List EventRow) (activities : List ActRow) (event_delays activity_delays : List DelayRow)
+pub files_answer : (told : Told) (asked : FilesAsked) (events : List EventRow) (activities : List ActRow) (event_delays activity_delays : List DelayRow) (cancelled : List ℕ)
     → EventsAnswer told asked (Ok events) → ActivitiesAnswer told asked (Ok activities) → EventDelaysAnswer told asked (Ok event_delays) → ActivityDelaysAnswer told asked (Ok activity_delays)
-    → FilesAnswer told asked (Ok (record { events = events; activities = activities; event_delays = event_delays; activity_delays = activity_delays }))
-files_answer told asked events activities event_delays activity_delays e a d x = (events, e, (activities, a, (event_delays, d, (activity_delays, x, refl))))
+    → CancelledEventsAnswer told asked (Ok cancelled)
+    → FilesAnswer told asked (Ok (record { events = events; activities = activities; event_delays = event_delays; activity_delays = activity_delays; cancelled = cancelled }))
+files_answer told asked events activities event_delays activity_delays cancelled e a d x c =
+    (events, e, (activities, a, (event_delays, d, (activity_delays, x, (cancelled, c, refl)))))
 
 pub opening_answer : (told : Told) (asked : FilesAsked) (files : FileRows) (net : Net) (rows : RowsValue) → FilesAnswer told asked (Ok files)
-    → NetworkAnswers files.events files.activities (Ok net) → StartAnswers net files.event_delays files.activity_delays (Ok rows)
+    → NetworkAnswers files.events files.activities (Ok net) → StartAnswers net files.event_delays files.activity_delays files.cancelled (Ok rows)
     → OpeningAnswer told asked (Ok (record { net = net; rows = rows }))
 opening_answer told asked files net rows f n s = (files, f, (net, n, (rows, s, refl)))

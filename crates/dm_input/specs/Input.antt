@@ -6,29 +6,30 @@ use Rattle.dm_base.specs.declared.rows.EventRow.{EventRow}
 use Rattle.dm_base.specs.declared.rows.ActRow.{ActRow}
 use Rattle.dm_base.specs.declared.rows.DelayRow.{DelayRow}
 use Rattle.dm_lintim.specs.declared.fault.FileFault.{FileFault}
-use Rattle.dm_lintim.specs.Files.{ReadsEvents, ReadsActivities, ReadsDelays}
+use Rattle.dm_lintim.specs.Files.{ReadsEvents, ReadsActivities, ReadsDelays, ReadsIds}
 use Rattle.dm_network.specs.declared.parts.NetFault.{NetFault}
 use Rattle.dm_network.specs.declared.parts.NetFault.TheVariants.{OutOfMemory as NoNetworkMemory}
 use Rattle.dm_network.specs.Net.{Net}
 use Rattle.dm_network.specs.Build.{RefusesRecords, IsBuiltFrom}
 use Rattle.dm_rows.specs.declared.messages.StartFault.{StartFault}
 use Rattle.dm_rows.specs.declared.messages.StartFault.TheVariants.{OutOfMemory as NoStartMemory}
-use Rattle.dm_rows.specs.Rows.{RowsValue, start_rows_of}
-use Rattle.dm_rows.specs.StartFaults.{RefusesDelayRecords, AllAreKnown, event_numbered, activity_numbered}
+use Rattle.dm_rows.specs.Rows.{RowsValue, start_rows_without}
+use Rattle.dm_rows.specs.StartFaults.{RefusesStart, AllAreKnown, AllIdsAreKnown, event_numbered, activity_numbered}
 use Rattle.dm_input.specs.declared.flaws.File.{File}
-use Rattle.dm_input.specs.declared.flaws.File.TheVariants.{Events, Activities, EventDelays, ActivityDelays}
+use Rattle.dm_input.specs.declared.flaws.File.TheVariants.{Events, Activities, EventDelays, ActivityDelays, CancelledEvents}
 use Rattle.dm_input.specs.declared.flaws.FileFlaw.{FileFlaw}
 use Rattle.dm_input.specs.declared.flaws.FileFlaw.TheVariants.{Record, TooLong}
 use Rattle.dm_input.specs.declared.flaws.InputFlaw.{InputFlaw}
 use Rattle.dm_input.specs.declared.flaws.InputFlaw.TheVariants.{InFile, Network, Start}
 use Rattle.dm_words.specs.Words.{FilesAsked, in_folder}
 
--- the name of a file as it is opened; the files of delays have one where the words name them
+-- the name of a file as it is opened; the files of delays and of cancelled events have one where the words name them
 abbrev pub file_name : FilesAsked → File → Option (List ℕ)
 file_name asked Events = Some (in_folder asked (codes "Events-expanded.giv"))
 file_name asked Activities = Some (in_folder asked (codes "Activities-expanded.giv"))
 file_name asked EventDelays = option_map (in_folder asked) asked.event_delays
 file_name asked ActivityDelays = option_map (in_folder asked) asked.activity_delays
+file_name asked CancelledEvents = option_map (in_folder asked) asked.cancelled
 
 -- what a shelf tells of its names
 abbrev pub Told : Type 0
@@ -65,15 +66,16 @@ abbrev pub NetworkAnswers : List EventRow → List ActRow → Result Net NetFaul
 NetworkAnswers events activities (Ok net) = IsBuiltFrom events activities net
 NetworkAnswers events activities (Err fault) = (fault ≢ NoNetworkMemory) × RefusesRecords events activities fault
 
--- the delays: the start rows
-pub record AreStartRows (net : Net) (events activities : List DelayRow) (rows : RowsValue) : Type 0 where
+-- the delays and the ids of the cancelled events: the start rows
+pub record AreStartRows (net : Net) (events activities : List DelayRow) (ids : List ℕ) (rows : RowsValue) : Type 0 where
   pub events_known : AllAreKnown (event_numbered net) events
   pub activities_known : AllAreKnown (activity_numbered net) activities
-  pub are : rows ≡ start_rows_of net events activities
+  pub ids_known : AllIdsAreKnown net ids
+  pub are : rows ≡ start_rows_without net events activities ids
 
-abbrev pub StartAnswers : Net → List DelayRow → List DelayRow → Result RowsValue StartFault → Type 0
-StartAnswers net events activities (Ok rows) = AreStartRows net events activities rows
-StartAnswers net events activities (Err fault) = (fault ≢ NoStartMemory) × RefusesDelayRecords net events activities fault
+abbrev pub StartAnswers : Net → List DelayRow → List DelayRow → List ℕ → Result RowsValue StartFault → Type 0
+StartAnswers net events activities ids (Ok rows) = AreStartRows net events activities ids rows
+StartAnswers net events activities ids (Err fault) = (fault ≢ NoStartMemory) × RefusesStart net events activities ids fault
 
 -- ---- one stage after the other
 
@@ -109,12 +111,16 @@ EventDelaysAnswer told asked answer = FileStage told (file_name asked EventDelay
 abbrev pub ActivityDelaysAnswer : Told → FilesAsked → Result (List DelayRow) InputFlaw → Type 0
 ActivityDelaysAnswer told asked answer = FileStage told (file_name asked ActivityDelays) ActivityDelays ReadsDelays answer
 
--- the rows of the four files
+abbrev pub CancelledEventsAnswer : Told → FilesAsked → Result (List ℕ) InputFlaw → Type 0
+CancelledEventsAnswer told asked answer = FileStage told (file_name asked CancelledEvents) CancelledEvents ReadsIds answer
+
+-- the rows of the files
 pub record FileRows : Type 0 where
   pub events : List EventRow
   pub activities : List ActRow
   pub event_delays : List DelayRow
   pub activity_delays : List DelayRow
+  pub cancelled : List ℕ
 
 -- what the files answer, read in their order
 abbrev pub FilesAnswer : Told → FilesAsked → Result FileRows InputFlaw → Type 0
@@ -123,7 +129,14 @@ FilesAnswer told asked =
     Then (ActivitiesAnswer told asked) (λ activities.
     Then (EventDelaysAnswer told asked) (λ event_delays.
     Then (ActivityDelaysAnswer told asked) (λ activity_delays.
-    IsAnswer (record { events = events; activities = activities; event_delays = event_delays; activity_delays = activity_delays })))))
+    Then (CancelledEventsAnswer told asked) (λ cancelled.
+    IsAnswer (record {
+      events = events;
+      activities = activities;
+      event_delays = event_delays;
+      activity_delays = activity_delays;
+      cancelled = cancelled;
+    }))))))
 
 -- a network and its rows before any message
 pub record Opening : Type 0 where
@@ -135,7 +148,7 @@ abbrev pub OpeningAnswer : Told → FilesAsked → Result Opening InputFlaw → 
 OpeningAnswer told asked =
     Then (FilesAnswer told asked) (λ files.
     Then (Raised Network (NetworkAnswers files.events files.activities)) (λ net.
-    Then (Raised Start (StartAnswers net files.event_delays files.activity_delays)) (λ rows.
+    Then (Raised Start (StartAnswers net files.event_delays files.activity_delays files.cancelled)) (λ rows.
     IsAnswer (record { net = net; rows = rows }))))
 
 -- nothing is refused before the file is read
@@ -149,6 +162,11 @@ PassesBefore told asked ActivityDelays =
     (events : List EventRow) × EventsAnswer told asked (Ok events) × (activities : List ActRow)
     × ActivitiesAnswer told asked (Ok activities)
     × (delays : List DelayRow) × EventDelaysAnswer told asked (Ok delays)
+PassesBefore told asked CancelledEvents =
+    (events : List EventRow) × EventsAnswer told asked (Ok events) × (activities : List ActRow)
+    × ActivitiesAnswer told asked (Ok activities)
+    × (delays : List DelayRow) × EventDelaysAnswer told asked (Ok delays)
+    × (others : List DelayRow) × ActivityDelaysAnswer told asked (Ok others)
 
 -- a file that the words name could not be read, where nothing is refused before it
 pub record IsUnread (told : Told) (is_sound : List ℕ → Type 0) (asked : FilesAsked) (file : File) : Type 0 where

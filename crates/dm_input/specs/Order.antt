@@ -3,7 +3,7 @@ use Rattle.std.specs.Prelude.{ℕ, ◌≡◌, ◌≤◌, Result, Ok, Err}
 use Rattle.dm_network.specs.declared.parts.NetFault.{NetFault}
 use Rattle.dm_network.specs.declared.parts.NetFault.TheVariants.{Cycle}
 use Rattle.dm_input.specs.declared.flaws.File.{File}
-use Rattle.dm_input.specs.declared.flaws.File.TheVariants.{Events, Activities, EventDelays, ActivityDelays}
+use Rattle.dm_input.specs.declared.flaws.File.TheVariants.{Events, Activities, EventDelays, ActivityDelays, CancelledEvents}
 use Rattle.dm_input.specs.declared.flaws.InputFlaw.{InputFlaw}
 use Rattle.dm_input.specs.declared.flaws.InputFlaw.TheVariants.{InFile, Network, Start}
 
@@ -19,8 +19,9 @@ stage_place (reads Events) = 0
 stage_place (reads Activities) = 1
 stage_place (reads EventDelays) = 2
 stage_place (reads ActivityDelays) = 3
-stage_place makes_network = 4
-stage_place makes_start_rows = 5
+stage_place (reads CancelledEvents) = 4
+stage_place makes_network = 5
+stage_place makes_start_rows = 6
 
 -- the stage that refuses
 abbrev pub stage_of : InputFlaw → Stage

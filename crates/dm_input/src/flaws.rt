@@ -11,6 +11,9 @@ pub enum File {
     Activities,
     EventDelays,
     ActivityDelays,
+
+    /// The ids of the events that are cancelled at the start.
+    CancelledEvents,
 }
 
 /// Why a file is refused.
@@ -31,7 +34,7 @@ pub enum InputFlaw {
     /// The events and activities make no network.
     Network(NetFault),
 
-    /// The delays make no start rows.
+    /// The delays and the cancelled events make no start rows.
     Start(StartFault),
 }
 

@@ -76,7 +76,7 @@ fn print_network<K: Sink>(sink: &mut K, page: &mut Page, fault: &NetFault) -> Re
     }
 }
 
-/// Prints why delays make no start rows.
+/// Prints why delays and cancelled events make no start rows.
 fn print_start<K: Sink>(sink: &mut K, page: &mut Page, fault: &StartFault) -> Result<(), WriteFault>
     ensures { Prints K.taken K.faults sink.old sink.new page.old page.new result (start_text fault.now) }
 {
@@ -110,6 +110,7 @@ fn print_name<K: Sink>(
         ),
         File::EventDelays => print_in_folder(sink, page, words.folder, words.event_delays),
         File::ActivityDelays => print_in_folder(sink, page, words.folder, words.activity_delays),
+        File::CancelledEvents => print_in_folder(sink, page, words.folder, words.cancelled),
     }
 }
 

@@ -12,7 +12,7 @@ use crate::reading::read_files;
 use dm_base::{ActRow, DelayRow, EventRow};
 use dm_network::{NetFault, Network};
 use dm_outside::Shelf;
-use dm_rows::{Rows, StartFault, start_rows};
+use dm_rows::{Rows, StartFault, start_rows_without};
 use dm_words::FileWords;
 use std::alloc::Global;
 
@@ -34,20 +34,21 @@ fn make_network(
     }
 }
 
-/// The start rows that the delays make.
+/// The start rows that the delays and the ids of the cancelled events make.
 fn make_rows(
     alloc: Global,
     net: &Network,
     event_delays: &[DelayRow],
     activity_delays: &[DelayRow],
+    cancelled: &[u32],
 ) -> Result<Rows, InputStop>
     requires events { DelaysAreWithin event_delays.now }
     requires activities { DelaysAreWithin activity_delays.now }
-    ensures made { IfOk result (λ rows. StartAnswers net.now event_delays.now activity_delays.now (Ok rows)) }
+    ensures made { IfOk result (λ rows. StartAnswers net.now event_delays.now activity_delays.now cancelled.now (Ok rows)) }
     ensures sized { IfOk result (IsSized net.now) }
-    ensures stops { IfErr result (StopsMaking InputFlaw.Start (StartAnswers net.now event_delays.now activity_delays.now)) }
+    ensures stops { IfErr result (StopsMaking InputFlaw.Start (StartAnswers net.now event_delays.now activity_delays.now cancelled.now)) }
 {
-    match start_rows(alloc, net, event_delays, activity_delays) {
+    match start_rows_without(alloc, net, event_delays, activity_delays, cancelled) {
         Ok(rows) => Ok(rows),
         Err(StartFault::OutOfMemory) => Err(InputStop::NoMemory),
         Err(fault) => Err(InputStop::Refused(InputFlaw::Start(fault))),
@@ -80,6 +81,7 @@ pub fn read_opening<H: Shelf>(
         &net,
         files.event_delays.as_slice(),
         files.activity_delays.as_slice(),
+        files.cancelled.as_slice(),
     )?;
     Ok(Opened { net, rows })
 }

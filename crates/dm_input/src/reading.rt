@@ -4,7 +4,7 @@ ghost use Rattle.std.specs.Option.{option_map};
 ghost use Rattle.dm_base.specs.declared.limits.TheConstants.{FILE as LARGEST};
 ghost use Rattle.dm_lintim.specs.Columns.{FileColumns};
 ghost use Rattle.dm_lintim.specs.declared.fault.FileFault.{FileFault};
-ghost use Rattle.dm_lintim.specs.Files.{ReadsEvents, ReadsActivities, ReadsDelays, no_memory};
+ghost use Rattle.dm_lintim.specs.Files.{ReadsEvents, ReadsActivities, ReadsDelays, ReadsIds, no_memory};
 ghost use Rattle.dm_input.specs.declared.flaws.File.{File};
 ghost use Rattle.dm_input.specs.declared.flaws.InputStop.{InputStop};
 ghost use Rattle.dm_words.specs.Asked.{files_of};
@@ -15,7 +15,9 @@ ghost use Rattle.dm_input.specs.Inside.Stages.{StopsAtFile, StopsAtName, IsStopB
 use crate::flaws::{File, FileFlaw, InputFlaw, InputStop};
 use dm_base::limits::FILE;
 use dm_base::{ActRow, DelayRow, EventRow};
-use dm_lintim::{Columns, FileFault, FileKind, read_activities, read_delays, read_events};
+use dm_lintim::{
+    Columns, FileFault, FileKind, read_activities, read_delays, read_events, read_ids,
+};
 use dm_outside::{Shelf, TakeFault, take_all};
 use dm_words::FileWords;
 use std::alloc::{AllocError, Global};
@@ -52,6 +54,14 @@ impl FileRow for DelayRow {
 
     fn read(alloc: Global, bytes: &[u8], _columns: &Columns) -> Result<Vec<DelayRow>, FileFault> {
         read_delays(alloc, bytes)
+    }
+}
+
+impl FileRow for u32 {
+    ghost reads = { λ _. ReadsIds };
+
+    fn read(alloc: Global, bytes: &[u8], _columns: &Columns) -> Result<Vec<u32>, FileFault> {
+        read_ids(alloc, bytes)
     }
 }
 
@@ -126,6 +136,7 @@ fn name_in_folder<'x>(words: &FileWords<'x>, file: File) -> Option<&'x str>
         File::Activities => Some("Activities-expanded.giv"),
         File::EventDelays => words.event_delays,
         File::ActivityDelays => words.activity_delays,
+        File::CancelledEvents => words.cancelled,
     }
 }
 
@@ -168,6 +179,7 @@ pub(crate) struct Files {
     pub(crate) activities: Vec<ActRow>,
     pub(crate) event_delays: Vec<DelayRow>,
     pub(crate) activity_delays: Vec<DelayRow>,
+    pub(crate) cancelled: Vec<u32>,
 }
 
 /// The rows of the files of a folder, in the order of reading.
@@ -185,10 +197,12 @@ pub(crate) fn read_files<H: Shelf>(
     let activities = read_file::<H, ActRow>(alloc, shelf, words, File::Activities)?;
     let event_delays = read_file::<H, DelayRow>(alloc, shelf, words, File::EventDelays)?;
     let activity_delays = read_file::<H, DelayRow>(alloc, shelf, words, File::ActivityDelays)?;
+    let cancelled = read_file::<H, u32>(alloc, shelf, words, File::CancelledEvents)?;
     Ok(Files {
         events,
         activities,
         event_delays,
         activity_delays,
+        cancelled,
     })
 }

@@ -14,7 +14,7 @@ use Rattle.dm_lintim.specs.declared.columns.Column.{Column}
 use Rattle.dm_lintim.specs.declared.fault.FileFault.{FileFault}
 use Rattle.dm_lintim.specs.declared.fault.FileKind.{FileKind}
 use Rattle.dm_lintim.specs.declared.fault.FileKind.TheVariants as kind
-use Rattle.dm_lintim.specs.Files.{AreRows, BreaksRecord, IsActivityRow, IsDelayRow, IsEventRow, IsFirstFault, IsGood, IsNumber, IsWord, IsActivityWord, IsEventWord, IsNoWord, ReadsActivities, ReadsDelays, ReadsEvents, ReadsFile, RefusesBy, delay_columns, no_memory, RefusesField, RefusesFirst, RefusesNumber, RefusesWord, TakesBy, TakesField, Use, activity_word, event_word, largest_of, passed_over, thousandths, use_of, whole, word}
+use Rattle.dm_lintim.specs.Files.{AreRows, BreaksRecord, IsActivityRow, IsDelayRow, IsEventRow, IsIdRow, IsFirstFault, IsGood, IsNumber, IsWord, IsActivityWord, IsEventWord, IsNoWord, ReadsActivities, ReadsDelays, ReadsEvents, ReadsFile, ReadsIds, RefusesBy, delay_columns, no_memory, RefusesField, RefusesFirst, RefusesNumber, RefusesWord, TakesBy, TakesField, Use, activity_word, event_word, id_columns, largest_of, passed_over, thousandths, use_of, whole, word}
 use Rattle.dm_lintim.specs.Pieces.{counted_records}
 
 -- a refused number, by what it is refused for
@@ -212,6 +212,12 @@ activities_one cs bytes a b ra rb = file_one IsActivityWord IsActivityRow cs (λ
 
 pub delays_one : (bytes : List ℕ) (a b : Result (List DelayRow) FileFault) → ReadsDelays bytes a → ReadsDelays bytes b → a ≡ b
 delays_one bytes a b ra rb = file_one IsNoWord IsDelayRow delay_columns (λ fs x r. r.good) (delay_row_one delay_columns) bytes a b ra rb
+
+pub id_row_one : (cs : List (Option Column)) (fs : List (List ℕ)) (x y : ℕ) → IsIdRow cs fs x → IsIdRow cs fs y → x ≡ y
+id_row_one cs fs x y a b = a.value ∙ sym b.value
+
+pub ids_one : (bytes : List ℕ) (a b : Result (List ℕ) FileFault) → ReadsIds bytes a → ReadsIds bytes b → a ≡ b
+ids_one bytes a b ra rb = file_one IsNoWord IsIdRow id_columns (λ fs x r. r.good) (id_row_one id_columns) bytes a b ra rb
 
 -- an answer that the grammar gives is the one that it relates to the bytes
 pub only_answer : {X R : Type 0} (r : Result X FileFault) (items : X → List R) (Reads : Result (List R) FileFault → Type 0)

@@ -182,6 +182,15 @@ pub record IsDelayRow (columns : List (Option Column)) (fields : List (List ℕ)
   pub id : row.id ≡ whole_under columns fields col.Id
   pub delay : row.delay ≡ whole_under columns fields col.Delay
 
+-- a file of ids has one column
+abbrev pub id_columns : List (Option Column)
+id_columns = Some col.Id ∷ []
+
+-- a record of a file of ids and its id
+pub record IsIdRow (columns : List (Option Column)) (fields : List (List ℕ)) (id : ℕ) : Type 0 where
+  pub good : IsGood IsNoWord columns fields
+  pub value : id ≡ whole_under columns fields col.Id
+
 -- the records and these rows, one for one
 abbrev pub AreRows : {R : Type 0} → (List (Option Column) → List (List ℕ) → R → Type 0) → List (Option Column) →
     List (List (List ℕ)) → List R → Type 0
@@ -225,3 +234,6 @@ ReadsActivities columns bytes answer = ReadsFile IsActivityWord IsActivityRow co
 
 abbrev pub ReadsDelays : List ℕ → Result (List DelayRow) FileFault → Type 0
 ReadsDelays bytes answer = ReadsFile IsNoWord IsDelayRow delay_columns bytes answer
+
+abbrev pub ReadsIds : List ℕ → Result (List ℕ) FileFault → Type 0
+ReadsIds bytes answer = ReadsFile IsNoWord IsIdRow id_columns bytes answer

@@ -8,7 +8,7 @@ ghost use Rattle.dm_lintim.specs.declared.columns.Column.{Column};
 ghost use Rattle.dm_lintim.specs.declared.fault.FileFault.{FileFault};
 ghost use Rattle.dm_lintim.specs.declared.columns.ColumnFault.{ColumnFault};
 ghost use Rattle.dm_lintim.specs.Columns.{FileColumns, ReadsFileColumns, standard_columns};
-ghost use Rattle.dm_lintim.specs.Files.{ReadsActivities, ReadsDelays, ReadsEvents};
+ghost use Rattle.dm_lintim.specs.Files.{ReadsActivities, ReadsDelays, ReadsEvents, ReadsIds};
 ghost use Rattle.dm_lintim.specs.Pieces.{split_records};
 ghost use Rattle.dm_lintim.specs.Split.{plain_config};
 
@@ -34,6 +34,11 @@ pub fn one_answer_of_activities()
 pub fn one_answer_of_delays()
     ensures { (bytes : List ℕ) (one other : Result (List DelayRow) FileFault) → ReadsDelays bytes one → ReadsDelays bytes other
         → one ≡ other }
+{}
+
+/// The bytes of a file of ids have one answer at most.
+pub fn one_answer_of_ids()
+    ensures { (bytes : List ℕ) (one other : Result (List ℕ) FileFault) → ReadsIds bytes one → ReadsIds bytes other → one ≡ other }
 {}
 
 /// Two texts of column words have one answer at most.

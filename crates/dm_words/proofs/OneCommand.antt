@@ -4,7 +4,7 @@ use Rattle.std.specs.Char.{IsAsciiDigit}
 use Rattle.dm_lintim.specs.Columns.{FileColumns, ReadsFileColumns}
 use Rattle.dm_lintim.specs.declared.columns.ColumnFault.{ColumnFault}
 use Rattle.dm_lintim.proofs.WordLemmas.{columns_one}
-use Rattle.dm_words.specs.Options.{GivesOption, penalty_option, batch_option, boards_option, event_columns_option, activity_columns_option, event_delays_option, activity_delays_option, held_option, solve_option, HasFlag}
+use Rattle.dm_words.specs.Options.{GivesOption, penalty_option, batch_option, boards_option, event_columns_option, activity_columns_option, event_delays_option, activity_delays_option, cancelled_option, held_option, solve_option, HasFlag}
 use Rattle.dm_words.specs.Ids.{AreIdsOrNone}
 use Rattle.dm_words.specs.Values.{IsNumber, IsNumberOr, IsNumberOrNone}
 use Rattle.dm_words.specs.Words.{Command, FilesAsked, RunAsked, CheckAsked, GenAsked, QueryAsked, RunOf, CheckOf, GenOf, QueryOf, Asks, AsksFiles, AsksRun, AsksCheck, AsksGen, AsksQuery, IsPenalty, IsBatch, HasBoards, event_words, activity_words}
@@ -73,14 +73,15 @@ later_names a c b d e = cc
 pub second_name : (a b c d : List ℕ) → a ∷ b ∷ [] ≡ c ∷ d ∷ [] → b ≡ d
 second_name a b c d e = cc
 
-files_are : (x y : FilesAsked) → x.folder ≡ y.folder → x.penalty ≡ y.penalty → x.plans ≡ y.plans → x.columns ≡ y.columns → x.event_delays ≡ y.event_delays → x.activity_delays ≡ y.activity_delays → x ≡ y
-files_are x y folder penalty plans columns events activities =
+files_are : (x y : FilesAsked) → x.folder ≡ y.folder → x.penalty ≡ y.penalty → x.plans ≡ y.plans → x.columns ≡ y.columns → x.event_delays ≡ y.event_delays → x.activity_delays ≡ y.activity_delays → x.cancelled ≡ y.cancelled → x ≡ y
+files_are x y folder penalty plans columns events activities cancelled =
     ap (λ v. record x { folder = v }) folder
     ∙ (ap (λ v. record x { folder = y.folder; penalty = v }) penalty
     ∙ (ap (λ v. record x { folder = y.folder; penalty = y.penalty; plans = v }) plans
     ∙ (ap (λ v. record x { folder = y.folder; penalty = y.penalty; plans = y.plans; columns = v }) columns
-    ∙ (ap (λ v. record y { event_delays = v; activity_delays = x.activity_delays }) events
-    ∙ ap (λ v. record y { activity_delays = v }) activities))))
+    ∙ (ap (λ v. record y { event_delays = v; activity_delays = x.activity_delays; cancelled = x.cancelled }) events
+    ∙ (ap (λ v. record y { activity_delays = v; cancelled = x.cancelled }) activities
+    ∙ ap (λ v. record y { cancelled = v }) cancelled)))))
 
 pub files_one : (words : List (List ℕ)) (x y : FilesAsked) → x.folder ≡ y.folder → AsksFiles words x → AsksFiles words y → x ≡ y
 files_one words x y folder p q =
@@ -93,6 +94,7 @@ files_one words x y folder p q =
     (option_one _ _ _ _ words x.plans y.plans p.plans q.plans) (read_is x.columns y.columns columns)
     (given_one event_delays_option words x.event_delays y.event_delays p.gives_event_delays q.gives_event_delays)
     (given_one activity_delays_option words x.activity_delays y.activity_delays p.gives_activity_delays q.gives_activity_delays)
+    (given_one cancelled_option words x.cancelled y.cancelled p.gives_cancelled q.gives_cancelled)
 
 pub run_is : (x y : RunAsked) → x.files ≡ y.files → x.feeds ≡ y.feeds → x.batch ≡ y.batch → x.workers ≡ y.workers → x.boards ≡ y.boards → x ≡ y
 run_is x y files feeds batch workers boards =

@@ -1,6 +1,7 @@
 -- What words ask of a server: one thing at most, and no command.
 use Rattle.std.proofs.Common.{◌≡◌, ℕ, List, [], ◌∷◌, Option, codes, refl, sym, ap, subst, ◌∙◌}
 use Rattle.std.specs.Option.{MatchOption}
+use Rattle.dm_words.specs.Options.{file_options, start_options}
 use Rattle.dm_words.specs.Queries.{kind_of, word_of}
 use Rattle.dm_words.specs.ServerAsked.{live_of}
 use Rattle.dm_words.specs.Serving.{AsksLive, AsksNew, AsksNoServer, AsksServer, LiveAsked, ServerAsked, ServeOf, BeginOf, TextOf}
@@ -34,6 +35,7 @@ new_one (word ∷ words) x y p q = server_one words x y p.1 q.1
 
 -- no other words of a server begin with the word for a new store
 not_known : (words : List (List ℕ)) → AreKnown Run (codes "--new" ∷ words) → ⊥
+unfolding file_options start_options
 not_known words known = cc
 
 not_new : (words : List (List ℕ)) (x y : ServerAsked) → AsksServer words x → AsksNew words y → ⊥

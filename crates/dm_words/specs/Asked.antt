@@ -21,6 +21,7 @@ files_of words =
       columns = words.columns;
       event_delays = option_map (λ x. x.now) words.event_delays;
       activity_delays = option_map (λ x. x.now) words.activity_delays;
+      cancelled = option_map (λ x. x.now) words.cancelled;
     }
 
 abbrev pub names_in : Names → List (List ℕ)

@@ -31,6 +31,9 @@ event_delays_option = codes "--event-delays="
 abbrev pub activity_delays_option : List ℕ
 activity_delays_option = codes "--activity-delays="
 
+abbrev pub cancelled_option : List ℕ
+cancelled_option = codes "--cancelled="
+
 abbrev pub boards_option : List ℕ
 boards_option = codes "--boards="
 
@@ -53,11 +56,13 @@ workers_option = codes "--workers="
 abbrev pub solve_option : List ℕ
 solve_option = codes "--solve"
 
+-- the options that name files of what is so at the start
+unfoldable pub start_options : List (List ℕ)
+start_options = event_delays_option ∷ activity_delays_option ∷ cancelled_option ∷ []
+
 -- the options of the files of a folder
-abbrev pub file_options : List (List ℕ)
-file_options =
-    penalty_option ∷ plans_option ∷ event_columns_option ∷ activity_columns_option ∷ event_delays_option ∷
-    activity_delays_option ∷ []
+unfoldable pub file_options : List (List ℕ)
+file_options = penalty_option ∷ plans_option ∷ event_columns_option ∷ activity_columns_option ∷ start_options
 
 -- the options of a command
 abbrev pub options_of : Kind → List (List ℕ)

@@ -4,7 +4,7 @@ use Rattle.std.specs.Prelude.{ℕ, ◌≡◌, ◌≤◌, true, ◌||◌, List, [
 use Rattle.std.specs.List.{list_all}
 use Rattle.dm_base.specs.declared.limits.TheConstants.{BOARDS, PENALTY, FEEDS}
 use Rattle.dm_lintim.specs.Columns.{FileColumns, ReadsFileColumns}
-use Rattle.dm_words.specs.Options.{GivesOption, activity_columns_option, activity_delays_option, batch_option, boards_option, event_columns_option, event_delays_option, is_name, is_option, options_of, penalty_option, plans_option}
+use Rattle.dm_words.specs.Options.{GivesOption, activity_columns_option, activity_delays_option, batch_option, boards_option, cancelled_option, event_columns_option, event_delays_option, is_name, is_option, options_of, penalty_option, plans_option}
 use Rattle.dm_words.specs.Ids.{AreIdsOrNone}
 use Rattle.dm_words.specs.Values.{IsNumber, IsNumberOr}
 use Rattle.dm_words.specs.Queries.{AsksOwn, HasNumber, HasWorkers, kind_of, word_of}
@@ -14,7 +14,8 @@ use Rattle.dm_words.specs.declared.options.Kind.{Kind}
 use Rattle.dm_words.specs.declared.options.Kind.TheVariants.{Run, Check, Gen, Query as Asking}
 use Rattle.dm_words.specs.declared.queries.Query.{Query}
 
--- the files of a folder, and the options that go with them; the files of delays are named where there are any
+-- the files of a folder, and the options that go with them; the files of delays, and the one of the events that are cancelled at the
+-- start, are named where there are any
 pub record FilesAsked : Type 0 where
   pub folder : List ℕ
   pub penalty : ℕ
@@ -22,6 +23,7 @@ pub record FilesAsked : Type 0 where
   pub columns : FileColumns
   pub event_delays : Option (List ℕ)
   pub activity_delays : Option (List ℕ)
+  pub cancelled : Option (List ℕ)
 
 -- a run over these files: its feeds, how many lines of each are answered in a round, how many workers search for a plan, and the
 -- stops of its boards
@@ -101,6 +103,7 @@ pub record AsksFiles (words : List (List ℕ)) (asked : FilesAsked) : Type 0 whe
   pub gives_activities : GivesOption activity_columns_option words activities
   pub gives_event_delays : GivesOption event_delays_option words asked.event_delays
   pub gives_activity_delays : GivesOption activity_delays_option words asked.activity_delays
+  pub gives_cancelled : GivesOption cancelled_option words asked.cancelled
   pub are_columns : ReadsFileColumns (event_words events) (activity_words activities) (Ok asked.columns)
 
 -- each word is a name or an option of the command

@@ -7,8 +7,8 @@ ghost use Rattle.dm_words.specs.Words.{AsksFiles, FilesAsked, HasPlans, IsPenalt
 ghost use Rattle.dm_words.specs.Asked.{files_of};
 
 use crate::options::{
-    ACTIVITY_COLUMNS, ACTIVITY_DELAYS, EVENT_COLUMNS, EVENT_DELAYS, PENALTY_OPTION, PLANS_OPTION,
-    given,
+    ACTIVITY_COLUMNS, ACTIVITY_DELAYS, CANCELLED_OPTION, EVENT_COLUMNS, EVENT_DELAYS,
+    PENALTY_OPTION, PLANS_OPTION, given,
 };
 use dm_base::limits::PENALTY;
 use dm_base::read_whole;
@@ -112,6 +112,9 @@ pub struct FileWords<'a> {
 
     /// The name of a file of the folder.
     pub activity_delays: Option<&'a str>,
+
+    /// The name of a file of the folder.
+    pub cancelled: Option<&'a str>,
 }
 
 /// What the words say of the files of this folder.
@@ -140,6 +143,9 @@ pub fn read_files<'a>(folder: &'a str, words: &'a [String]) -> Option<FileWords<
     let Some(activity_delays) = given(ACTIVITY_DELAYS, words) else {
         return None;
     };
+    let Some(cancelled) = given(CANCELLED_OPTION, words) else {
+        return None;
+    };
     Some(FileWords {
         folder,
         penalty,
@@ -147,5 +153,6 @@ pub fn read_files<'a>(folder: &'a str, words: &'a [String]) -> Option<FileWords<
         columns,
         event_delays,
         activity_delays,
+        cancelled,
     })
 }

@@ -3,7 +3,7 @@ ghost use Rattle.std.specs.Prelude.{Bool, ◌≡◌, ◌∷◌, [], ◌||◌, �
 ghost use Rattle.std.specs.Option.{option_map};
 ghost use Rattle.std.specs.List.{list_all};
 ghost use Rattle.dm_words.specs.Asked.{names_in};
-ghost use Rattle.dm_words.specs.Options.{GivesOption, HasFlag, at_option, behind, file_options, held_option, is_name, is_option, minimal_option, options_of, solve_option, values_of};
+ghost use Rattle.dm_words.specs.Options.{GivesOption, HasFlag, at_option, batch_option, behind, boards_option, file_options, held_option, is_name, is_option, minimal_option, options_of, solve_option, start_options, values_of, workers_option};
 
 /// How the word of each option begins.
 pub const PENALTY_OPTION: &str = "--penalty=";
@@ -19,6 +19,8 @@ pub const ACTIVITY_COLUMNS: &str = "--activity-columns=";
 pub const EVENT_DELAYS: &str = "--event-delays=";
 
 pub const ACTIVITY_DELAYS: &str = "--activity-delays=";
+
+pub const CANCELLED_OPTION: &str = "--cancelled=";
 
 pub const BOARDS_OPTION: &str = "--boards=";
 
@@ -69,7 +71,18 @@ fn is_name(word: &str) -> bool
     }
 }
 
+/// Whether the word names a file of what is so at the start.
+#[tactic(auto, unfolding(crate::specs::Options::start_options))]
+fn is_start_option(word: &str) -> bool
+    ensures { result ≡ is_option start_options word.now }
+{
+    behind(EVENT_DELAYS, word).is_some()
+        || behind(ACTIVITY_DELAYS, word).is_some()
+        || behind(CANCELLED_OPTION, word).is_some()
+}
+
 /// Whether the word is an option of the files of a folder.
+#[tactic(auto, unfolding(crate::specs::Options::file_options))]
 fn is_file_option(word: &str) -> bool
     ensures { result ≡ is_option file_options word.now }
 {
@@ -77,8 +90,17 @@ fn is_file_option(word: &str) -> bool
         || behind(PLANS_OPTION, word).is_some()
         || behind(EVENT_COLUMNS, word).is_some()
         || behind(ACTIVITY_COLUMNS, word).is_some()
-        || behind(EVENT_DELAYS, word).is_some()
-        || behind(ACTIVITY_DELAYS, word).is_some()
+        || is_start_option(word)
+}
+
+/// Whether the word is an option of a run.
+fn is_run_option(word: &str) -> bool
+    ensures { result ≡ is_option (batch_option ∷ workers_option ∷ boards_option ∷ file_options) word.now }
+{
+    behind(BATCH_OPTION, word).is_some()
+        || behind(WORKERS_OPTION, word).is_some()
+        || behind(BOARDS_OPTION, word).is_some()
+        || is_file_option(word)
 }
 
 /// Whether the word is an option of a window.
@@ -97,12 +119,7 @@ fn is_option(kind: Kind, word: &str) -> bool
     ensures { result ≡ is_option (options_of kind) word.now }
 {
     match kind {
-        Kind::Run => {
-            behind(BATCH_OPTION, word).is_some()
-                || behind(WORKERS_OPTION, word).is_some()
-                || behind(BOARDS_OPTION, word).is_some()
-                || is_file_option(word)
-        }
+        Kind::Run => is_run_option(word),
         Kind::Check | Kind::Query(QueryKind::Follow) => is_file_option(word),
         Kind::Gen => behind(PENALTY_OPTION, word).is_some(),
         Kind::Query(QueryKind::Window) => is_window_option(word),

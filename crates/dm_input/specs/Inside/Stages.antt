@@ -55,6 +55,7 @@ rows_in files =
       activities = files.activities.items;
       event_delays = files.event_delays.items;
       activity_delays = files.activity_delays.items;
+      cancelled = files.cancelled.items;
     }
 
 pub record AllFit (files : Files) : Type 0 where

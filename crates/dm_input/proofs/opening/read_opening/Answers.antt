@@ -19,12 +19,12 @@ make_rows-requires-clause-activities g c = rw c.as_slice-2.ensures.value c.in_ok
 
 pub returns-in_err-rows-clause-stops : goal.returns-in_err-rows-clause-stops
 returns-in_err-rows-clause-stops g c =
-    let stops = rw (c.as_slice.ensures.value, c.as_slice-2.ensures.value) at c.in_err-rows.ensures.stops in
+    let stops = rw (c.as_slice.ensures.value, c.as_slice-2.ensures.value, c.as_slice-3.ensures.value) at c.in_err-rows.ensures.stops in
     let fact : StopsOpening (g.H.Shelf.files c.args.shelf.now) (g.H.Shelf.is_sound c.args.shelf.now) (files_of c.args.words.now) c.in_err-rows.field-0.0 =
     stops_start _ _ _ (rows_in c.in_ok-files.files) c.in_ok-net.net _ c.in_ok-files.ensures.rows c.in_ok-net.ensures.made stops in
     search rules
 
 pub returns-clause-opening : goal.returns-clause-opening
 returns-clause-opening g c =
-    let made = rw (c.as_slice.ensures.value, c.as_slice-2.ensures.value) at c.in_ok-rows.ensures.made in
+    let made = rw (c.as_slice.ensures.value, c.as_slice-2.ensures.value, c.as_slice-3.ensures.value) at c.in_ok-rows.ensures.made in
     opening_answer _ (files_of c.args.words.now) (rows_in c.in_ok-files.files) c.in_ok-net.net c.in_ok-rows.rows c.in_ok-files.ensures.rows c.in_ok-net.ensures.made made

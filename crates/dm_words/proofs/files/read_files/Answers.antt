@@ -17,3 +17,6 @@ returns-in_default-given-3 c = λ asked folder asks. c.in_default-given-3.ensure
 
 pub returns-in_default-given-4 : goal.returns-in_default-given-4
 returns-in_default-given-4 c = λ asked folder asks. c.in_default-given-4.ensures _ asks.gives_activity_delays
+
+pub returns-in_default-given-5 : goal.returns-in_default-given-5
+returns-in_default-given-5 c = λ asked folder asks. c.in_default-given-5.ensures _ asks.gives_cancelled
