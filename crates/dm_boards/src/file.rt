@@ -10,9 +10,10 @@ use std::io::Write as _;
 use std::marker::Model;
 use std::rt::Files;
 
-/// A board that appends a line `event; time` to a file for each change. The file is opened at the first show, and made where
-/// it is not there; what it holds stays. A show fails where the file cannot be opened or written, and for want of memory. It
-/// tells nothing of what it shows.
+/// A board that appends a line `event; time` to a file for each change of an event that is not cancelled, and a line
+/// `event; cancelled` for each event that is cancelled: so the last line of an event tells what the board shows. The file is
+/// opened at the first line, and made where it is not there; what it holds stays. A show or a cancel fails where the file cannot
+/// be opened or written, and for want of memory. It tells nothing of what it shows.
 #[derive(Drop)]
 pub struct FileBoard<R: Files<File = File> + Drop> {
     files: R,
@@ -25,7 +26,10 @@ pub struct FileBoard<R: Files<File = File> + Drop> {
     /// The event ids that stand there, ascending, each with its time in seconds.
     times: Vec<(u32, u64)>,
 
-    /// The lines of one show.
+    /// The ids of the events that are shown as cancelled, ascending.
+    cancelled: Vec<u32>,
+
+    /// The lines of one show or cancel.
     lines: Vec<u8>,
     faults: u64,
 }
@@ -57,6 +61,7 @@ impl<R: Files<File = File> + Drop> FileBoard<R> {
             stop,
             file: None,
             times: Vec::new(alloc),
+            cancelled: Vec::new(alloc),
             lines: Vec::new(alloc),
             faults: 0,
         }
@@ -67,21 +72,88 @@ impl<R: Files<File = File> + Drop> FileBoard<R> {
         ensures { self.new ≡ self.old }
     {
         self.lines.clear();
-        let Ok(()) = put_lines(&mut self.lines, changes) else {
+        let Ok(()) = put_lines(&mut self.lines, &self.cancelled, changes) else {
             return Err(Failed);
         };
-        append(&self.files, &self.path, &mut self.file, &self.lines)?;
+        self.append_lines()?;
         let Ok(()) = keep(&mut self.times, changes) else {
             return Err(Failed);
         };
         Ok(())
     }
+
+    /// Appends a line for each event that is cancelled, and keeps which are.
+    fn mark_down(&mut self, changes: &[(u32, bool)]) -> Result<(), Failed>
+        ensures { self.new ≡ self.old }
+    {
+        self.lines.clear();
+        let Ok(()) = put_marks(&mut self.lines, changes) else {
+            return Err(Failed);
+        };
+        self.append_lines()?;
+        let Ok(()) = mark_all(&mut self.cancelled, changes) else {
+            return Err(Failed);
+        };
+        Ok(())
+    }
+
+    /// Appends the lines to the file, which nothing is done to where there are none.
+    fn append_lines(&mut self) -> Result<(), Failed>
+        ensures { self.new ≡ self.old }
+    {
+        if self.lines.is_empty() {
+            return Ok(());
+        }
+        append(&self.files, &self.path, &mut self.file, &self.lines)
+    }
 }
 
-/// Puts the lines of the changes behind others.
-fn put_lines(lines: &mut Vec<u8>, changes: &[(u32, u64)]) -> Result<(), AllocError> {
+/// Keeps of each event whether it is among the cancelled ones.
+fn mark_all(cancelled: &mut Vec<u32>, changes: &[(u32, bool)]) -> Result<(), AllocError> {
+    for (event, is_cancelled) in changes {
+        mark(cancelled, *event, *is_cancelled)?;
+    }
+    Ok(())
+}
+
+/// Keeps whether an event is among the cancelled ones.
+fn mark(cancelled: &mut Vec<u32>, event: u32, is_cancelled: bool) -> Result<(), AllocError> {
+    match (cancelled.binary_search(&event), is_cancelled) {
+        (Err(at), true) => {
+            cancelled.insert(at, event)?;
+            Ok(())
+        }
+        (Ok(at), false) => {
+            cancelled.remove(at);
+            Ok(())
+        }
+        _ => Ok(()),
+    }
+}
+
+/// Puts a line for each event that is cancelled behind others.
+fn put_marks(lines: &mut Vec<u8>, changes: &[(u32, bool)]) -> Result<(), AllocError> {
+    let mut digits = Buffer::new();
+    for (event, is_cancelled) in changes {
+        if *is_cancelled {
+            lines.extend_from_slice(digits.format(*event).as_bytes())?;
+            lines.extend_from_slice(b"; cancelled\n")?;
+        }
+    }
+    Ok(())
+}
+
+/// Puts the lines of the changes behind others, but for those of cancelled events.
+fn put_lines(
+    lines: &mut Vec<u8>,
+    cancelled: &[u32],
+    changes: &[(u32, u64)],
+) -> Result<(), AllocError> {
     let mut digits = Buffer::new();
     for (event, time) in changes {
+        if cancelled.binary_search(event).is_ok() {
+            continue;
+        }
         lines.extend_from_slice(digits.format(*event).as_bytes())?;
         lines.extend_from_slice(b"; ")?;
         lines.extend_from_slice(digits.format(*time).as_bytes())?;
@@ -161,6 +233,8 @@ impl<R: Files<File = File> + Drop> Board for FileBoard<R> {
 
     ghost times = { λ _. None };
 
+    ghost flags = { λ _. None };
+
     ghost faults = { λ board. board.faults };
 
     ghost is_sound = { λ _ _. ⊥ };
@@ -178,6 +252,21 @@ impl<R: Files<File = File> + Drop> Board for FileBoard<R> {
             return Err(failed);
         }
         Ok(())
+    }
+
+    fn cancel(&mut self, changes: &[(u32, bool)]) -> Result<(), Failed> {
+        if changes.is_empty() {
+            return Ok(());
+        }
+        if let Err(failed) = self.mark_down(changes) {
+            self.faults = next_fault(self.faults);
+            return Err(failed);
+        }
+        Ok(())
+    }
+
+    fn cancelled(&self, event: u32) -> Option<bool> {
+        Some(self.cancelled.binary_search(&event).is_ok())
     }
 
     fn shown(&self, event: u32) -> Option<u64> {

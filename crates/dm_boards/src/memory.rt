@@ -1,9 +1,9 @@
 //! A board in memory.
 ghost use Rattle.std.specs.Prelude.{◌≡◌, ◌==◌, ◌↔◌, ◌<◌, true, ℕ, All, Some, None, IsOk, IsErr, IfOk, OnOk, OnErr, IsTrue, is_some, length, position, replicate, vec_len};
-ghost use Rattle.dm_outside.specs.Board.{Sets, times_after};
+ghost use Rattle.dm_outside.specs.Board.{Sets, SetsValues, values_after};
 ghost use Rattle.dm_outside.specs.Calls.{NoneListed, next_call};
 ghost use Rattle.dm_outside.specs.Faults.{Counts};
-ghost use Rattle.dm_boards.specs.Memory.{time_shown, knows, knows_all, Fails};
+ghost use Rattle.dm_boards.specs.Memory.{time_shown, value_shown, knows, knows_all, Fails};
 
 use dm_outside::{Board, Calls, Failed};
 use std::alloc::{AllocError, Global};
@@ -14,9 +14,10 @@ use std::marker::Model;
 pub struct MemBoard {
     stop: u32,
 
-    /// The ids of the events that it can show, and the time in seconds that it shows of each.
+    /// The ids of the events that it can show, the time in seconds that it shows of each, and whether it shows it as cancelled.
     ids: Vec<u32>,
     times: Vec<Option<u64>>,
+    flags: Vec<Option<bool>>,
 
     fails: Vec<u64>,
     calls: Calls,
@@ -32,17 +33,19 @@ impl Model for MemBoard {
       stop = board.stop;
       ids = board.ids.items;
       times = board.times.items;
+      flags = board.flags.items;
       fails = board.fails.items;
       made = board.calls.made;
       faults = board.calls.faults;
     } };
 
-    ghost invariant = { λ board. vec_len board.times ≡ vec_len board.ids };
+    ghost invariant = { λ board. (vec_len board.times ≡ vec_len board.ids) × (vec_len board.flags ≡ vec_len board.ids) };
 }
 
 impl MemBoard {
-    /// A board of this stop that shows nothing yet, and can show the events with these ids. A show of another id fails, and
-    /// so do the shows of anything whose numbers are in `fails`, counted from 1. The error is want of memory for the times.
+    /// A board of this stop that shows nothing yet, and can show the events with these ids. A show or a cancel of another id fails,
+    /// and so do those of anything whose numbers are in `fails`, counted together from 1. The error is want of memory for what it
+    /// shows.
     pub fn new(
         alloc: Global,
         stop: u32,
@@ -53,6 +56,7 @@ impl MemBoard {
           stop = stop;
           ids = ids.items;
           times = replicate (vec_len ids) None;
+          flags = replicate (vec_len ids) None;
           fails = fails.items;
           made = 0;
           faults = 0;
@@ -61,6 +65,7 @@ impl MemBoard {
         Ok(MemBoard {
             stop,
             times: vec![in alloc; None; ids.len()]?,
+            flags: vec![in alloc; None; ids.len()]?,
             ids,
             fails,
             calls: Calls::new(),
@@ -76,7 +81,7 @@ fn place_of(ids: &[u32], event: u32) -> Option<usize>
 }
 
 /// Whether each event of the changes can be shown.
-fn knows_all(ids: &[u32], changes: &[(u32, u64)]) -> bool
+fn knows_all<V>(ids: &[u32], changes: &[(u32, V)]) -> bool
     ensures { result ≡ knows_all ids.now changes.now }
 {
     changes
@@ -84,8 +89,8 @@ fn knows_all(ids: &[u32], changes: &[(u32, u64)]) -> bool
         .all(|(event, _)| place_of(ids, *event).is_some())
 }
 
-/// Counts a show of these changes, and says whether it fails.
-fn is_failing(calls: &mut Calls, fails: &[u64], ids: &[u32], changes: &[(u32, u64)]) -> bool
+/// Counts a call with these changes, and says whether it fails.
+fn is_failing<V>(calls: &mut Calls, fails: &[u64], ids: &[u32], changes: &[(u32, V)]) -> bool
     ensures fails { IsTrue result ↔ Fails calls.old.made fails.now ids.now changes.now }
     ensures made { calls.new.made ≡ next_call calls.old.made }
     ensures faults { calls.new.faults ≡ calls.old.faults }
@@ -95,27 +100,29 @@ fn is_failing(calls: &mut Calls, fails: &[u64], ids: &[u32], changes: &[(u32, u6
 }
 
 /// Sets each listed pair in turn.
-fn set_all(ids: &[u32], times: &mut [Option<u64>], changes: &[(u32, u64)])
+fn set_all<V: Copy>(ids: &[u32], values: &mut [Option<V>], changes: &[(u32, V)])
     requires known { knows_all ids.now changes.now ≡ true }
-    requires sized { length times.old ≡ length ids.now }
-    ensures { (event : ℕ) → time_shown ids.now times.new event ≡ times_after (time_shown ids.now times.old) changes.now event }
+    requires sized { length values.old ≡ length ids.now }
+    ensures { (event : ℕ) → value_shown ids.now values.new event ≡ values_after (value_shown ids.now values.old) changes.now event }
 {
-    for (event, time) in changes {
+    for (event, value) in changes {
         let Some(place) = place_of(ids, *event) else {
             unreachable!();
         };
-        times[place] = Some(*time);
+        values[place] = Some(*value);
     }
 }
 
 impl Board for MemBoard {
     ghost use Rattle.std.specs.Prelude.{◌≡◌, Some, true};
     ghost use Rattle.dm_outside.specs.Calls.{NoneListed};
-    ghost use Rattle.dm_boards.specs.Memory.{time_shown, knows};
+    ghost use Rattle.dm_boards.specs.Memory.{time_shown, value_shown, knows};
 
     ghost place = { λ board. board.stop };
 
     ghost times = { λ board. Some (time_shown board.ids board.times) };
+
+    ghost flags = { λ board. Some (value_shown board.ids board.flags) };
 
     ghost faults = { λ board. board.faults };
 
@@ -143,6 +150,7 @@ impl Board for MemBoard {
         ensures counted { self.new.made ≡ next_call self.old.made }
         ensures faultless { OnOk result (self.new.faults ≡ self.old.faults) }
         ensures faulted { OnErr result (self.new.faults ≡ next_call self.old.faults) }
+        ensures same_flags { self.new.flags ≡ self.old.flags }
         ensures same_ids { self.new.ids ≡ self.old.ids }
         ensures same_fails { self.new.fails ≡ self.old.fails }
     {
@@ -152,6 +160,41 @@ impl Board for MemBoard {
         }
         set_all(&self.ids, &mut self.times, changes);
         Ok(())
+    }
+
+    // As a show, of what it shows as cancelled: the two are counted together.
+    fn cancel(&mut self, changes: &[(u32, bool)]) -> Result<(), Failed>
+        ensures place { self.new.stop ≡ self.old.stop }
+        ensures sets { OnOk result (SetsValues (Some (value_shown self.old.ids self.old.flags))
+            (Some (value_shown self.new.ids self.new.flags)) changes.now) }
+        ensures cause { Counts self.old.faults self.new.faults result }
+        ensures sound { All (λ change. NoneListed self.old.made self.old.fails × (knows self.old.ids change.0 ≡ true)) changes.now
+            → IsOk result }
+        ensures stays_sound { All (λ change. NoneListed self.old.made self.old.fails × (knows self.old.ids change.0 ≡ true)) changes.now
+            → (event : ℕ) → NoneListed self.old.made self.old.fails × (knows self.old.ids event ≡ true)
+            → NoneListed self.new.made self.new.fails × (knows self.new.ids event ≡ true) }
+        ensures fails { IsErr result ↔ Fails self.old.made self.old.fails self.old.ids changes.now }
+        ensures failed { OnErr result (self.new.flags ≡ self.old.flags) }
+        ensures same_times { self.new.times ≡ self.old.times }
+        ensures counted { self.new.made ≡ next_call self.old.made }
+        ensures faultless { OnOk result (self.new.faults ≡ self.old.faults) }
+        ensures faulted { OnErr result (self.new.faults ≡ next_call self.old.faults) }
+        ensures same_ids { self.new.ids ≡ self.old.ids }
+        ensures same_fails { self.new.fails ≡ self.old.fails }
+    {
+        if is_failing(&mut self.calls, &self.fails, &self.ids, changes) {
+            self.calls.add_fault();
+            return Err(Failed);
+        }
+        set_all(&self.ids, &mut self.flags, changes);
+        Ok(())
+    }
+
+    fn cancelled(&self, event: u32) -> Option<bool>
+        ensures { result ≡ value_shown self.now.ids self.now.flags event }
+    {
+        let place = place_of(&self.ids, event)?;
+        self.flags[place]
     }
 
     fn shown(&self, event: u32) -> Option<u64>

@@ -16,14 +16,20 @@ mod written;
 use dm_samples::report_case;
 use entries::entries_are_kept;
 use orders::{orders_go_forward, turned_pair_has_no_order};
-use published::boards_are_called_for_what_differs;
+use published::{boards_are_called_for_cancelled_events, boards_are_called_for_what_differs};
 use std::io;
-use written::timetable_is_written;
+use written::{cancelled_event_is_written, timetable_is_written};
 
 fn main(rt: HostRuntime) -> io::Result<()> {
     report_case(&rt, "order", orders_go_forward)?;
     report_case(&rt, "no-order", turned_pair_has_no_order)?;
     report_case(&rt, "entries", entries_are_kept)?;
     report_case(&rt, "published-times", boards_are_called_for_what_differs)?;
-    report_case(&rt, "written-timetable", timetable_is_written)
+    report_case(
+        &rt,
+        "published-cancelled-events",
+        boards_are_called_for_cancelled_events,
+    )?;
+    report_case(&rt, "written-timetable", timetable_is_written)?;
+    report_case(&rt, "written-cancelled-event", cancelled_event_is_written)
 }

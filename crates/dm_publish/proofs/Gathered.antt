@@ -1,256 +1,169 @@
 -- The changes of one board.
-use Rattle.std.proofs.Common.{◌≡◌, ℕ, zero, suc, ◌+◌, ◌<◌, Bool, true, false, cond, eqb, List, [], ◌∷◌, ◌++◌, length, Option, Some, None, Result, Ok, Err, refl, sym, ap, subst, ◌∙◌, inl, inr, arith, length-append}
-use Rattle.std.specs.Prelude.{All, IfSome, IsSome, OnOk, ◌==◌, unwrap_or, if◌then◌else◌}
+use Rattle.std.proofs.Common.{◌≡◌, ℕ, zero, suc, ◌+◌, ◌<◌, Bool, true, false, cond, eqb, List, [], ◌∷◌, ◌++◌, length, Option, Some, None, refl, sym, ap, subst, ◌∙◌, inl, inr, arith, ◌⊎◌, length-append}
+use Rattle.std.specs.Prelude.{All, IfSome, ◌==◌, if◌then◌else◌}
 use Rattle.std.proofs.lemmas.Bool.{cases_lt, cases_eq, eqb-true, eq-eqb, ne_eqb}
 use Rattle.std.proofs.lemmas.List.Elements.{All-push}
 use Rattle.dm_network.specs.Net.{Net, event_at, event_place, no_event}
 use Rattle.dm_network.specs.Start.{IsNetwork}
 use Rattle.dm_network.proofs.Keys.{key_is_found}
-use Rattle.dm_rows.specs.Timetable.{time_at}
-use Rattle.dm_outside.specs.Board.{times_after, Sets}
-use Rattle.dm_publish.specs.Shown.{IsAtStop, AllStand, ShowsTimes, ShowsLast, KeepsOthers, IsSoundFor}
+use Rattle.dm_outside.specs.Board.{values_after}
+use Rattle.dm_publish.specs.Shown.{IsAtStop, IsSoundFor}
 use Rattle.dm_publish.specs.declared.changes.Listed.{Listed}
-use Rattle.dm_publish.specs.Inside.Changes.{no_listed, place_at}
-use Rattle.dm_publish.specs.Inside.Refreshing.{TellsTime, IsDue, AreAtStop, Covers, Gathers, HasGathered, TakesChanges, Refreshes}
+use Rattle.dm_publish.specs.Inside.Changes.{StandsIn, no_listed, place_at}
+use Rattle.dm_publish.specs.Inside.Refreshing.{IsDue, AreAtStop, GathersValues}
 
 -- ---- changes made in turn
 
-after_push : (shown : ℕ → Option ℕ) (changes : List (ℕ × ℕ)) (c : ℕ × ℕ) (e : ℕ) →
-    times_after shown (changes ++ c ∷ []) e ≡ (if e == c.0 then Some c.1 else times_after shown changes e)
+after_push : {V : Type 0} (shown : ℕ → Option V) (changes : List (ℕ × V)) (c : ℕ × V) (e : ℕ) →
+    values_after shown (changes ++ c ∷ []) e ≡ (if e == c.0 then Some c.1 else values_after shown changes e)
 after_push shown [] c e = refl
 after_push shown (b ∷ changes) c e = after_push (λ other. if other == b.0 then Some b.1 else shown other) changes c e
 
--- all changes give each event its one time
-abbrev GivesTimes : (ℕ → ℕ) → List (ℕ × ℕ) → Type 0
-GivesTimes f changes = All (λ (c : ℕ × ℕ). c.1 ≡ f c.0) changes
-
-given : (e n : ℕ) (t : ℕ) (o : Option ℕ) (r : Option ℕ) → (e ≡ n → Some t ≡ r) → (o ≡ r) → (if e == n then Some t else o) ≡ r
-given e n t o r same other =
-    elim (eqb e n) as (λ b. eqb e n ≡ b → cond b (Some t) o ≡ r) [ true ↦ λ q. same (eqb-true e n q) | false ↦ λ q. other ] refl
-
--- what stands with its time still does after them
-stays : (f : ℕ → ℕ) (changes : List (ℕ × ℕ)) (shown : ℕ → Option ℕ) (e : ℕ) → GivesTimes f changes → shown e ≡ Some (f e) →
-    times_after shown changes e ≡ Some (f e)
-stays f [] shown e h is = is
-stays f (c ∷ changes) shown e h is =
-    stays f changes (λ other. if other == c.0 then Some c.1 else shown other) e (λ k d lt. h (suc k) d (omega arith))
-    (given e c.0 c.1 (shown e) (Some (f e)) (λ same. ap Some (h zero c (omega arith) ∙ ap f (sym same))) is)
+-- what holds of a value, changed or not
+either_way : {V : Type 0} (P : Option V → Type 0) (e n : ℕ) (v : V) (o : Option V) → (e ≡ n → P (Some v)) → P o → P (if e == n then Some v else o)
+either_way P e n v o changed stays =
+    elim (eqb e n) as (λ b. eqb e n ≡ b → P (cond b (Some v) o)) [ true ↦ λ q. changed (eqb-true e n q) | false ↦ λ q. stays ] refl
 
 -- what no change names stands as before
-not_named : (changes : List (ℕ × ℕ)) (shown : ℕ → Option ℕ) (e : ℕ) → All (λ (c : ℕ × ℕ). e ≡ c.0 → ⊥) changes →
-    times_after shown changes e ≡ shown e
+not_named : {V : Type 0} (changes : List (ℕ × V)) (shown : ℕ → Option V) (e : ℕ) → All (λ (c : ℕ × V). e ≡ c.0 → ⊥) changes →
+    values_after shown changes e ≡ shown e
 not_named [] shown e h = refl
-not_named (c ∷ changes) shown e h =
+not_named {V} (c ∷ changes) shown e h =
     not_named changes (λ other. if other == c.0 then Some c.1 else shown other) e (λ k d lt. h (suc k) d (omega arith))
-    ∙ given e c.0 c.1 (shown e) (shown e) (λ same. absurd (h zero c (omega arith) same)) refl
+    ∙ either_way (λ (o : Option V). o ≡ shown e) e c.0 c.1 (shown e) (λ same. absurd (h zero c (omega arith) same)) refl
 
-module _ (net : Net) (x : List ℕ) (network : IsNetwork net) where
-  -- the time of the event with this id
-  time_named : ℕ → ℕ
-  time_named e = time_at x (unwrap_or (event_place net (record { 0 = e })) 0)
+-- changes give the same where the same was shown
+pub same_after : {V : Type 0} (changes : List (ℕ × V)) (one other : ℕ → Option V) (e : ℕ) → one e ≡ other e → values_after one changes e ≡ values_after other changes e
+same_after [] one other e same = same
+same_after (c ∷ changes) one other e same =
+    same_after changes (λ x. if x == c.0 then Some c.1 else one x) (λ x. if x == c.0 then Some c.1 else other x) e
+    (ap (λ o. if e == c.0 then Some c.1 else o) same)
 
+-- ---- the changes of one board
+
+module _ (net : Net) (network : IsNetwork net) where
   event_found : (i : ℕ) → i < length net.events → event_place net (event_at net i).id ≡ Some i
   event_found i below =
       key_is_found (λ (v : _). v.id.0) net.events network.formed.events_ascend (event_at net i).id.0 i no_event below refl
 
-  time_of : (i : ℕ) → i < length net.events → time_named (event_at net i).id.0 ≡ time_at x i
-  unfolding time_named
-  time_of i below = ap (λ (o : Option ℕ). time_at x (unwrap_or o 0)) (event_found i below)
+  same_some : (i j : ℕ) → Some i ≡ Some j → i ≡ j
+  same_some i j e = cc
 
-  module _ (stop : ℕ) where
-    due_times : (changes : List (ℕ × ℕ)) → All (IsDue net x stop) changes → GivesTimes time_named changes
-    due_times changes h k d lt =
-        let due = h k d lt in
-        due.time ∙ (sym (time_of due.place due.at_stop.is_event) ∙ ap time_named (sym due.event))
+  -- events with the same id are one
+  same_event : (i j : ℕ) → i < length net.events → j < length net.events → (event_at net i).id.0 ≡ (event_at net j).id.0 → i ≡ j
+  same_event i j low high same =
+      same_some i j (sym (event_found i low) ∙ (ap (λ (n : ℕ). event_place net (record { 0 = n })) same ∙ event_found j high))
 
-    pub gathered_none : (told : Option (ℕ → Option ℕ)) (part : List Listed) (changes : List (ℕ × ℕ)) → changes ≡ [] → Gathers net x stop told part 0 changes
-    gathered_none told part changes empty =
-        let l : length changes ≡ 0 = ap length empty in
-        record {
-          due = λ k d lt. absurd (omega arith);
-          shows = no_shows told;
-          none = no_none told;
-          few = omega arith;
+  module _ {V : Type 0} (value : ℕ → V) (right : ℕ → Option V → Type 0) (gives : (i : ℕ) → right i (Some (value i))) (stop : ℕ) where
+    -- what is right of an event stays so
+    stays : (i : ℕ) → i < length net.events → (changes : List (ℕ × V)) (shown : ℕ → Option V) → All (IsDue net value stop) changes →
+        right i (shown (event_at net i).id.0) → right i (values_after shown changes (event_at net i).id.0)
+    stays i low [] shown due is = is
+    stays i low (c ∷ changes) shown due is =
+        let first = due zero c (omega arith) in
+        let given : (event_at net i).id.0 ≡ c.0 → right i (Some c.1) = λ same.
+        let here : i ≡ first.place = same_event i first.place low first.at_stop.is_event (same ∙ first.event) in
+        subst (λ (v : V). right i (Some v)) (ap value here ∙ sym first.is) (gives i) in
+        stays i low changes (λ other. if other == c.0 then Some c.1 else shown other) (λ k d lt. due (suc k) d (omega arith))
+        (either_way (right i) (event_at net i).id.0 c.0 c.1 (shown (event_at net i).id.0) given is)
+
+    module _ (quiet : Type 0) (told : Option (ℕ → Option V)) (part : List Listed) where
+      abbrev Gathered : ℕ → List (ℕ × V) → Type 0
+      Gathered k changes = GathersValues net value right quiet stop told part k changes
+
+      pub gathered_none : (changes : List (ℕ × V)) → changes ≡ [] → Gathered 0 changes
+      gathered_none changes empty =
+          let l : length changes ≡ 0 = ap length empty in
+          record { due = λ k d lt. absurd (omega arith); shows = none_yet told; none = λ _. empty; few = omega arith }
+        where
+          none_yet : (told : Option (ℕ → Option V)) → IfSome told (λ shown. (j : ℕ) → j < 0 →
+              right (place_at part j) (values_after shown changes (event_at net (place_at part j)).id.0))
+          none_yet None = tt
+          none_yet (Some shown) = λ j lt. absurd (omega arith)
+
+      module _ (k : ℕ) (all : AreAtStop net stop part) (below : k < length part) (changes : List (ℕ × V)) (g : Gathered k changes) where
+        place : ℕ
+        place = place_at part k
+
+        here : IsAtStop net stop (place_at part k)
+        here = all k no_listed below
+
+        -- an event of which what is shown is right
+        pub gathered_right : IfSome told (λ shown. right (place_at part k) (shown (event_at net (place_at part k)).id.0)) → Gathered (k + 1) changes
+        gathered_right is = record {
+          due = g.due;
+          shows = shows_more told is g.shows;
+          none = g.none;
+          few = let f = g.few in omega arith;
         }
-      where
-        no_shows : (told : Option (ℕ → Option ℕ)) → IfSome told (λ shown. (j : ℕ) → j < 0 →
-            times_after shown changes (event_at net (place_at part j)).id.0 ≡ Some (time_at x (place_at part j)))
-        no_shows None = tt
-        no_shows (Some shown) = λ j lt. absurd (omega arith)
-
-        no_none : (told : Option (ℕ → Option ℕ)) → IfSome told (λ shown. AllStand net x stop shown → changes ≡ [])
-        no_none None = tt
-        no_none (Some shown) = λ all. empty
-
-    module _ (part : List Listed) (k : ℕ) (here : IsAtStop net stop (place_at part k)) (before : (j : ℕ) → j < k → IsAtStop net stop (place_at part j)) where
-      -- an event that stands with its time
-      pub gathered_standing : (told : Option (ℕ → Option ℕ)) (changes : List (ℕ × ℕ)) → Gathers net x stop told part k changes →
-          TellsTime told (event_at net (place_at part k)).id.0 (time_at x (place_at part k)) true → Gathers net x stop told part (k + 1) changes
-      gathered_standing None changes g tells = record { due = g.due; shows = tt; none = tt; few = let f = g.few in omega arith }
-      gathered_standing (Some shown) changes g tells =
-          record {
-            due = g.due;
-            shows = λ j lt. elim (cases_lt j k) [
-              | inl earlier ↦ g.shows j earlier
+          where
+            shows_more : (told : Option (ℕ → Option V)) → IfSome told (λ shown. right (place_at part k) (shown (event_at net (place_at part k)).id.0)) →
+                IfSome told (λ shown. (j : ℕ) → j < k → right (place_at part j) (values_after shown changes (event_at net (place_at part j)).id.0)) →
+                IfSome told (λ shown. (j : ℕ) → j < k + 1 → right (place_at part j) (values_after shown changes (event_at net (place_at part j)).id.0))
+            shows_more None is h = tt
+            shows_more (Some shown) is h = λ j lt. elim (cases_lt j k) [
+              | inl earlier ↦ h j earlier
               | inr past ↦
                   let same : k ≡ j = omega arith in
-                  let time : time_named (event_at net (place_at part k)).id.0 ≡ time_at x (place_at part k) = time_of (place_at part k) here.is_event in
-                  let there : times_after shown changes (event_at net (place_at part k)).id.0 ≡ Some (time_at x (place_at part k)) =
-                  stays time_named changes shown (event_at net (place_at part k)).id.0 (due_times changes g.due) (tells ∙ ap Some (sym time)) ∙ ap Some time in
-                  subst (λ (i : ℕ). times_after shown changes (event_at net (place_at part i)).id.0 ≡ Some (time_at x (place_at part i))) same there
-            ];
-            none = g.none;
-            few = let f = g.few in omega arith;
-          }
+                  subst (λ (i : ℕ). right (place_at part i) (values_after shown changes (event_at net (place_at part i)).id.0)) same
+                  (stays (place_at part k) here.is_event changes shown g.due is)
+            ]
 
-      -- an event that does not
-      pub gathered_change : (told : Option (ℕ → Option ℕ)) (changes : List (ℕ × ℕ)) → Gathers net x stop told part k changes →
-          TellsTime told (event_at net (place_at part k)).id.0 (time_at x (place_at part k)) false →
-          Gathers net x stop told part (k + 1) (changes ++ ((event_at net (place_at part k)).id.0, time_at x (place_at part k)) ∷ [])
-      gathered_change told changes g lacks =
-          let c : ℕ × ℕ = ((event_at net (place_at part k)).id.0, time_at x (place_at part k)) in
-          record {
-            due = All-push (IsDue net x stop) changes c g.due (record { place = place_at part k; at_stop = here; event = refl; time = refl });
-            shows = all_show told g.shows;
-            none = not_all told lacks;
-            few = let f = g.few in let l = length-append changes (c ∷ []) in omega arith;
-          }
+        -- an event that is to be changed
+        pub gathered_change : (quiet → ⊥) → Gathered (k + 1) (changes ++ ((event_at net (place_at part k)).id.0, value (place_at part k)) ∷ [])
+        gathered_change loud =
+            let c : ℕ × V = ((event_at net (place_at part k)).id.0, value (place_at part k)) in
+            record {
+              due = All-push (IsDue net value stop) changes c g.due (record { place = place_at part k; at_stop = here; event = refl; is = refl });
+              shows = shows_all told g.shows;
+              none = λ q. absurd (loud q);
+              few = let f = g.few in let l = length-append changes (c ∷ []) in omega arith;
+            }
+          where
+            shows_all : (told : Option (ℕ → Option V)) →
+                IfSome told (λ shown. (j : ℕ) → j < k → right (place_at part j) (values_after shown changes (event_at net (place_at part j)).id.0)) →
+                IfSome told (λ shown. (j : ℕ) → j < k + 1 → right (place_at part j)
+                (values_after shown (changes ++ ((event_at net (place_at part k)).id.0, value (place_at part k)) ∷ []) (event_at net (place_at part j)).id.0))
+            shows_all None h = tt
+            shows_all (Some shown) h = λ j lt.
+                let c : ℕ × V = ((event_at net (place_at part k)).id.0, value (place_at part k)) in
+                let e : ℕ = (event_at net (place_at part j)).id.0 in
+                let at : IsAtStop net stop (place_at part j) = all j no_listed (omega arith) in
+                let changed : e ≡ c.0 → right (place_at part j) (Some c.1) = λ same.
+                let one : place_at part j ≡ place_at part k = same_event (place_at part j) (place_at part k) at.is_event here.is_event same in
+                subst (λ (v : V). right (place_at part j) (Some v)) (ap value one) (gives (place_at part j)) in
+                subst (right (place_at part j)) (sym (after_push shown changes c e)) (elim (cases_eq e c.0) [
+                  | inl same ↦ subst (λ (b : Bool). right (place_at part j) (cond b (Some c.1) (values_after shown changes e))) (sym (eq-eqb e c.0 same)) (changed same)
+                  | inr ne ↦ subst (λ (b : Bool). right (place_at part j) (cond b (Some c.1) (values_after shown changes e))) (sym (ne_eqb e c.0 ne)) (h j (earlier j lt ne))
+                ])
+              where
+                earlier : (j : ℕ) → j < k + 1 → ((event_at net (place_at part j)).id.0 ≡ (event_at net (place_at part k)).id.0 → ⊥) → j < k
+                earlier j lt ne = elim (cases_lt j k) [
+                  | inl low ↦ low
+                  | inr past ↦ let same : j ≡ k = omega arith in absurd (ne (ap (λ (i : ℕ). (event_at net (place_at part i)).id.0) same))
+                ]
+
+      -- all events are looked at, and of those that are not listed what was shown is right
+      pub gathered_all : (changes : List (ℕ × V)) → Gathered (length part) changes →
+          IfSome told (λ shown. (i : ℕ) → IsAtStop net stop i → StandsIn part i ⊎ right i (shown (event_at net i).id.0)) →
+          IfSome told (λ shown. (i : ℕ) → IsAtStop net stop i → right i (values_after shown changes (event_at net i).id.0))
+      gathered_all changes g = for_all told g.shows
         where
-          all_show : (told : Option (ℕ → Option ℕ)) →
-              IfSome told (λ shown. (j : ℕ) → j < k → times_after shown changes (event_at net (place_at part j)).id.0 ≡ Some (time_at x (place_at part j))) →
-              IfSome told (λ shown. (j : ℕ) → j < k + 1 →
-              times_after shown (changes ++ ((event_at net (place_at part k)).id.0, time_at x (place_at part k)) ∷ []) (event_at net (place_at part j)).id.0 ≡ Some (time_at x (place_at part j)))
-          all_show None h = tt
-          all_show (Some shown) h = λ j lt.
-              let c : ℕ × ℕ = ((event_at net (place_at part k)).id.0, time_at x (place_at part k)) in
-              let e : ℕ = (event_at net (place_at part j)).id.0 in
-              let time_k : time_named c.0 ≡ c.1 = time_of (place_at part k) here.is_event in
-              after_push shown changes c e ∙ elim (cases_eq e c.0) [
-                | inl same ↦ rw (eq-eqb e c.0 same) (ap Some (sym time_k ∙ (ap time_named (sym same) ∙ time_here j lt)))
-                | inr ne ↦ rw (ne_eqb e c.0 ne) (h j (earlier j lt ne))
-              ]
-            where
-              time_here : (j : ℕ) → j < k + 1 → time_named (event_at net (place_at part j)).id.0 ≡ time_at x (place_at part j)
-              time_here j lt = elim (cases_lt j k) [
-                | inl low ↦ let at = before j low in time_of (place_at part j) at.is_event
-                | inr past ↦ let same : k ≡ j = omega arith in
-                    subst (λ (i : ℕ). time_named (event_at net (place_at part i)).id.0 ≡ time_at x (place_at part i)) same (time_of (place_at part k) here.is_event)
-              ]
+          for_all : (told : Option (ℕ → Option V)) →
+              IfSome told (λ shown. (j : ℕ) → j < length part → right (place_at part j) (values_after shown changes (event_at net (place_at part j)).id.0)) →
+              IfSome told (λ shown. (i : ℕ) → IsAtStop net stop i → StandsIn part i ⊎ right i (shown (event_at net i).id.0)) →
+              IfSome told (λ shown. (i : ℕ) → IsAtStop net stop i → right i (values_after shown changes (event_at net i).id.0))
+          for_all None h was = tt
+          for_all (Some shown) h was = λ i at. elim (was i at) [
+            | inl s ↦ subst (λ (v : ℕ). right v (values_after shown changes (event_at net v).id.0)) s.is (h s.at s.within)
+            | inr is ↦ stays i at.is_event changes shown g.due is
+          ]
 
-              earlier : (j : ℕ) → j < k + 1 → ((event_at net (place_at part j)).id.0 ≡ (event_at net (place_at part k)).id.0 → ⊥) → j < k
-              earlier j lt ne = elim (cases_lt j k) [
-                | inl low ↦ low
-                | inr past ↦ let same : j ≡ k = omega arith in absurd (ne (ap (λ (i : ℕ). (event_at net (place_at part i)).id.0) same))
-              ]
+    -- what no event at the stop is stands as before
+    pub others_stand : (changes : List (ℕ × V)) (shown : ℕ → Option V) → All (IsDue net value stop) changes → (event : ℕ) →
+        ((i : ℕ) → IsAtStop net stop i → (event_at net i).id.0 ≡ event → ⊥) → values_after shown changes event ≡ shown event
+    others_stand changes shown due event none =
+        not_named changes shown event (λ k d lt same. let h = due k d lt in none h.place h.at_stop (sym h.event ∙ sym same))
 
-          not_all : (told : Option (ℕ → Option ℕ)) → TellsTime told (event_at net (place_at part k)).id.0 (time_at x (place_at part k)) false →
-              IfSome told (λ shown. AllStand net x stop shown → changes ++ ((event_at net (place_at part k)).id.0, time_at x (place_at part k)) ∷ [] ≡ [])
-          not_all None t = tt
-          not_all (Some shown) t = λ all. absurd (t (all (place_at part k) here))
-
-    -- one event more, with the changes that stand after it
-    pub gathered_next : (told : Option (ℕ → Option ℕ)) (part : List Listed) (k : ℕ) (all : AreAtStop net stop part) (below : k < length part)
-        (changes : List (ℕ × ℕ)) (id t : ℕ) → Gathers net x stop told part k changes → id ≡ (event_at net (place_at part k)).id.0 → t ≡ time_at x (place_at part k) →
-        (answer : Bool) → TellsTime told id t answer → (after : List (ℕ × ℕ)) →
-        after ≡ (if answer then changes else changes ++ (id, t) ∷ []) → Gathers net x stop told part (k + 1) after
-    gathered_next told part k all below changes id t g id-is t-is answer tells after is =
-        let here = all k no_listed below in
-        let before : (j : ℕ) → j < k → IsAtStop net stop (place_at part j) = λ j lt. all j no_listed (omega arith) in
-        let e : ℕ = (event_at net (place_at part k)).id.0 in
-        let u : ℕ = time_at x (place_at part k) in
-        let told_so : TellsTime told e u answer = subst (λ (n : ℕ). TellsTime told n u answer) id-is (subst (λ (v : ℕ). TellsTime told id v answer) t-is tells) in
-        let is_so : after ≡ (if answer then changes else changes ++ (e, u) ∷ []) =
-        is ∙ (ap (λ (n : ℕ). if answer then changes else changes ++ (n, t) ∷ []) id-is ∙ ap (λ (v : ℕ). if answer then changes else changes ++ (e, v) ∷ []) t-is) in
-        rw is_so (elim answer as (λ (b : Bool). TellsTime told e u b → Gathers net x stop told part (k + 1) (if b then changes else changes ++ (e, u) ∷ [])) [
-          | true ↦ λ h. gathered_standing part k here before told changes g h
-          | false ↦ λ h. gathered_change part k here before told changes g h
-        ] told_so)
-
-    -- all events are looked at
-    pub gathered_all : (last : List ℕ) (told : Option (ℕ → Option ℕ)) (part : List Listed) → Covers net last x stop part → (changes : List (ℕ × ℕ)) →
-        Gathers net x stop told part (length part) changes → HasGathered net last x stop told changes
-    gathered_all last told part covers changes g = record { due = g.due; shows = λ showed. all_stand told showed g.shows; none = g.none }
-      where
-        all_stand : (told : Option (ℕ → Option ℕ)) → ShowsLast net last stop told →
-            IfSome told (λ shown. (j : ℕ) → j < length part → times_after shown changes (event_at net (place_at part j)).id.0 ≡ Some (time_at x (place_at part j))) →
-            IfSome told (λ shown. AllStand net x stop (times_after shown changes))
-        all_stand None showed h = tt
-        all_stand (Some shown) showed h = λ i at. elim (covers.each i at) [
-          | inl s ↦ subst (λ (v : ℕ). times_after shown changes (event_at net v).id.0 ≡ Some (time_at x v)) s.is (h s.at s.within)
-          | inr l ↦
-              let time : time_named (event_at net i).id.0 ≡ time_at x i = time_of i at.is_event in
-              stays time_named changes shown (event_at net i).id.0 (due_times changes g.due) (showed i at l.within ∙ ap Some (l.same ∙ sym time)) ∙ ap Some time
-        ]
-
-    module _ (last : List ℕ) (changes : List (ℕ × ℕ)) where
-      others_stand : (shown : ℕ → Option ℕ) → All (IsDue net x stop) changes → (event : ℕ) →
-          ((i : ℕ) → IsAtStop net stop i → (event_at net i).id.0 ≡ event → ⊥) → times_after shown changes event ≡ shown event
-      others_stand shown due event none =
-          not_named changes shown event (λ k d lt same. let h = due k d lt in none h.place h.at_stop (sym h.event ∙ sym same))
-
-      all_sound : (is_sound : ℕ → Type 0) → All (IsDue net x stop) changes → IsSoundFor net stop is_sound → All (λ (c : ℕ × ℕ). is_sound c.0) changes
-      all_sound is_sound due sound k d lt = let h = due k d lt in subst is_sound (sym h.event) (sound h.place h.at_stop)
-
-      abbrev AllGathered : Option (ℕ → Option ℕ) → Type 0
-      AllGathered told = HasGathered net last x stop told changes
-
-      shows_by_sets : (told now : Option (ℕ → Option ℕ)) → AllGathered told → Sets told now changes → IsSome told → ShowsLast net last stop told → ShowsTimes net x stop now
-      shows_by_sets None now g sets some showed = absurd (let e : IsSome {T = ℕ → Option ℕ} None = some in cc)
-      shows_by_sets (Some shown) None g sets some showed = absurd sets
-      shows_by_sets (Some shown) (Some after) g sets some showed = λ i at. sets (event_at net i).id.0 ∙ g.shows showed i at
-
-      others_by_sets : (told now : Option (ℕ → Option ℕ)) → AllGathered told → Sets told now changes → KeepsOthers net stop told now
-      others_by_sets None now g sets = tt
-      others_by_sets (Some shown) None g sets = sets
-      others_by_sets (Some shown) (Some after) g sets = λ event none. sets event ∙ others_stand shown g.due event none
-
-      -- where there is nothing to show the board shows the times already
-      quiet_sets : (told : Option (ℕ → Option ℕ)) → changes ≡ [] → Sets told told changes
-      quiet_sets None empty = tt
-      quiet_sets (Some shown) empty = λ event. sym (ap (λ (cs : List (ℕ × ℕ)). times_after shown cs event) empty)
-
-      -- a board that is called has something to show
-      not_quiet : (A : Type 0) (told : Option (ℕ → Option ℕ)) → AllGathered told → (changes ≡ [] → ⊥) → IfSome told (λ shown. AllStand net x stop shown → A)
-      not_quiet A None g some = tt
-      not_quiet A (Some shown) g some = λ all. absurd (some (g.none all))
-
--- ---- the board
-
-on_ok : {T E P Q : Type 0} (result : Result T E) → (P → Q) → OnOk result P → OnOk result Q
-on_ok (Ok t) f h = f h
-on_ok (Err e) f h = h
-
-module _ {B : Type 0} (place : B → ℕ) (times : B → Option (ℕ → Option ℕ)) (faults : B → ℕ) (is_sound : B → ℕ → Type 0)
-    (net : Net) (last x : List ℕ) (network : IsNetwork net) (before : B) (changes : List (ℕ × ℕ))
-    (g : HasGathered net last x (place before) (times before) changes) where
-  same_quiet : (told : Option (ℕ → Option ℕ)) → IfSome told (λ shown. AllStand net x (place before) shown → before ≡ before)
-  same_quiet None = tt
-  same_quiet (Some shown) = λ all. refl
-
-  pub refreshed_quietly : {T E : Type 0} → changes ≡ [] → (t : T) → Refreshes {E = E} place times faults is_sound net last x before before (Ok t)
-  refreshed_quietly empty t =
-      record {
-        same_stop = refl;
-        later = omega arith;
-        stays_sound = λ h. h;
-        succeeds = λ h. refl;
-        risen = tt;
-        shows = shows_by_sets net x network (place before) last changes (times before) (times before) g (quiet_sets net x network (place before) last changes (times before) empty);
-        others = others_by_sets net x network (place before) last changes (times before) (times before) g (quiet_sets net x network (place before) last changes (times before) empty);
-        quiet = same_quiet (times before);
-      }
-
-  pub refreshed_by_show : {T E : Type 0} (now : B) (result : Result T E) → (changes ≡ [] → ⊥) →
-      TakesChanges place times faults is_sound before now changes result → Refreshes place times faults is_sound net last x before now result
-  refreshed_by_show now result some takes =
-      record {
-        same_stop = takes.same_stop;
-        later = takes.cause.later;
-        stays_sound = λ h i at. let here : IsAtStop net (place before) i = subst (λ (s : ℕ). IsAtStop net s i) takes.same_stop at in
-            takes.stays_sound (all_sound net x network (place before) last changes (is_sound before) g.due h) (event_at net i).id.0 (h i here);
-        succeeds = λ h. takes.sound (all_sound net x network (place before) last changes (is_sound before) g.due h);
-        risen = takes.cause.failed;
-        shows = on_ok result (shows_by_sets net x network (place before) last changes (times before) (times now) g) takes.sets;
-        others = on_ok result (others_by_sets net x network (place before) last changes (times before) (times now) g) takes.sets;
-        quiet = not_quiet net x network (place before) last changes (now ≡ before) (times before) g some;
-      }
+    pub all_sound : (changes : List (ℕ × V)) (is_sound : ℕ → Type 0) → All (IsDue net value stop) changes → IsSoundFor net stop is_sound → All (λ (c : ℕ × V). is_sound c.0) changes
+    all_sound changes is_sound due sound k d lt = let h = due k d lt in subst is_sound (sym h.event) (sound h.place h.at_stop)

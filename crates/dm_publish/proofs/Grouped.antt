@@ -10,6 +10,7 @@ use Rattle.std.proofs.lemmas.List.{get_or_default, get_or-take, get_or-drop, len
 use Rattle.std.proofs.lemmas.List.Elements.{Contains-get_or}
 use Rattle.std.proofs.lemmas.List.Sorted.{IsNonDecreasingBy-from_all_adjacent}
 use Rattle.dm_network.specs.Net.{Net, event_at}
+use Rattle.dm_publish.specs.Value.{Published}
 use Rattle.dm_publish.specs.declared.changes.Listed.{Listed}
 use Rattle.dm_publish.specs.Shown.{IsAtStop}
 use Rattle.dm_publish.specs.Inside.Changes.{no_listed, StandsIn, ListsChanges}
@@ -103,7 +104,7 @@ module _ (net : Net) (stop : ℕ) (listed part : List Listed) (grouped : AreGrou
   pub part_few : length part ≤ length net.events
   part_few = let many = p.few in let f = grouped.few in omega arith
 
-  pub part_covers : (last x : List ℕ) → length x ≡ length net.events → ListsChanges last x listed → Covers net last x stop part
+  pub part_covers : (last x : Published) → length x.times ≡ length net.events → ListsChanges last x listed → Covers net last x stop part
   part_covers last x size h =
       record {
         each = λ i at. let lt = at.is_event in elim (h.each i (omega arith)) [

@@ -1,4 +1,5 @@
 pub mod Gathered
+pub mod Refreshed
 pub mod Grouped
 pub mod Listed
 pub mod Notes

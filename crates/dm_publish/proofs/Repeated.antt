@@ -6,14 +6,15 @@ use Rattle.std.proofs.lemmas.Option.{slice_get_within, slice_get-get_or, slice_g
 use Rattle.dm_outside.specs.Faults.{HasRisen}
 use Rattle.dm_network.specs.Net.{Net}
 use Rattle.dm_cert.specs.declared.notes.Note.{Note}
-use Rattle.dm_publish.specs.Shown.{KeepsOthers, ShowsLast, ShowsTimes}
+use Rattle.dm_publish.specs.Shown.{KeepsOthers, ShowsLast, ShowsTimes, ShowsCancelled, ShowsCancelledLast}
+use Rattle.dm_publish.specs.Value.{Published, nothing}
 use Rattle.dm_publish.specs.Publishing.{has_note, Publishes, IsDropped}
 use Rattle.dm_publish.specs.Since.{IsNoteSince, AllShow, AllShowLast, IsKeptSince, AreKeptSince}
 
 some_same : {X : Type 0} {x y : X} → Some x ≡ Some y → x ≡ y
 some_same e = cc
 
-risen_then : (a b c d : ℕ) → a ≤ b → c ≤ d → HasRisen b c → HasRisen a d
+pub risen_then : (a b c d : ℕ) → a ≤ b → c ≤ d → HasRisen b c → HasRisen a d
 risen_then a b c d low high (inl r) = inl (omega arith)
 risen_then a b c d low high (inr r) = inr (omega arith)
 
@@ -27,7 +28,7 @@ no_earlier_note (note ∷ notes) fresh at none =
     let b = both_false (at + 1 == note.board) (has_note (notes ++ fresh) at) none in
     ap (λ x. x || has_note notes at) b.0 ∙ no_earlier_note notes fresh at b.1
 
-told_still : (net : Net) (stop : ℕ) (before now : Option (ℕ → Option ℕ)) → KeepsOthers net stop before now → IsSome before → IsSome now
+told_still : {V : Type 0} (net : Net) (stop : ℕ) (before now : Option (ℕ → Option V)) → KeepsOthers net stop before now → IsSome before → IsSome now
 told_still net stop None now k some = absurd cc
 told_still net stop (Some f) None k some = absurd k
 told_still net stop (Some f) (Some g) k some = refl
@@ -37,11 +38,19 @@ shows_none : (net : Net) (stop : ℕ) (told : Option (ℕ → Option ℕ)) → S
 shows_none net stop None = tt
 shows_none net stop (Some shown) = λ i at lt. absurd (omega arith)
 
+marks_none : (net : Net) (stop : ℕ) (told : Option (ℕ → Option Bool)) → ShowsCancelledLast net [] stop told
+marks_none net stop None = tt
+marks_none net stop (Some shown) = λ i at lt. absurd (omega arith)
+
+marks_all : (net : Net) (cancelled : List Bool) (stop : ℕ) (told : Option (ℕ → Option Bool)) → ShowsCancelled net cancelled stop told → ShowsCancelledLast net cancelled stop told
+marks_all net cancelled stop None marks = tt
+marks_all net cancelled stop (Some shown) marks = λ i at lt. marks i at
+
 shows_all : (net : Net) (x : List ℕ) (stop : ℕ) (told : Option (ℕ → Option ℕ)) → ShowsTimes net x stop told → ShowsLast net x stop told
 shows_all net x stop None shows = tt
 shows_all net x stop (Some shown) shows = λ i at lt. shows i at
 
-module _ {B : Type 0} (place : B → ℕ) (times : B → Option (ℕ → Option ℕ)) (faults : B → ℕ) (is_sound : B → ℕ → Type 0) (net : Net) where
+module _ {B : Type 0} (place : B → ℕ) (times : B → Option (ℕ → Option ℕ)) (flags : B → Option (ℕ → Option Bool)) (faults : B → ℕ) (is_sound : B → ℕ → Type 0) (net : Net) where
   same_length : (old new : List B) → map place new ≡ map place old → length new ≡ length old
   same_length old new stops = sym (length-map new place) ∙ (ap length stops ∙ length-map old place)
 
@@ -55,22 +64,30 @@ module _ {B : Type 0} (place : B → ℕ) (times : B → Option (ℕ → Option 
   stands_at : (old new : List B) (at : ℕ) (before : B) → length new ≡ length old → slice_get old at ≡ Some before → slice_get new at ≡ Some (get_or new at before)
   stands_at old new at before same b = slice_get-get_or new at before (omega (arith, same, slice_get_within old at before b))
 
-  pub kept_at_first : (boards : List B) → AreKeptSince place times faults is_sound net boards boards []
+  pub kept_at_first : (boards : List B) → AreKeptSince place times flags faults is_sound net boards boards []
   kept_at_first boards = record {
     stops = refl;
     each = λ at before now b n.
-        let K : B → Type 0 = λ z. IsKeptSince place times faults is_sound net [] at before z in
-        subst K (some_same (sym b ∙ n)) (record { later = omega arith; sound = λ s. s; told = λ none some. some });
+        let K : B → Type 0 = λ z. IsKeptSince place times flags faults is_sound net [] at before z in
+        subst K (some_same (sym b ∙ n)) (record { later = omega arith; sound = λ s. s; told = λ none some. some; told_flags = λ none some. some });
     noted = All-nil (IsNoteSince place faults is_sound net boards boards);
   }
 
-  pub all_show_last : (x : List ℕ) (notes : List Note) (first now : List B) → AllShow place times net x notes first now → AllShowLast place times net x notes first now
-  all_show_last x notes first now all = λ at before after b n none some. shows_all net x (place after) (times after) (all at before after b n none some)
+  pub all_show_last : (x : Published) (notes : List Note) (first now : List B) → AllShow place times flags net x notes first now → AllShowLast place times flags net x notes first now
+  all_show_last x notes first now all = λ at before after b n none.
+      let shown = all at before after b n none in
+      record {
+        shows = λ some. shows_all net x.times (place after) (times after) (shown.shows some);
+        marks = λ some. marks_all net x.cancelled (place after) (flags after) (shown.marks some);
+      }
 
-  pub all_show_none : (notes : List Note) (first now : List B) → AllShowLast place times net [] notes first now
-  all_show_none notes first now = λ at before after b n none some. shows_none net (place after) (times after)
+  pub all_show_none : (notes : List Note) (first now : List B) → AllShowLast place times flags net nothing notes first now
+  all_show_none notes first now = λ at before after b n none. record {
+    shows = λ some. shows_none net (place after) (times after);
+    marks = λ some. marks_none net (place after) (flags after);
+  }
 
-  module _ (last x : List ℕ) (entry : ℕ) (old middle new : List B) (notes now_notes : List Note) (count : ℕ) (kept : AreKeptSince place times faults is_sound net old middle notes) (p : Publishes place times faults is_sound net last x entry middle new notes now_notes count) where
+  module _ (last x : Published) (entry : ℕ) (old middle new : List B) (notes now_notes : List Note) (count : ℕ) (kept : AreKeptSince place times flags faults is_sound net old middle notes) (p : Publishes place times flags faults is_sound net last x entry middle new notes now_notes count) where
     none_before : (at : ℕ) → has_note now_notes at ≡ false → has_note notes at ≡ false
     none_before at none = no_earlier_note notes p.fresh at (ap (λ l. has_note l at) (sym p.notes) ∙ none)
 
@@ -107,7 +124,7 @@ module _ {B : Type 0} (place : B → ℕ) (times : B → Option (ℕ → Option 
           unsound = λ s. d.unsound (k.sound s);
         }
 
-    pub published : AreKeptSince place times faults is_sound net old new now_notes
+    pub published : AreKeptSince place times flags faults is_sound net old new now_notes
     published = record {
       stops = p.stops ∙ kept.stops;
       each = λ at before now b n.
@@ -118,6 +135,7 @@ module _ {B : Type 0} (place : B → ℕ) (times : B → Option (ℕ → Option 
             later = omega (arith, k.later, q.later);
             sound = λ s. q.stays_sound (k.sound s);
             told = λ none some. told_still net (place now) (times (get_or middle at before)) (times now) (q.others none) (k.told (none_before at none) some);
+            told_flags = λ none some. told_still net (place now) (flags (get_or middle at before)) (flags now) (q.other_marks none) (k.told_flags (none_before at none) some);
           };
       noted =
           let P : Note → Type 0 = IsNoteSince place faults is_sound net old new in
@@ -126,8 +144,13 @@ module _ {B : Type 0} (place : B → ℕ) (times : B → Option (ℕ → Option 
           (All-weaker (IsDropped place faults is_sound net entry middle new notes) P new_note p.fresh p.dropped));
     }
 
-    pub all_shown : AllShowLast place times net last notes old middle → AllShow place times net x now_notes old new
-    all_shown showed = λ at before now b n none some.
+    pub all_shown : AllShowLast place times flags net last notes old middle → AllShow place times flags net x now_notes old new
+    all_shown showed = λ at before now b n none.
         let middle_is = stands_at old middle at before (same_length old middle kept.stops) b in
         let k = kept.each at before (get_or middle at before) b middle_is in
-        (p.each at (get_or middle at before) now middle_is n).shows none (k.told (none_before at none) some) (showed at before (get_or middle at before) b middle_is (none_before at none) some)
+        let q = p.each at (get_or middle at before) now middle_is n in
+        let was = showed at before (get_or middle at before) b middle_is (none_before at none) in
+        record {
+          shows = λ some. q.shows none (k.told (none_before at none) some) (was.shows some);
+          marks = λ some. q.marks none (k.told_flags (none_before at none) some) (was.marks some);
+        }

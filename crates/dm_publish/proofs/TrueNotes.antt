@@ -13,6 +13,7 @@ use Rattle.dm_cert.specs.declared.notes.Note.{Note}
 use Rattle.dm_cert.specs.Runs.{IsTrueNote, AreTrueNotes}
 use Rattle.dm_network.specs.Net.{Net}
 use Rattle.dm_publish.specs.Publishing.{has_note, Publishes}
+use Rattle.dm_publish.specs.Value.{Published}
 
 get_front : (xs ys : List Note) (i : ℕ) → i < length xs → slice_get (xs ++ ys) i ≡ slice_get xs i
 get_front [] ys i lt = absurd (omega arith)
@@ -132,9 +133,9 @@ module _ (entries entry : ℕ) (noted fresh : List Note) (were : AreTrueNotes en
       }
 
 -- what a list of boards is published on keeps its notes true
-module _ {B : Type 0} (place : B → ℕ) (times : B → Option (ℕ → Option ℕ)) (faults : B → ℕ) (is_sound : B → ℕ → Type 0)
-    (net : Net) (last x : List ℕ) (entry : ℕ) (old new : List B) (noted noted_now : List Note) (count : ℕ)
-    (p : Publishes place times faults is_sound net last x entry old new noted noted_now count) (boards : length old ≤ BOARDS) (few : length noted_now ≤ BOARDS) where
+module _ {B : Type 0} (place : B → ℕ) (times : B → Option (ℕ → Option ℕ)) (flags : B → Option (ℕ → Option Bool)) (faults : B → ℕ) (is_sound : B → ℕ → Type 0)
+    (net : Net) (last x : Published) (entry : ℕ) (old new : List B) (noted noted_now : List Note) (count : ℕ)
+    (p : Publishes place times flags faults is_sound net last x entry old new noted noted_now count) (boards : length old ≤ BOARDS) (few : length noted_now ≤ BOARDS) where
   are_new : All (IsNew entry noted) p.fresh
   are_new k d lt =
       let h = p.dropped k d lt in

@@ -1,6 +1,6 @@
 -- Boards kept up one after another.
-use Rattle.std.proofs.Common.{◌≡◌, ℕ, zero, suc, ◌+◌, ◌-◌, ◌<◌, ◌≤◌, Bool, true, false, eqb, List, [], ◌∷◌, ◌++◌, length, map, get_or, set, Option, Some, None, Result, Ok, Err, refl, sym, ap, subst, ◌∙◌, inl, inr, arith, length-append, append_assoc, ne_eqb, eq-eqb, slice_get}
-use Rattle.std.specs.Prelude.{All, IfSome, IsOk, OnOk, OnErr, ◌||◌}
+use Rattle.std.proofs.Common.{◌≡◌, ℕ, zero, suc, ◌+◌, ◌-◌, ◌<◌, ◌≤◌, Bool, true, false, eqb, List, [], ◌∷◌, ◌++◌, length, map, get_or, set, Option, Some, Result, Ok, Err, refl, sym, ap, subst, ◌∙◌, inl, inr, arith, length-append, append_assoc, ne_eqb, eq-eqb, slice_get}
+use Rattle.std.specs.Prelude.{All, IsOk, OnOk, OnErr, ◌||◌}
 use Rattle.std.specs.List.Sorted.{IsStrictlyIncreasing}
 use Rattle.std.proofs.lemmas.Bool.{cases_lt, cases_eq}
 use Rattle.std.proofs.lemmas.List.{map_push, length-map, get_or_append_left, get_or_push, append-nil, get_or-map}
@@ -11,7 +11,8 @@ use Rattle.std.proofs.Math.Seq.{map-set_same}
 use Rattle.dm_network.specs.Net.{Net}
 use Rattle.dm_cert.specs.declared.notes.Note.{Note}
 use Rattle.dm_outside.specs.declared.faults.Failed.{Failed}
-use Rattle.dm_publish.specs.Shown.{AllStand, ShowsTimes, KeepsOthers, IsSoundFor}
+use Rattle.dm_publish.specs.Shown.{ShowsTimes, ShowsCancelled, KeepsOthers, IsSoundFor}
+use Rattle.dm_publish.specs.Value.{Published}
 use Rattle.dm_publish.specs.Publishing.{has_note, IsKeptUp, IsDropped, Publishes}
 use Rattle.dm_publish.specs.Inside.Refreshing.{Refreshes}
 use Rattle.dm_publish.specs.Inside.Turns.{TakesTurn, is_left, is_shown, is_dropped, note_of, IsPublishedTo}
@@ -77,12 +78,8 @@ or_true false b h = h
 
 -- ---- the turn of a board
 
-module _ {B : Type 0} (place : B → ℕ) (times : B → Option (ℕ → Option ℕ)) (faults : B → ℕ) (is_sound : B → ℕ → Type 0)
-    (net : Net) (last x : List ℕ) (entry : ℕ) (old : List B) (noted : List Note) where
-  kept_quiet : (told : Option (ℕ → Option ℕ)) (before now : B) → now ≡ before → IfSome told (λ shown. AllStand net x (place before) shown → now ≡ before)
-  kept_quiet None before now e = tt
-  kept_quiet (Some shown) before now e = λ all. e
-
+module _ {B : Type 0} (place : B → ℕ) (times : B → Option (ℕ → Option ℕ)) (flags : B → Option (ℕ → Option Bool)) (faults : B → ℕ) (is_sound : B → ℕ → Type 0)
+    (net : Net) (last x : Published) (entry : ℕ) (old : List B) (noted : List Note) where
   from_ok : {P : Type 0} (result : Result (Unit {0}) Failed) → result ≡ Ok tt → OnOk result P → P
   from_ok {P = P} result is h = let Q : Result (Unit {0}) Failed → Type 0 = λ r. OnOk r P in subst Q is h
 
@@ -93,13 +90,13 @@ module _ {B : Type 0} (place : B → ℕ) (times : B → Option (ℕ → Option 
   no_ok result f is h = let e : IsOk {T = Unit {0}} (Err f) = subst (λ (r : Result (Unit {0}) Failed). IsOk r) is h in cc
 
   -- one that keeps its stop
-  turn_stop : (at : ℕ) (mid mid' : List Note) (b b' : B) → TakesTurn place times faults is_sound net last x entry at mid mid' b b' → place b' ≡ place b
+  turn_stop : (at : ℕ) (mid mid' : List Note) (b b' : B) → TakesTurn place times flags faults is_sound net last x entry at mid mid' b b' → place b' ≡ place b
   turn_stop at mid mid' b b' (is_left h e s) = ap place s
   turn_stop at mid mid' b b' (is_shown h e r ok s) = s.same_stop
   turn_stop at mid mid' b b' (is_dropped h e fits r f err s) = s.same_stop
 
   -- notes are never taken away
-  turn_notes : (at : ℕ) (mid mid' : List Note) (b b' : B) → TakesTurn place times faults is_sound net last x entry at mid mid' b b' →
+  turn_notes : (at : ℕ) (mid mid' : List Note) (b b' : B) → TakesTurn place times flags faults is_sound net last x entry at mid mid' b b' →
       (i : ℕ) → has_note mid' i ≡ false → has_note mid i ≡ false
   turn_notes at mid mid' b b' (is_left h e s) i n = ap (λ (ns : List Note). has_note ns i) (sym e) ∙ n
   turn_notes at mid mid' b b' (is_shown h e r ok s) i n = ap (λ (ns : List Note). has_note ns i) (sym e) ∙ n
@@ -109,7 +106,7 @@ module _ {B : Type 0} (place : B → ℕ) (times : B → Option (ℕ → Option 
 
   -- what becomes of the board
   turn_keeps : (at : ℕ) (mid mid' : List Note) (b b' : B) → has_note mid at ≡ has_note noted at →
-      TakesTurn place times faults is_sound net last x entry at mid mid' b b' → IsKeptUp place times faults is_sound net last x noted mid' at b b'
+      TakesTurn place times flags faults is_sound net last x entry at mid mid' b b' → IsKeptUp place times flags faults is_sound net last x noted mid' at b b'
   turn_keeps at mid mid' b b' same (is_left h e s) =
       let has : has_note mid' at ≡ true = ap (λ (ns : List Note). has_note ns at) e ∙ h in
       let count : faults b ≡ faults b' = ap faults (sym s) in
@@ -119,18 +116,24 @@ module _ {B : Type 0} (place : B → ℕ) (times : B → Option (ℕ → Option 
         left = λ _. s;
         shows = λ none. absurd (let both : true ≡ false = sym has ∙ none in cc);
         others = λ none. absurd (let both : true ≡ false = sym has ∙ none in cc);
-        quiet = kept_quiet (times b) b b' s;
+        marks = λ none. absurd (let both : true ≡ false = sym has ∙ none in cc);
+        other_marks = λ none. absurd (let both : true ≡ false = sym has ∙ none in cc);
+        quiet = λ _ _. s;
       }
   turn_keeps at mid mid' b b' same (is_shown h e r ok s) =
       let free : has_note noted at ≡ false = sym same ∙ h in
       let shows = from_ok r ok s.shows in
       let others = from_ok r ok s.others in
+      let marks = from_ok r ok s.marks in
+      let other_marks = from_ok r ok s.other_marks in
       record {
         later = s.later;
         stays_sound = s.stays_sound;
         left = λ has. absurd (let both : true ≡ false = sym has ∙ free in cc);
-        shows = λ _ some showed. subst (λ (stop : ℕ). ShowsTimes net x stop (times b')) (sym s.same_stop) (shows some showed);
+        shows = λ _ some showed. subst (λ (stop : ℕ). ShowsTimes net x.times stop (times b')) (sym s.same_stop) (shows some showed);
         others = λ _. subst (λ (stop : ℕ). KeepsOthers net stop (times b) (times b')) (sym s.same_stop) others;
+        marks = λ _ some showed. subst (λ (stop : ℕ). ShowsCancelled net x.cancelled stop (flags b')) (sym s.same_stop) (marks some showed);
+        other_marks = λ _. subst (λ (stop : ℕ). KeepsOthers net stop (flags b) (flags b')) (sym s.same_stop) other_marks;
         quiet = s.quiet;
       }
   turn_keeps at mid mid' b b' same (is_dropped h e fits r f err s) =
@@ -146,12 +149,14 @@ module _ {B : Type 0} (place : B → ℕ) (times : B → Option (ℕ → Option 
         left = λ had. absurd (let both : true ≡ false = sym had ∙ free in cc);
         shows = λ none. absurd (let both : true ≡ false = sym has ∙ none in cc);
         others = λ none. absurd (let both : true ≡ false = sym has ∙ none in cc);
+        marks = λ none. absurd (let both : true ≡ false = sym has ∙ none in cc);
+        other_marks = λ none. absurd (let both : true ≡ false = sym has ∙ none in cc);
         quiet = s.quiet;
       }
 
   -- fewer notes ask more
   keeps_later : (at : ℕ) (mid mid' : List Note) (before now : B) → (has_note mid' at ≡ false → has_note mid at ≡ false) →
-      IsKeptUp place times faults is_sound net last x noted mid at before now → IsKeptUp place times faults is_sound net last x noted mid' at before now
+      IsKeptUp place times flags faults is_sound net last x noted mid at before now → IsKeptUp place times flags faults is_sound net last x noted mid' at before now
   keeps_later at mid mid' before now less k =
       record {
         later = k.later;
@@ -159,12 +164,14 @@ module _ {B : Type 0} (place : B → ℕ) (times : B → Option (ℕ → Option 
         left = k.left;
         shows = λ none. k.shows (less none);
         others = λ none. k.others (less none);
+        marks = λ none. k.marks (less none);
+        other_marks = λ none. k.other_marks (less none);
         quiet = k.quiet;
       }
 
   -- ---- the list
 
-  pub published_none : IsPublishedTo place times faults is_sound net last x entry old old noted noted 0
+  pub published_none : IsPublishedTo place times flags faults is_sound net last x entry old old noted noted 0
   published_none =
       record {
         stops = refl;
@@ -177,7 +184,7 @@ module _ {B : Type 0} (place : B → ℕ) (times : B → Option (ℕ → Option 
         low = λ k d lt. absurd (omega arith);
       }
 
-  module _ (k : ℕ) (cur : List B) (mid : List Note) (done : IsPublishedTo place times faults is_sound net last x entry old cur noted mid k)
+  module _ (k : ℕ) (cur : List B) (mid : List Note) (done : IsPublishedTo place times flags faults is_sound net last x entry old cur noted mid k)
       (b b' : B) (below : k < length cur) (stands : slice_get cur k ≡ Some b) where
     stood : slice_get old k ≡ Some b
     stood = sym (done.later k (omega arith)) ∙ stands
@@ -190,18 +197,18 @@ module _ {B : Type 0} (place : B → ℕ) (times : B → Option (ℕ → Option 
     later_now : (at : ℕ) → k + 1 ≤ at → slice_get (set cur k b') at ≡ slice_get old at
     later_now at le = get_elsewhere cur k at b' (λ e. omega arith) ∙ done.later at (omega arith)
 
-    each_now : (mid' : List Note) → (turn : TakesTurn place times faults is_sound net last x entry k mid mid' b b') →
+    each_now : (mid' : List Note) → (turn : TakesTurn place times flags faults is_sound net last x entry k mid mid' b b') →
         (at : ℕ) (before now : B) → at < k + 1 → slice_get old at ≡ Some before → slice_get (set cur k b') at ≡ Some now →
-        IsKeptUp place times faults is_sound net last x noted mid' at before now
+        IsKeptUp place times flags faults is_sound net last x noted mid' at before now
     each_now mid' turn at before now lt was is =
         elim (cases_eq at k) [
           | inl here ↦
               let b-is : b ≡ before = same_some b before (sym stood ∙ (ap (slice_get old) (sym here) ∙ was)) in
               let b'-is : b' ≡ now = same_some b' now (sym (get_at cur k b' below) ∙ (ap (slice_get (set cur k b')) (sym here) ∙ is)) in
               let kept = turn_keeps k mid mid' b b' (same_note noted done.fresh mid k done.notes done.low) turn in
-              subst (λ (i : ℕ). IsKeptUp place times faults is_sound net last x noted mid' i before now) (sym here)
-              (subst (λ (v : B). IsKeptUp place times faults is_sound net last x noted mid' k before v) b'-is
-              (subst (λ (v : B). IsKeptUp place times faults is_sound net last x noted mid' k v b') b-is kept))
+              subst (λ (i : ℕ). IsKeptUp place times flags faults is_sound net last x noted mid' i before now) (sym here)
+              (subst (λ (v : B). IsKeptUp place times flags faults is_sound net last x noted mid' k before v) b'-is
+              (subst (λ (v : B). IsKeptUp place times flags faults is_sound net last x noted mid' k v b') b-is kept))
           | inr ne ↦
               let stands_still : slice_get cur at ≡ Some now = sym (get_elsewhere cur k at b' ne) ∙ is in
               let kept = done.each at before now (lower at k lt ne) was stands_still in
@@ -235,8 +242,8 @@ module _ {B : Type 0} (place : B → ℕ) (times : B → Option (ℕ → Option 
     low_still : All (λ (note : Note). note.board ≤ k + 1) done.fresh
     low_still j d lt = let h = done.low j d lt in omega arith
 
-    published_same : (mid' : List Note) → mid' ≡ mid → TakesTurn place times faults is_sound net last x entry k mid mid' b b' →
-        IsPublishedTo place times faults is_sound net last x entry old (set cur k b') noted mid' (k + 1)
+    published_same : (mid' : List Note) → mid' ≡ mid → TakesTurn place times flags faults is_sound net last x entry k mid mid' b b' →
+        IsPublishedTo place times flags faults is_sound net last x entry old (set cur k b') noted mid' (k + 1)
     published_same mid' e turn =
         record {
           stops = stops_now (turn_stop k mid mid' b b' turn);
@@ -250,8 +257,8 @@ module _ {B : Type 0} (place : B → ℕ) (times : B → Option (ℕ → Option 
         }
 
     published_more : (mid' : List Note) → mid' ≡ mid ++ note_of k (place b) entry ∷ [] → has_note mid k ≡ false → place b ≤ 4294967295 → (r : Result (Unit {0}) Failed) (f : Failed) → r ≡ Err f →
-        Refreshes place times faults is_sound net last x b b' r → TakesTurn place times faults is_sound net last x entry k mid mid' b b' →
-        IsPublishedTo place times faults is_sound net last x entry old (set cur k b') noted mid' (k + 1)
+        Refreshes place times flags faults is_sound net last x b b' r → TakesTurn place times flags faults is_sound net last x entry k mid mid' b b' →
+        IsPublishedTo place times flags faults is_sound net last x entry old (set cur k b') noted mid' (k + 1)
     published_more mid' e none fits r f err s turn =
         let note : Note = note_of k (place b) entry in
         let free : has_note noted k ≡ false = sym (same_note noted done.fresh mid k done.notes done.low) ∙ none in
@@ -287,17 +294,17 @@ module _ {B : Type 0} (place : B → ℕ) (times : B → Option (ℕ → Option 
             let h = done.low j (note_of 0 0 0) (omega arith) in
             omega arith
 
-    pub published_next : (mid' : List Note) → TakesTurn place times faults is_sound net last x entry k mid mid' b b' →
-        IsPublishedTo place times faults is_sound net last x entry old (set cur k b') noted mid' (k + 1)
+    pub published_next : (mid' : List Note) → TakesTurn place times flags faults is_sound net last x entry k mid mid' b b' →
+        IsPublishedTo place times flags faults is_sound net last x entry old (set cur k b') noted mid' (k + 1)
     published_next mid' (is_left h e s) = published_same mid' e (is_left h e s)
     published_next mid' (is_shown h e r ok s) = published_same mid' e (is_shown h e r ok s)
     published_next mid' (is_dropped h e fits r f err s) = published_more mid' e h fits r f err s (is_dropped h e fits r f err s)
 
-  pub as_long : (new : List B) (mid : List Note) (k : ℕ) → IsPublishedTo place times faults is_sound net last x entry old new noted mid k → length new ≡ length old
+  pub as_long : (new : List B) (mid : List Note) (k : ℕ) → IsPublishedTo place times flags faults is_sound net last x entry old new noted mid k → length new ≡ length old
   as_long new mid k done = sym (length-map new place) ∙ (ap length done.stops ∙ length-map old place)
 
-  pub published_all : (k : ℕ) (new : List B) (mid : List Note) (count : ℕ) → IsPublishedTo place times faults is_sound net last x entry old new noted mid k →
-      k ≡ length old → count ≡ length mid - length noted → Publishes place times faults is_sound net last x entry old new noted mid count
+  pub published_all : (k : ℕ) (new : List B) (mid : List Note) (count : ℕ) → IsPublishedTo place times flags faults is_sound net last x entry old new noted mid k →
+      k ≡ length old → count ≡ length mid - length noted → Publishes place times flags faults is_sound net last x entry old new noted mid count
   published_all k new mid count done all number =
       let l = length-append noted done.fresh in
       let e : length mid ≡ length (noted ++ done.fresh) = ap length done.notes in

@@ -1,14 +1,11 @@
-use Rattle.std.proofs.Common.{refl, sym, ◌∙◌, ◌≡◌, length, get_or}
-use Rattle.dm_boards.specs.Memory.{time_shown}
-use Rattle.dm_boards.proofs.Setting.{known_place, set_next}
+use Rattle.std.proofs.Common.{◌≡◌, ℕ, length, sym, ap, ◌∙◌}
+use Rattle.dm_boards.specs.Memory.{value_shown}
+use Rattle.dm_boards.proofs.Setting.{set_next}
 use Rattle.dm_boards.proofs.memory.set_all.Goals as goal
 
-pub unreachable-requires : goal.unreachable-requires
-unreachable-requires c = known_place c.args.ids.now c.args.changes.now c.loop-event.event-index (0, 0) _ c.requires.known c.loop-event-test.true refl (sym c.in_default.ensures)
-
 pub loop-event-preserved : goal.loop-event-preserved
-loop-event-preserved c =
-    let sized : length c.loop-event.times ≡ length c.args.ids.now = c.loop-event.auto.times ∙ c.requires.sized in
-    set_next c.args.ids.now c.loop-event.times (time_shown c.args.ids.now c.args.times.now) c.args.changes.now c.loop-event.event-index c.in-Some.place
-    (get_or c.args.changes.now c.loop-event.event-index (0, 0)).0 (get_or c.args.changes.now c.loop-event.event-index (0, 0)).1 (0, 0)
-    c.loop-event-test.true refl refl (sym c.in-Some.ensures) sized c.loop-event.invariant
+loop-event-preserved g c =
+    let item = c.loop-event-item.result in
+    let sized : length c.loop-event.values ≡ length c.args.ids.now = c.loop-event.auto.values ∙ c.requires.sized in
+    set_next c.args.ids.now c.loop-event.values (value_shown c.args.ids.now c.args.values.now) c.args.changes.now c.loop-event.event-index c.in-Some.place item.0 item.1 item
+    c.loop-event-test.true (ap (λ (p : ℕ × g.row.V.Denot). p.0) (sym c.loop-event-item.is)) (ap (λ (p : ℕ × g.row.V.Denot). p.1) (sym c.loop-event-item.is)) (sym c.in-Some.ensures) sized c.loop-event.invariant

@@ -1,23 +1,25 @@
-use Rattle.std.proofs.Common.{ap, ◌∙◌, arith}
-use Rattle.dm_publish.proofs.Gathered.{gathered_none, gathered_next}
+use Rattle.std.proofs.Common.{ap, arith, refl}
+use Rattle.dm_publish.specs.Inside.Refreshing.{published_by}
+use Rattle.dm_publish.proofs.Gathered.{gathered_none}
+use Rattle.dm_publish.proofs.Refreshed.{time_given, times_next}
 use Rattle.dm_publish.proofs.refreshing.gather.Goals as goal
-use Rattle.dm_publish.proofs.refreshing.gather.Goals.{then-not-shows, else-not-shows}
+use Rattle.dm_publish.proofs.refreshing.gather.Goals.{then-needs_time, else-needs_time}
 
 pub loop-listed-init : goal.loop-listed-init
-loop-listed-init g c = (gathered_none c.args.net.now c.args.timetable.now c.reveal.ensures.network _ _ _ _ c.requires.empty, omega arith)
+loop-listed-init g c = (gathered_none c.args.net.now c.reveal.ensures.network _ _ (time_given c.args.shown.timetable.now) _ _ _ _ _ c.requires.empty, omega arith)
 
 pub loop-listed-preserved : goal.loop-listed-preserved
 loop-listed-preserved g c =
-    let next = gathered_next c.args.net.now c.args.timetable.now c.reveal.ensures.network _ _ c.args.part.now c.loop-listed.listed-index c.requires.at_stop c.loop-listed-test.true
-    c.loop-listed.changes.items c.event.result.now.id.0 c.time-time.result c.loop-listed.invariant.0 (ap (λ (e : _). e.id.0) c.event.ensures) c.time-time.ensures.value
-    c.shows.result c.shows.ensures c.if-not-shows.changes.items in
-    elim c.if-not-shows.branch [
-      | then-not-shows w ↦ (
-        next (rw w.if-not-shows.true (ap (λ (v : _). v.items) w.changes-is ∙ w.push_reserved.ensures.items)),
+    let next = times_next c.args.net.now c.reveal.ensures.network (published_by c.args.shown) _ c.args.part.now c.loop-listed.listed-index c.requires.at_stop c.loop-listed-test.true _ _
+    c.loop-listed.changes.items c.event.result.now.id.0 c.time-time.result _ c.loop-listed.invariant.0 (ap (λ (e : _). e.id.0) c.event.ensures) c.time-time.ensures.value refl
+    c.needs_time.result c.needs_time.ensures in
+    elim c.if-needs_time.branch [
+      | then-needs_time w ↦ (
+        rw (w.changes-is, w.push_reserved.ensures.items) (rw w.if-needs_time.true at next),
         rw w.changes-is (let grown = w.push_reserved.ensures.capacity in let had = c.loop-listed.invariant.1 in omega arith),
       )
-      | else-not-shows w ↦ (
-        next (rw w.if-not-shows.false (ap (λ (v : _). v.items) w.changes-is)),
+      | else-needs_time w ↦ (
+        rw w.changes-is (rw w.if-needs_time.false at next),
         rw w.changes-is c.loop-listed.invariant.1,
       )
     ]

@@ -12,15 +12,16 @@ invariant_of-self g c =
     let below : c.args.index < c.self.inside.boards = omega (arith, boards, c.requires.is_board) in
     let i = c.self.invariant in
     let room = c.push.ensures.capacity in
-    let grown = c.refresh.ensures.room in
-    (i.0, omega arith, omega arith, i.3, rw c.in-Ok.ensures.items (one_more c.self.inside.boards c.self.inside.notes.items c.args.index _ i.4 below none refl))
+    let flags_grown = c.refresh.ensures.flags_room in
+    let times_grown = c.refresh.ensures.times_room in
+    (i.0, omega arith, omega arith, omega arith, i.4, i.5, rw c.in-Ok.ensures.items (one_more c.self.inside.boards c.self.inside.notes.items c.args.index _ i.6 below none refl))
 
 pub unreachable-requires : goal.unreachable-requires
 unreachable-requires g c =
     let none : has_note c.self.inside.notes.items c.args.index ≡ false = sym (c.if-has_note.ensures ∙ ap (λ (notes : List Note). has_note notes c.args.index) c.deref.ensures.value) in
     let boards : c.self.inside.boards ≡ c.args.self.now.boards = ap (λ (v : _). v.boards) c.self.view_is in
     let below : c.args.index < c.self.inside.boards = omega (arith, boards, c.requires.is_board) in
-    let room = has_room c.self.inside.boards c.self.inside.notes.items c.args.index (note_of c.args.index 0 0) c.self.invariant.4 below none refl in
+    let room = has_room c.self.inside.boards c.self.inside.notes.items c.args.index (note_of c.args.index 0 0) c.self.invariant.6 below none refl in
     let full = c.in_default-push.ensures.full in
     omega arith
 
