@@ -1,7 +1,7 @@
 -- A pass of a server as a desk: what its calls come to.
-use Rattle.std.proofs.Common.{◌≡◌, ℕ, ◌+◌, ◌-◌, ◌⊎◌, inl, inr, List, [], ◌∷◌, ◌++◌, length, Option, Some, None, Result, Ok, Err, refl, sym, ap, subst, ◌∙◌, arith, length-append, slice_get}
+use Rattle.std.proofs.Common.{◌≡◌, ℕ, ◌+◌, ◌-◌, ◌≤◌, ◌⊎◌, take, fold, inl, inr, List, [], ◌∷◌, ◌++◌, length, Option, Some, None, Result, Ok, Err, refl, sym, ap, subst, ◌∙◌, arith, length-append, slice_get}
 use Rattle.std.specs.Prelude.{IfOk, IfErr, OnErr, option_map, IsSomeAnd}
-use Rattle.std.proofs.lemmas.List.{map-append}
+use Rattle.std.proofs.lemmas.List.{map-append, take-append-le}
 use mathlib.Core.List.{IsPrefix}
 use Rattle.dm_base.specs.declared.ids.EventId.{EventId}
 use Rattle.dm_network.specs.Net.{event_place}
@@ -15,16 +15,20 @@ use Rattle.dm_rows.specs.History.{rows_at, IsLegal}
 use Rattle.dm_rows.specs.Refuse.{Refuses}
 use Rattle.dm_rows.specs.Timetable.{time_at, IsLeast}
 use Rattle.dm_cert.specs.Answers.{IsRefused, IsTimeAt, IsUnknownAt}
-use Rattle.dm_desk.specs.Desks.{Looks, Enters, Posts, TellsTime, TellsCost, TellsLength, IsCopied, IsAdoptable, AdoptsPlan}
+use Rattle.dm_rows.specs.declared.messages.Decision.{Decision}
+use Rattle.dm_rows.specs.declared.messages.Message.TheVariants.{Adopt as AdoptAll}
+use Rattle.dm_rows.specs.Carry.{free_among}
+use Rattle.dm_rows.specs.Resolve.{after}
+use Rattle.dm_desk.specs.Desks.{CarriesPlan, carries, Looks, Enters, Posts, TellsTime, TellsCost, TellsLength, IsCopied, IsAdoptable, AdoptsPlan}
 use Rattle.std.specs.Option.{ForSome}
 use Rattle.dm_rows.specs.Active.{HasNoCycle}
-use Rattle.dm_rows.specs.Rows.{IsSized}
+use Rattle.dm_rows.specs.Rows.{RowsValue, IsSized}
 use Rattle.dm_rows.specs.declared.rows.Snapshot.{Snapshot}
 use Rattle.dm_tree.specs.declared.adopting.AdoptRefusal.{AdoptRefusal}
 use Rattle.dm_tree.specs.declared.adopting.AdoptRefusal.TheVariants.{Old, Full, OutOfMemory as NoMemory}
 use Rattle.dm_tree.specs.declared.adopting.Chosen.{Chosen}
 use Rattle.dm_server.specs.declared.kept.Base.{Base}
-use Rattle.dm_server.specs.Answers.{ShowsTime, CostsAfter, RefusesAfter, HasLooked, HasEntered, RefusesAdopt, adopts, IsAdoptable as ServerIsAdoptable}
+use Rattle.dm_server.specs.Answers.{ShowsTime, CostsAfter, RefusesAfter, HasLooked, HasEntered, HasEnteredAfter, RefusesAdopt, adopts, carries as serves, IsAdoptable as ServerIsAdoptable}
 use Rattle.dm_table.specs.Answers.{RefusesTime}
 use Rattle.dm_turn.specs.Passes.{PassValue, numbered}
 use Rattle.dm_turn.proofs.Fronts.{prefix_trans, prefix_length, get_last}
@@ -95,6 +99,10 @@ unknown_at plans base seen n event (refusal.UnknownChange a) here h = absurd h
 unknown_at plans base seen n event (refusal.UnknownPair i j) here h = absurd h
 unknown_at plans base seen n event (refusal.Passed e t) here h = absurd h
 unknown_at plans base seen n event (refusal.NotPassed e) here h = absurd h
+unknown_at plans base seen n event (refusal.Cancelled e) here h = absurd h
+unknown_at plans base seen n event (refusal.NotCancelled e) here h = absurd h
+unknown_at plans base seen n event (refusal.Locked e) here h = absurd h
+unknown_at plans base seen n event (refusal.NotLocked e) here h = absurd h
 unknown_at plans base seen n event (refusal.Back c) here h = absurd h
 unknown_at plans base seen n event (refusal.Cycle ids) here h = absurd h
 unknown_at plans base seen n event (refusal.Full k) here h = absurd h
@@ -151,6 +159,10 @@ refused_so plans base seen m n (refusal.UnknownChange a) here h = inr (is_refuse
 refused_so plans base seen m n (refusal.UnknownPair i j) here h = inr (is_refused plans base seen m n (refusal.UnknownPair i j) here h)
 refused_so plans base seen m n (refusal.Passed e t) here h = inr (is_refused plans base seen m n (refusal.Passed e t) here h)
 refused_so plans base seen m n (refusal.NotPassed e) here h = inr (is_refused plans base seen m n (refusal.NotPassed e) here h)
+refused_so plans base seen m n (refusal.Cancelled e) here h = inr (is_refused plans base seen m n (refusal.Cancelled e) here h)
+refused_so plans base seen m n (refusal.NotCancelled e) here h = inr (is_refused plans base seen m n (refusal.NotCancelled e) here h)
+refused_so plans base seen m n (refusal.Locked e) here h = inr (is_refused plans base seen m n (refusal.Locked e) here h)
+refused_so plans base seen m n (refusal.NotLocked e) here h = inr (is_refused plans base seen m n (refusal.NotLocked e) here h)
 refused_so plans base seen m n (refusal.Back c) here h = inr (is_refused plans base seen m n (refusal.Back c) here h)
 refused_so plans base seen m n (refusal.Cycle ids) here h = inr (is_refused plans base seen m n (refusal.Cycle ids) here h)
 refused_so plans base seen m n (refusal.Full k) here h = inr (is_refused plans base seen m n (refusal.Full k) here h)
@@ -185,6 +197,54 @@ copied plans before now (Err e) h legal here rows sized no_cycle base is = tt
 
 pub adoptable : (plans : ℕ) (pass : PassValue Base) (plan : Chosen) → ForSome pass.base (λ base. IsAdoptable (desk_of plans base pass) plan) → ForSome pass.base (λ base. ServerIsAdoptable base pass.seen plan)
 adoptable plans pass plan is base e = let t = is base e in record { within = t.within; may = t.may }
+
+-- ---- a plan that is carried over
+
+rows_longer : (base : Base) (seen history : List Entry) (n : ℕ) → IsPrefix seen history → n ≤ length seen → rows_at base.network base.start seen n ≡ rows_at base.network base.start history n
+rows_longer base seen history n prefix le =
+    ap (fold (λ rows (e : Entry). after base.network rows e.message) base.start) (sym (take-append-le n seen prefix.0 le) ∙ ap (take n) prefix.1)
+
+-- the entry of those of the choices that are free after these rows
+abbrev entry_of : Base → List Decision → ℕ → ℕ → RowsValue → Entry
+entry_of base choices feed line rows = record { feed = feed; line = line; message = AdoptAll (free_among base.network rows choices) }
+
+some_entered : (before now : PassValue Base) (entry : Base → List Entry → Entry) (n : ℕ) (o : Option Base) → IsSomeAnd o (λ base. HasEnteredAfter before now (entry base) n) → IsSamePass before now
+some_entered before now entry n None h = absurd h
+some_entered before now entry n (Some base) h = subst (λ (p : PassValue Base). IsSamePass before p) (sym h.entered.same) refl
+
+pub same_carried : {E : Type 0} (before now : PassValue Base) (entry : Base → List Entry → Entry) (answer : Result ℕ E) → IfOk answer (λ n. IsSomeAnd before.base (λ base. HasEnteredAfter before now (entry base) n)) → OnErr answer (HasLooked before now) → IsSamePass before now
+same_carried before now entry (Ok n) entered looked = some_entered before now entry n before.base entered
+same_carried before now entry (Err e) entered looked = same_looked before now looked
+
+carried_so : (plans : ℕ) (base : Base) (before now : PassValue Base) (choices : List Decision) (feed line n : ℕ) → before.base ≡ Some base → HasEnteredAfter before now (λ history. serves base history choices feed line) n → Holds IsLegalAfter now
+    → Enters (desk_of plans base before) (desk_of plans base now) (carries (desk_of plans base now) choices feed line (n - 1)) n
+carried_so plans base before now choices feed line n is h legal =
+    let history = h.history in
+    let entry = serves base history choices feed line in
+    let e = enters plans base before now entry n is h.entered legal in
+    let here : n - 1 ≡ length history = omega (arith, e.number, ap length h.behind, length-append history (entry ∷ [])) in
+    let rows : rows_at base.network base.start history (length history) ≡ rows_at base.network base.start now.seen (n - 1) =
+    rows_longer base history now.seen (length history) (entry ∷ [], sym h.behind) (omega arith) ∙ ap (rows_at base.network base.start now.seen) (sym here) in
+    subst (λ (x : Entry). Enters (desk_of plans base before) (desk_of plans base now) x n) (ap (entry_of base choices feed line) rows) e
+
+pub carries_plan : (plans : ℕ) (before now : PassValue Base) (choices : List Decision) (feed line : ℕ) (answer : Result ℕ (At Refusal))
+    → IfOk answer (λ n. IsSomeAnd before.base (λ base. HasEnteredAfter before now (λ history. serves base history choices feed line) n)) → Holds IsLegalAfter now → OnErr answer (HasLooked before now)
+    → IfErr answer (λ at. at.entry ≡ length now.seen) → IfErr answer (λ at. ForSome now.base (λ base. RefusesAfter base now.seen (serves base now.seen choices feed line).message at.why))
+    → (base : Base) → before.base ≡ Some base → CarriesPlan (desk_of plans base before) (desk_of plans base now) choices feed line answer
+carries_plan plans before now choices feed line (Ok n) entered legal looked here refused base is =
+    carried_so plans base before now choices feed line n is
+    (subst (λ (o : Option Base). IsSomeAnd o (λ b. HasEnteredAfter before now (λ history. serves b history choices feed line) n)) is entered) legal
+carries_plan plans before now choices feed line (Err at) entered legal looked here refused base is =
+    let refuses = subst (λ (o : Option Base). ForSome o (λ b. RefusesAfter b now.seen (serves b now.seen choices feed line).message at.why)) (base_looked before now looked ∙ is) refused base refl in
+    let same : serves base now.seen choices feed line ≡ carries (desk_of plans base now) choices feed line at.entry =
+    ap (λ (k : ℕ). entry_of base choices feed line (rows_at base.network base.start now.seen k)) (sym here) in
+    record {
+      looks = looks plans base before now is looked legal;
+      here = here;
+      why =
+          subst (λ (x : Entry). (at.why ≡ refusal.OutOfMemory) ⊎ IsRefused (setting_of plans base) now.seen at.entry x.message at.why) same
+          (refused_so plans base now.seen (serves base now.seen choices feed line).message at.entry at.why here refuses);
+    }
 
 pub adopts_plan : (plans : ℕ) (before now : PassValue Base) (plan : Chosen) (feed line : ℕ) (answer : Result ℕ AdoptRefusal) → IfOk answer (HasEntered before now (adopts plan feed line)) → Holds IsLegalAfter now → IfOk answer (λ n. n ≡ plan.entry + 1) → OnErr answer (HasLooked before now)
     → IfErr answer (RefusesAdopt plan now.seen) → (base : Base) → before.base ≡ Some base → AdoptsPlan (desk_of plans base before) (desk_of plans base now) plan feed line answer

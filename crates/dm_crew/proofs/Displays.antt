@@ -1,5 +1,5 @@
 -- Boards that are kept up over a server.
-use Rattle.std.proofs.Common.{◌≡◌, ℕ, true, ◌+◌, ◌-◌, ◌<◌, ◌≤◌, List, length, eqb, eqb-true, map, Option, Some, None, Result, Ok, Err, refl, sym, ap, subst, ◌∙◌, arith}
+use Rattle.std.proofs.Common.{◌≡◌, ℕ, Bool, true, ◌+◌, ◌-◌, ◌<◌, ◌≤◌, List, length, eqb, eqb-true, map, Option, Some, None, Result, Ok, Err, refl, sym, ap, subst, ◌∙◌, arith}
 use Rattle.std.specs.Prelude.{vec_capacity, OnOk}
 use mathlib.Core.List.{IsPrefix}
 use Rattle.std.proofs.lemmas.Option.{slice_get_within}
@@ -12,9 +12,10 @@ use Rattle.dm_cert.specs.Runs.{AreTrueNotes}
 use Rattle.dm_desk.specs.Answered.{times}
 use Rattle.dm_desk.specs.Desks.{DeskValue, GoesOn}
 use Rattle.dm_desk.proofs.Answering.{no_shorter, on_and_on}
-use Rattle.dm_publish.specs.Shown.{ShowsTimes}
+use Rattle.dm_publish.specs.Shown.{ShowsTimes, ShowsCancelled}
 use Rattle.dm_display.specs.declared.display.Display.{Display}
-use Rattle.dm_display.specs.Displays.{IsFor, HasShownNothing, AreKept}
+use Rattle.dm_display.specs.Displays.{IsFor, HasShownNothing, AreKept, held_by, shown_of}
+use Rattle.dm_publish.specs.Value.{Published, published}
 use Rattle.dm_display.proofs.Displays.{true_later, as_many, first_kept}
 use Rattle.dm_publish.specs.Since.{KeepsUpLast, AllShowLast}
 use Rattle.dm_publish.proofs.Repeated.{all_show_last}
@@ -22,12 +23,12 @@ use Rattle.dm_rounds.specs.declared.jobs.Job.{Job}
 use Rattle.dm_rounds.specs.Inside.Jobs.{InRounds}
 use Rattle.dm_rounds.proofs.Rounding.{job_grows}
 use Rattle.dm_server.specs.declared.kept.Base.{Base}
-use Rattle.dm_server.specs.Answers.{base_of, rows_after, AreTimesAfter, HasLooked}
+use Rattle.dm_server.specs.Answers.{base_of, rows_after, AreMarksAfter, AreTimesAfter, HasLooked}
 use Rattle.dm_table.specs.Value.{TableValue, IsTable}
 use Rattle.dm_turn.specs.declared.view.Numbered.{Numbered}
 use Rattle.dm_turn.specs.Passes.{PassValue}
 use Rattle.dm_turn.proofs.Fronts.{prefix_self}
-use Rattle.dm_server.proofs.After.{least_of_longer}
+use Rattle.dm_server.proofs.After.{least_of_longer, marks_of_longer}
 use Rattle.dm_crew.specs.Boards.{AreShown}
 use Rattle.dm_crew.specs.Passes.{numbers_in, desk_of, IsSamePass}
 use Rattle.dm_crew.specs.Inside.Works.{IsGathered}
@@ -103,48 +104,67 @@ earlier_least base seen display e =
     subst (λ (n : ℕ). IsLeast base.network (rows_at base.network base.start seen n) display.times) (sym e.times.entries)
     (least_of_longer base e.history seen (length e.history) display.times e.before (omega arith) e.times.least)
 
+-- and these are the marks of the events that were cancelled then
+pub earlier_marks : (base : Base) (seen : List Entry) (display : Display) → HasEarlierTimes base seen display → display.cancelled.items ≡ (rows_at base.network base.start seen display.entries).cancelled
+earlier_marks base seen display e =
+    subst (λ (n : ℕ). display.cancelled.items ≡ (rows_at base.network base.start seen n).cancelled) (sym e.times.entries)
+    (marks_of_longer base e.history seen (length e.history) display.cancelled.items e.before (omega arith) e.times.marks)
+
 -- ---- boards
 
-module _ {B : Type 0} (place : B → ℕ) (times_on : B → Option (ℕ → Option ℕ)) (faults : B → ℕ) (is_sound : B → ℕ → Type 0) where
+module _ {B : Type 0} (place : B → ℕ) (times_on : B → Option (ℕ → Option ℕ)) (flags_on : B → Option (ℕ → Option Bool)) (faults : B → ℕ) (is_sound : B → ℕ → Type 0) where
   -- boards that were kept up to an earlier entry are up after this history
   abbrev pub IsShownAfter : (base : Base) (seen : List Entry) (display now : Display) (old new : List B) → Type 0
   IsShownAfter base seen display now old new =
-      (first : List B) (entries : ℕ) → entries ≤ length seen → AreKept place times_on faults is_sound base.network entries display first old → AreUp place times_on faults is_sound base seen now first new
+      (first : List B) (entries : ℕ) → entries ≤ length seen → AreKept place times_on flags_on faults is_sound base.network entries display first old → AreUp place times_on flags_on faults is_sound base seen now first new
 
   shows_history : (base : Base) (seen : List Entry) (display now : Display) (net : Net) (entry : ℕ) (old new : List B) → IsFor base.network (length old) display → net ≡ base.network → now.net.now ≡ base.network → vec_capacity display.listed ≤ vec_capacity now.listed → entry ≡ length seen → now.entries ≡ entry
-      → AreTimesAfter base seen now.times → map place new ≡ map place old → KeepsUpLast place times_on faults is_sound net display.publisher.last now.times old new display.publisher.notes now.publisher.notes
+      → AreTimesAfter base seen now.times → AreMarksAfter base seen now.cancelled.items → length now.cancelled.items ≡ length base.network.events → (handed : List Bool) → handed ≡ now.cancelled.items → map place new ≡ map place old
+      → KeepsUpLast place times_on flags_on faults is_sound net display.publisher.last (published now.times handed) old new display.publisher.notes now.publisher.notes
       → ((entries : ℕ) → entries ≤ entry → AreTrueNotes entries display.publisher.notes → AreTrueNotes entry now.publisher.notes)
-      → now.publisher.last ≡ now.times → now.publisher.boards ≡ display.publisher.boards → now.publisher.events ≡ display.publisher.events → IsShownAfter base seen display now old new
-  shows_history base seen display now net entry old new fits is network room here entries_are least stops keeps noted last boards events = λ first entries low k.
+      → now.publisher.last ≡ published now.times handed → now.publisher.boards ≡ display.publisher.boards → now.publisher.events ≡ display.publisher.events → IsShownAfter base seen display now old new
+  shows_history base seen display now net entry old new fits is network room here entries_are least marks sized handed handed_is stops keeps noted last boards events = λ first entries low k.
       let notes = now.publisher.notes in
-      let keeps_up : KeepsUpLast place times_on faults is_sound base.network display.publisher.last now.times old new display.publisher.notes notes =
-      subst (λ (n : Net). KeepsUpLast place times_on faults is_sound n display.publisher.last now.times old new display.publisher.notes notes) is keeps in
+      let last_is : now.publisher.last ≡ held_by now = last ∙ ap (published now.times) handed_is in
+      let keeps_held : KeepsUpLast place times_on flags_on faults is_sound net display.publisher.last (held_by now) old new display.publisher.notes notes =
+      subst (λ (l : List Bool). KeepsUpLast place times_on flags_on faults is_sound net display.publisher.last (published now.times l) old new display.publisher.notes notes) handed_is keeps in
+      let keeps_up : KeepsUpLast place times_on flags_on faults is_sound base.network display.publisher.last (held_by now) old new display.publisher.notes notes =
+      subst (λ (n : Net). KeepsUpLast place times_on flags_on faults is_sound n display.publisher.last (held_by now) old new display.publisher.notes notes) is keeps_held in
       let up = keeps_up first k.kept k.last in
       let true_now : AreTrueNotes (length seen) notes = subst (λ (n : ℕ). AreTrueNotes n notes) here (noted entries (omega (arith, low, here)) k.noted) in
       record {
         is_for = record {
           network = network;
-          boards = boards ∙ (fits.boards ∙ sym (as_many place times_on faults is_sound old new stops));
+          boards = boards ∙ (fits.boards ∙ sym (as_many place times_on flags_on faults is_sound old new stops));
           events = events ∙ fits.events;
           size = least.meets.size;
+          flags = sized;
           room = omega (arith, fits.room, room);
         };
-        has = λ some. record { entries = entries_are ∙ here; least = least; last = last };
+        has = λ some. record { entries = entries_are ∙ here; least = least; marks = marks; last = last_is };
         kept = record {
           kept = up.kept;
           noted = true_now;
-          last = subst (λ (l : List ℕ). AllShowLast place times_on base.network l notes first new) (sym last) (all_show_last place times_on faults is_sound base.network now.times notes first new up.shown);
+          last = subst (λ (l : Published). AllShowLast place times_on flags_on base.network l notes first new) (sym last_is) (all_show_last place times_on flags_on faults is_sound base.network (held_by now) notes first new up.shown);
         };
         shown = λ x other.
             let same = same_times base.network (rows_after base seen) now.times x least other in
             record {
-              up = record { kept = up.kept; shown = λ at before after b n none some. shows_same base.network now.times x (place after) (times_on after) same (up.shown at before after b n none some) };
+              up = record {
+                kept = up.kept;
+                shown = λ at before after b n none.
+                    let shown = up.shown at before after b n none in
+                    record {
+                      shows = λ some. shows_same base.network now.times x (place after) (times_on after) same (shown.shows some);
+                      marks = λ some. subst (λ (f : List Bool). ShowsCancelled base.network f (place after) (flags_on after)) marks (shown.marks some);
+                    };
+              };
               noted = true_now;
             };
       }
 
   none_shown : (base : Base) (pass : PassValue Base) (display : Display) (none : List B) → length none ≡ 0 → IsLegal base.network base.start pass.seen → IsFor base.network (length none) display
-      → Shows place times_on faults is_sound base pass pass display display none none
+      → Shows place times_on flags_on faults is_sound base pass pass display display none none
   none_shown base pass display none empty legal fits = record {
     looked = record { later = prefix_self pass.seen; same = refl };
     legal = legal;
@@ -155,7 +175,7 @@ module _ {B : Type 0} (place : B → ℕ) (times_on : B → Option (ℕ → Opti
           has = λ some. absurd (omega (arith, some, empty));
           kept = record { kept = k.kept; noted = noted; last = k.last };
           shown = λ x least. record {
-            up = record { kept = k.kept; shown = λ at before after b n free told. absurd (omega (arith, empty, slice_get_within none at after n)) };
+            up = record { kept = k.kept; shown = λ at before after b n free. absurd (omega (arith, empty, slice_get_within none at after n)) };
             noted = noted;
           };
         };
@@ -164,42 +184,47 @@ module _ {B : Type 0} (place : B → ℕ) (times_on : B → Option (ℕ → Opti
 
   -- no boards are up, whatever the times are
   pub shows_none : (base : Base) (pass : PassValue Base) (display : Display) (many : ℕ) (none : List B) → many ≡ length none → eqb many 0 ≡ true → IsLegal base.network base.start pass.seen → IsFor base.network many display
-      → Shows place times_on faults is_sound base pass pass display display none none
+      → Shows place times_on flags_on faults is_sound base pass pass display display none none
   shows_none base pass display many none is empty legal fits =
       none_shown base pass display none (omega (arith, eqb-true many 0 empty, is)) legal (subst (λ (n : ℕ). IsFor base.network n display) is fits)
 
   -- boards that were shown the times after what the pass has then seen
   pub shows_after : (base : Base) (before pass : PassValue Base) (display now : Display) (net : Net) (entry many : ℕ) (old new : List B) → many ≡ length old → IsFor base.network many display → before.base ≡ Some base → HasLooked before pass → Holds IsLegalAfter pass
-      → Holds (λ b seen. AreTimesAfter b seen now.times) pass → net ≡ base.network → now.net.now ≡ base.network → vec_capacity display.listed ≤ vec_capacity now.listed → entry ≡ length pass.seen → now.entries ≡ entry → map place new ≡ map place old
-      → KeepsUpLast place times_on faults is_sound net display.publisher.last now.times old new display.publisher.notes now.publisher.notes
+      → Holds (λ b seen. AreTimesAfter b seen now.times) pass → Holds (λ b seen. AreMarksAfter b seen now.cancelled.items) pass → length now.cancelled.items ≡ length base.network.events → net ≡ base.network → now.net.now ≡ base.network → vec_capacity display.listed ≤ vec_capacity now.listed → entry ≡ length pass.seen → now.entries ≡ entry → (handed : List Bool) → handed ≡ now.cancelled.items → map place new ≡ map place old
+      → KeepsUpLast place times_on flags_on faults is_sound net display.publisher.last (published now.times handed) old new display.publisher.notes now.publisher.notes
       → ((entries : ℕ) → entries ≤ entry → AreTrueNotes entries display.publisher.notes → AreTrueNotes entry now.publisher.notes)
-      → now.publisher.last ≡ now.times → now.publisher.boards ≡ display.publisher.boards → now.publisher.events ≡ display.publisher.events → Shows place times_on faults is_sound base before pass display now old new
-  shows_after base before pass display now net entry many old new is_many fits based looked legal times is network room here entries_are stops keeps noted last boards events =
+      → now.publisher.last ≡ published now.times handed → now.publisher.boards ≡ display.publisher.boards → now.publisher.events ≡ display.publisher.events → Shows place times_on flags_on faults is_sound base before pass display now old new
+  shows_after base before pass display now net entry many old new is_many fits based looked legal times marks sized is network room here entries_are handed handed_is stops keeps noted last boards events =
       let same = base_looked before pass looked in
       record {
         looked = looked;
         legal = holds_at IsLegalAfter base before pass based same legal;
         up = shows_history base pass.seen display now net entry old new (subst (λ (n : ℕ). IsFor base.network n display) is_many fits) is network room here entries_are
-            (holds_at (λ b seen. AreTimesAfter b seen now.times) base before pass based same times) stops keeps noted last boards events;
+            (holds_at (λ b seen. AreTimesAfter b seen now.times) base before pass based same times)
+            (holds_at (λ b seen. AreMarksAfter b seen now.cancelled.items) base before pass based same marks) sized handed handed_is stops keeps noted last boards events;
         stops = stops;
       }
 
   pub shown_first : (base : Base) (seen : List Entry) (display now : Display) (boards new : List B) → HasShownNothing display → IsShownAfter base seen display now boards new
-      → AreUp place times_on faults is_sound base seen now boards new
+      → AreUp place times_on flags_on faults is_sound base seen now boards new
   shown_first base seen display now boards new none shows =
-      shows boards 0 (omega arith) (first_kept place times_on faults is_sound base.network display boards none)
+      shows boards 0 (omega arith) (first_kept place times_on flags_on faults is_sound base.network display boards none)
 
   -- boards that are up after the beginning of a history are so after the whole
-  pub shown_on : (base : Base) (before seen : List Entry) (display now : Display) (first old new : List B) → IsPrefix before seen → IsShownAfter base seen display now old new → AreUp place times_on faults is_sound base before display first old
-      → AreUp place times_on faults is_sound base seen now first new
+  pub shown_on : (base : Base) (before seen : List Entry) (display now : Display) (first old new : List B) → IsPrefix before seen → IsShownAfter base seen display now old new → AreUp place times_on flags_on faults is_sound base before display first old
+      → AreUp place times_on flags_on faults is_sound base seen now first new
   shown_on base before seen display now first old new on shows up = shows first (length before) (no_shorter before seen on) up.kept
 
   -- what is shown after a server's history is what its table has in the end
-  pub shown_at_end : (base : Base) (seen : List Entry) (display : Display) (first now : List B) (table : TableValue) → base_of table ≡ base → table.history ≡ seen → IsTable table → AreUp place times_on faults is_sound base seen display first now
-      → AreShown place times_on faults is_sound base.network table.times (length table.history) display.publisher.notes first now
+  pub shown_at_end : (base : Base) (seen : List Entry) (display : Display) (first now : List B) (table : TableValue) → base_of table ≡ base → table.history ≡ seen → IsTable table → AreUp place times_on flags_on faults is_sound base seen display first now
+      → AreShown place times_on flags_on faults is_sound base.network (shown_of table) (length table.history) display.publisher.notes first now
   shown_at_end base seen display first now table is history is_table up =
       let least : IsLeast base.network (rows_after base seen) table.times =
       subst (λ (b : Base). IsLeast b.network (rows_after b seen) table.times) is
       (subst (λ (h : List Entry). IsLeast table.network (rows_after (base_of table) h) table.times) history
       (subst (λ (r : RowsValue). IsLeast table.network r table.times) is_table.replayed is_table.least)) in
-      subst (λ (h : List Entry). AreShown place times_on faults is_sound base.network table.times (length h) display.publisher.notes first now) (sym history) (up.shown table.times least)
+      let replayed : table.rows ≡ rows_after base seen =
+      is_table.replayed ∙ (ap (λ (h : List Entry). rows_after (base_of table) h) history ∙ ap (λ (b : Base). rows_after b seen) is) in
+      subst (λ (f : List Bool). AreShown place times_on flags_on faults is_sound base.network (published table.times f) (length table.history) display.publisher.notes first now)
+      (ap (λ (r : RowsValue). r.cancelled) (sym replayed))
+      (subst (λ (h : List Entry). AreShown place times_on flags_on faults is_sound base.network (published table.times (rows_after base seen).cancelled) (length h) display.publisher.notes first now) (sym history) (up.shown table.times least))

@@ -7,6 +7,7 @@ ghost use Rattle.dm_rows.specs.Rows.{IsSized};
 ghost use Rattle.dm_desk.specs.Planning.{PlansUnder};
 ghost use Rattle.dm_crew.specs.AtOnce.{AnswersDay, day_desk};
 ghost use Rattle.dm_crew.specs.Boards.{AreShown};
+ghost use Rattle.dm_display.specs.Displays.{shown_of};
 ghost use Rattle.dm_crew.specs.Inside.Works.{first_pass};
 
 use crate::rounds::Crew;
@@ -74,8 +75,9 @@ pub fn answer_at_once<
         crew.now.batch day.table day.logs.items) }
 
     // Each board that no note names shows the times of the table, and each note has its cause.
-    ensures shown { IfOk result (λ day. AreShown place times (λ b. (Board-box b).faults b.value) (λ b. (Board-box b).is_sound b.value)
-        net.now day.table.times (length day.table.history) day.publisher.notes boards.old.items boards.new.items) }
+    ensures shown { IfOk result (λ day. AreShown place times flags (λ b. (Board-box b).faults b.value)
+        (λ b. (Board-box b).is_sound b.value) net.now (shown_of day.table) (length day.table.history) day.publisher.notes
+        boards.old.items boards.new.items) }
     ensures stops { map place boards.new.items ≡ map place boards.old.items }
 {
     let seats = feeds.len() as u32 + 1;

@@ -2,7 +2,7 @@
 
 ghost use Rattle.std.specs.Prelude.{◌≡◌, false, Some, IfOk};
 ghost use Rattle.std.specs.Option.{ForSome};
-ghost use Rattle.dm_desk.specs.Desks.{Posts, TellsTime, TellsCost, TellsLength, IsCopied, IsAdoptable, AdoptsPlan};
+ghost use Rattle.dm_desk.specs.Desks.{Posts, TellsTime, TellsCost, TellsLength, IsCopied, IsAdoptable, AdoptsPlan, CarriesPlan};
 ghost use Rattle.dm_server.specs.declared.kept.Base.{Base as ABase};
 ghost use Rattle.dm_tree.specs.Plans.{chosen};
 ghost use Rattle.dm_crew.specs.Passes.{desk_of, IsSamePass};
@@ -96,6 +96,10 @@ impl<R: Wait, P: Seat> Desk for ServerDesk<'_, '_, '_, R, P> {
         self.caller
             .adopt(&mut self.pass, entry, choices, feed, line)
     }
+
+    fn carry(&mut self, choices: &[Decision], feed: u32, line: u32) -> Result<u32, At<Refusal>> {
+        self.caller.carry(&mut self.pass, choices, feed, line)
+    }
 }
 
 impl<'n, R: Wait> Caller<'_, '_, 'n, R> {
@@ -153,6 +157,23 @@ impl<'n, R: Wait> Caller<'_, '_, 'n, R> {
         self.server.snapshot(self.rt, pass)
     }
 
+    /// Enters those of the choices that are free after the history that is then seen.
+    fn carry(
+        &self,
+        pass: &mut Pass<Kept<'n>>,
+        choices: &[Decision],
+        feed: u32,
+        line: u32,
+    ) -> Result<u32, At<Refusal>>
+        requires turn { pass.old.turn ≡ self.now.server.now.id }
+        requires idle { pass.old.holds ≡ false }
+        ensures same { IsSamePass pass.old pass.new }
+        ensures carries { (base : ABase) → pass.old.base ≡ Some base
+            → CarriesPlan (desk_of self.now.plans base pass.old) (desk_of self.now.plans base pass.new) choices.now feed line result }
+    {
+        self.server.carry(self.rt, pass, choices, feed, line)
+    }
+
     /// Adopts choices for rows that were seen.
     fn adopt(
         &self,
@@ -167,7 +188,8 @@ impl<'n, R: Wait> Caller<'_, '_, 'n, R> {
         requires plan { ForSome pass.old.base (λ base. IsAdoptable (desk_of self.now.plans base pass.old) (chosen entry choices.now)) }
         ensures same { IsSamePass pass.old pass.new }
         ensures adopts { (base : ABase) → pass.old.base ≡ Some base
-            → AdoptsPlan (desk_of self.now.plans base pass.old) (desk_of self.now.plans base pass.new) (chosen entry choices.now) feed line result }
+            → AdoptsPlan (desk_of self.now.plans base pass.old) (desk_of self.now.plans base pass.new) (chosen entry choices.now) feed line
+            result }
     {
         self.server.adopt(self.rt, pass, entry, choices, feed, line)
     }

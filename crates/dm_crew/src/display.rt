@@ -1,4 +1,4 @@
-//! Boards that show the times of a server.
+//! Boards that show the times of a server, and which events are cancelled.
 
 ghost use Rattle.std.specs.Prelude.{◌≡◌, ◌<◌, false, Some, vec_len};
 ghost use Rattle.dm_rows.specs.History.{IsLegal};
@@ -26,20 +26,24 @@ pub fn show<'n, P: Seat, R: Wait>(
     requires base { main.old.base ≡ Some P.base }
     requires legal { IsLegal P.base.network P.base.start main.old.seen }
     requires fits { IsFor P.base.network (vec_len boards.old) display.old }
-    ensures { Shows place times faults is_sound P.base main.old main.new display.old display.new boards.old.items boards.new.items }
+    ensures { Shows place times flags faults is_sound P.base main.old main.new display.old display.new boards.old.items boards.new.items }
 {
     if boards.is_empty() {
         return;
     }
-    let entry = server.copy_times(rt, main, &mut display.times);
+    let entry = server.copy_shown(rt, main, &mut display.times, &mut display.cancelled);
     display.entries = entry;
-    let _dropped = display
-        .publisher
-        .publish(display.net, &display.times, entry, boards);
+    let _dropped = display.publisher.publish(
+        display.net,
+        &display.times,
+        &display.cancelled,
+        entry,
+        boards,
+    );
 }
 
 /// The same of boards that nobody else has shown anything since they were shown times last: they are asked only for events whose
-/// times have moved.
+/// times or marks have changed.
 pub fn show_growth<'n, P: Seat, R: Wait>(
     rt: &R,
     server: &Server<'n>,
@@ -53,17 +57,25 @@ pub fn show_growth<'n, P: Seat, R: Wait>(
     requires legal { IsLegal P.base.network P.base.start main.old.seen }
     requires fits { IsFor P.base.network (vec_len boards.old) display.old }
     requires has { 0 < vec_len boards.old → HasEarlierTimes P.base main.old.seen display.old }
-    ensures { Shows place times faults is_sound P.base main.old main.new display.old display.new boards.old.items boards.new.items }
+    ensures { Shows place times flags faults is_sound P.base main.old main.new display.old display.new boards.old.items boards.new.items }
 {
     if boards.is_empty() {
         return;
     }
     let shown = display.entries;
-    let entry = server.follow_times(rt, main, &mut display.times, shown, &mut display.listed);
+    let entry = server.follow_times(
+        rt,
+        main,
+        &mut display.times,
+        &mut display.cancelled,
+        shown,
+        &mut display.listed,
+    );
     display.entries = entry;
     let _dropped = display.publisher.publish_listed(
         display.net,
         &display.times,
+        &display.cancelled,
         &display.listed,
         entry,
         boards,

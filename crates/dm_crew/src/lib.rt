@@ -8,8 +8,8 @@
 //! many lines a round takes of each feed.
 //!
 //! [`answer_at_once`] answers a day's feeds over a server of its rows, in rounds. In a round each feed has a pass of its own,
-//! split from the main one; then all passes are joined. Before the first round it publishes the times on a list of boards. After
-//! each round it publishes those that have moved.
+//! split from the main one; then all passes are joined. Before the first round it publishes the times and which events are
+//! cancelled on a list of boards. After each round it publishes what has changed.
 //!
 //! The clause `answers` (`AnswersDay`) says:
 //!
@@ -20,8 +20,9 @@
 //! - Rounds are kept: no number of a later round is below one of an earlier round.
 //! - The table is one of the given rows at the given penalty.
 //!
-//! The clause `shown` says that in the end each board that no note names shows the table's times, where it told at first what it
-//! shows. Each note is true. The clause `stops` says that the boards have the same stops in the same order, whatever comes.
+//! The clause `shown` says that in the end each board that no note names shows the table's times and which events are cancelled,
+//! where it told at first what it shows. Each note is true. The clause `stops` says that the boards have the same stops in the
+//! same order, whatever comes.
 //!
 //! A [`ServerDesk`] is a server with one pass, as a desk that answers a feed. A [`Caller`] is the server for that pass, and a
 //! [`Seat`] says which pass it is.

@@ -71,8 +71,8 @@ impl<
         ensures same { OnOk result (IsSamePass main.old main.new) }
         ensures answers { IfOk result (λ logs. AnswersFeeds S.left S.is_sound feeds.items self.now.batch
             (desk_of self.now.plans P.base main.old) (desk_of self.now.plans P.base main.new) logs.items) }
-        ensures up { OnOk result (AreUp place times (λ b. (Board-box b).faults b.value) (λ b. (Board-box b).is_sound b.value) P.base
-            main.new.seen display.new boards.old.items boards.new.items) }
+        ensures up { OnOk result (AreUp place times flags (λ b. (Board-box b).faults b.value) (λ b. (Board-box b).is_sound b.value)
+            P.base main.new.seen display.new boards.old.items boards.new.items) }
         ensures stops { map place boards.new.items ≡ map place boards.old.items }
     {
         let logs = Vec::with_capacity(self.alloc, feeds.len())?;

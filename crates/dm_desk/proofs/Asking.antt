@@ -55,6 +55,7 @@ module _ (desk : DeskValue) (feed : ℕ) where
   }
   planned before latest here (line.Solve budget) plan t = absurd t
   planned before latest here line.Adopt plan t = absurd t
+  planned before latest here line.Carry plan t = absurd t
   planned before latest here line.Read plan t = absurd t
 
   solved : (before : List LogItem) (latest : Option Chosen) (here : ℕ) (said : Line) (plan : PlanByParts) → IsTrueReply desk.setting desk.seen feed before here said (reply.Solved plan) → KeepsPlans before latest (Answered here said (reply.Solved plan))
@@ -67,6 +68,7 @@ module _ (desk : DeskValue) (feed : ℕ) where
     may = λ h. record { within = t.within; may = record { free = t.is_true.choices; no_cycle = t.is_true.cost.no_cycle } };
   }
   solved before latest here line.Adopt plan t = absurd t
+  solved before latest here line.Carry plan t = absurd t
   solved before latest here line.Read plan t = absurd t
 
   keeps_plans : (before : List LogItem) (latest : Option Chosen) (x : LogItem) → IsTrueAnswer desk.setting desk.seen feed before x → KeepsPlans before latest x

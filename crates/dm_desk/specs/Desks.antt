@@ -1,5 +1,5 @@
 -- What contracts see of a desk, and what its calls do.
-use Rattle.std.specs.Prelude.{ℕ, ◌≡◌, ◌+◌, ◌<◌, ◌≤◌, ◌⊎◌, ◌++◌, ◌∷◌, [], List, length, Result, Ok, Err}
+use Rattle.std.specs.Prelude.{ℕ, ◌≡◌, ◌+◌, ◌-◌, ◌<◌, ◌≤◌, ◌⊎◌, ◌++◌, ◌∷◌, [], List, length, Result, Ok, Err}
 use mathlib.Core.List.{IsPrefix}
 use Rattle.dm_base.specs.declared.limits.TheConstants.{ENTRIES}
 use Rattle.dm_base.specs.declared.ids.EventId.{EventId}
@@ -12,11 +12,12 @@ use Rattle.dm_rows.specs.declared.messages.Refusal.TheVariants.{OutOfMemory}
 use Rattle.dm_rows.specs.Active.{HasNoCycle}
 use Rattle.dm_rows.specs.History.{IsLegal}
 use Rattle.dm_rows.specs.Rows.{IsSized}
+use Rattle.dm_rows.specs.declared.messages.Decision.{Decision}
 use Rattle.dm_tree.specs.declared.adopting.AdoptRefusal.{AdoptRefusal}
 use Rattle.dm_tree.specs.declared.adopting.AdoptRefusal.TheVariants.{Old, Full, OutOfMemory as NoMemory}
 use Rattle.dm_tree.specs.declared.adopting.Chosen.{Chosen}
 use Rattle.dm_tree.specs.Plans.{MayBeAdopted}
-use Rattle.dm_cert.specs.Answers.{Setting, rows_after, IsEntry, IsRefused, IsTimeAt, IsUnknownAt, IsCostAt}
+use Rattle.dm_cert.specs.Answers.{Setting, rows_after, carried, IsEntry, IsRefused, IsTimeAt, IsUnknownAt, IsCostAt}
 
 -- what answers go by besides the entries, the entries that were seen, and the numbers of those that were entered here
 pub record DeskValue : Type 0 where
@@ -122,3 +123,13 @@ AdoptsPlan before now plan feed line (Ok n) = EntersPlan before now plan feed li
 AdoptsPlan before now plan feed line (Err (Old n)) = FindsOld before now plan n
 AdoptsPlan before now plan feed line (Err (Full n)) = FindsNoRoom before now plan n
 AdoptsPlan before now plan feed line (Err NoMemory) = Looks before now
+
+-- the entry of those of the choices that are free after the first n entries that are seen
+abbrev pub carries : DeskValue → List Decision → ℕ → ℕ → ℕ → Entry
+carries desk choices feed line n = record { feed = feed; line = line; message = carried desk.setting desk.seen n choices }
+
+-- They were entered behind the entries after which they are free, or that is refused for a cycle, a full history or want of
+-- memory.
+abbrev pub CarriesPlan : DeskValue → DeskValue → List Decision → ℕ → ℕ → Result ℕ (At Refusal) → Type 0
+CarriesPlan before now choices feed line (Ok n) = Enters before now (carries now choices feed line (n - 1)) n
+CarriesPlan before now choices feed line (Err at) = RefusesEntry before now (carries now choices feed line at.entry) at

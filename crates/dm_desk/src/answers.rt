@@ -7,7 +7,7 @@ ghost use Rattle.dm_desk.specs.Answered.{HasSeenLegal, AreTrueOf};
 ghost use Rattle.dm_desk.specs.Planning.{PlansUnder};
 ghost use Rattle.dm_desk.specs.Inside.Replies.{IsDueHeard, HasPlans, Replies, AnswersLine};
 
-use crate::asked::{adopt, find};
+use crate::asked::{adopt, carry, find};
 use crate::desk::Desk;
 use crate::searches::Search;
 use dm_base::EventId;
@@ -65,6 +65,7 @@ fn reply_to<D: Desk, P: Fn(&Snapshot, Search) -> Result<AnyPlan, AllocError>>(
         Line::Plan(budget) => find(desk, planner, items, Search::Plan(*budget)),
         Line::Solve(budget) => find(desk, planner, items, Search::Solve(*budget)),
         Line::Adopt => adopt(desk, feed, line, items),
+        Line::Carry => carry(desk, feed, line, items),
     }
 }
 
@@ -115,6 +116,10 @@ fn said_again(message: &Message) -> Message
         Message::Drop(act) => Message::Drop(*act),
         Message::First(first, second) => Message::First(*first, *second),
         Message::Now(time) => Message::Now(*time),
+        Message::Cancel(event) => Message::Cancel(*event),
+        Message::Restore(event) => Message::Restore(*event),
+        Message::Lock(choice) => Message::Lock(*choice),
+        Message::Unlock(choice) => Message::Unlock(*choice),
         Message::Adopt(_) => unreachable!(),
     }
 }

@@ -1,4 +1,4 @@
-//! The replies to what asks for a plan and to what adopts one.
+//! The replies to what asks for a plan and to what adopts one or carries it over.
 
 ghost use Rattle.std.specs.Prelude.{ℕ, ◌≤◌, IfOk};
 ghost use Rattle.dm_base.specs.declared.limits.TheConstants.{BUDGET};
@@ -78,5 +78,31 @@ pub fn adopt<D: Desk>(
             why: Refusal::Full(ENTRIES),
         })),
         Err(AdoptRefusal::OutOfMemory) => Err(AllocError),
+    }
+}
+
+/// Enters the choices of the latest plan of a feed that are still free, where it has had one.
+pub fn carry<D: Desk>(
+    desk: &mut D,
+    feed: u32,
+    line: u32,
+    items: &[LogItem],
+) -> Result<Reply, AllocError>
+    requires legal { HasSeenLegal (D.value desk.old) }
+    requires had { HasPlans (D.value desk.old) items.now }
+    ensures { IfOk result (Replies (D.value desk.old) (D.value desk.new) feed line items.now said.Carry) }
+{
+    let Some((_, choices)) = last_plan(items) else {
+        return Ok(Reply::NoPlan);
+    };
+    match desk.carry(choices, feed, line) {
+        Ok(number) => Ok(Reply::Ok(number)),
+        Err(
+            At {
+                entry: _,
+                why: Refusal::OutOfMemory,
+            },
+        ) => Err(AllocError),
+        Err(at) => Ok(Reply::Refused(at)),
     }
 }

@@ -1,7 +1,7 @@
 //! What answers messages and questions.
 
 ghost use Rattle.std.specs.Prelude.{◌≡◌, IfOk};
-ghost use Rattle.dm_desk.specs.Desks.{Posts, TellsTime, TellsCost, TellsLength, IsCopied, IsAdoptable, AdoptsPlan};
+ghost use Rattle.dm_desk.specs.Desks.{Posts, TellsTime, TellsCost, TellsLength, IsCopied, IsAdoptable, AdoptsPlan, CarriesPlan};
 ghost use Rattle.dm_tree.specs.Plans.{chosen};
 
 use dm_base::{Cost, EventId, Secs};
@@ -55,4 +55,9 @@ pub trait Desk {
     ) -> Result<u32, AdoptRefusal>
         requires { IsAdoptable (value self.old) (chosen entry choices.now) }
         ensures { AdoptsPlan (value self.old) (value self.new) (chosen entry choices.now) feed line result };
+
+    /// Enters those of the choices that are free after the history that is seen, as one adopted list, and answers its number.
+    /// The list may be empty. It is refused for a cycle, for a full history, or for want of memory, and nothing is entered then.
+    fn carry(&mut self, choices: &[Decision], feed: u32, line: u32) -> Result<u32, At<Refusal>>
+        ensures { CarriesPlan (value self.old) (value self.new) choices.now feed line result };
 }

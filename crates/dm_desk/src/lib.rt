@@ -1,14 +1,15 @@
 //! What answers the due lines of a feed, over anything that enters messages and tells what is asked.
 //!
-//! It stands on dm_cert for what true answers and logs are, and on dm_feed for the reader of a feed. A [`Desk`] is what
-//! answers: a table by itself, or a server with a pass. A planner is a closure that searches for the plans of either kind
-//! that are asked for (a [`Search`]). [`answer_batch`] and [`answer_lines`] answer over both. They know neither tables nor searches nor threads.
+//! It stands on dm_cert for what true answers and logs are, and on dm_feed for the reader of a feed. A [`Desk`] is what answers:
+//! a table by itself, or a server with a pass. A planner is a closure that searches for the plans of either kind that are asked
+//! for (a [`Search`]). [`answer_batch`] and [`answer_lines`] answer over both. They know neither tables nor searches nor threads.
 //!
 //! # What is promised
 //!
-//! The trait `Desk` says what enters messages, tells times, costs and lengths at a history that only grows, copies its rows
-//! and adopts choices for rows that were seen. `PlansUnder` says what a planner is asked, and that it gives a true plan, or a
-//! true plan by parts, of copied rows for a budget.
+//! The trait `Desk` says what enters messages, tells times, costs and lengths at a history that only grows, copies its rows,
+//! adopts choices for rows that were seen, and carries choices over: enters those of them that are still free after the entries
+//! before. `PlansUnder` says what a planner is asked, and that it gives a true plan, or a true plan by parts, of copied rows for a
+//! budget.
 //!
 //! `answer_batch` answers the next due lines of a feed over any desk: a given number of them, or all that are left
 //! (`AnswersBatch`). What the log holds is true of the history that the desk has seen. The log has one item for each due

@@ -1,9 +1,9 @@
 //! Calls that are made again where memory was refused.
 //!
 //! The cases run on a connection at one station whose first train is a minute late. They make calls that take memory. They keep
-//! entries, enter into a table and a server, and follow a journal. They ask for plans, journeys, trees, completions and what
-//! computes times. Where a call is refused memory, what it changes has to be as before. The same call is then made again, and has
-//! to answer. For each case the program prints `NAME ok`, or after how many steps it came out otherwise.
+//! entries, enter into a table and a server, carry choices over, and follow a journal. They ask for plans, journeys, trees,
+//! completions and what computes times. Where a call is refused memory, what it changes has to be as before. The same call is then
+//! made again, and has to answer. For each case the program prints `NAME ok`, or after how many steps it came out otherwise.
 //!
 //! With ample memory nothing is refused. `dispatch-tools memory` refuses each call for memory in turn, and the printed text has
 //! to stay the same. The program stands on the crates that it calls and on dm_samples for networks, and promises nothing.

@@ -1,16 +1,20 @@
-//! A server that is opened, entered into and copied.
+//! A server that is opened, entered into, copied, and given choices to carry over.
 ghost use Rattle.std.specs.Prelude.{◌≡◌, false};
 
 use crate::case::{LATE, PENALTY, is_due};
+use dm_base::ActId;
 use dm_network::Network;
-use dm_rows::{At, Entry, Refusal};
+use dm_rows::{At, Decision, Entry, Refusal};
 use dm_samples::{Failure, rows_on_time};
 use dm_server::{Kept, Server};
 use dm_settle::NoTimes;
 use dm_turn::Pass;
 use std::sync::Wait;
 
-/// A delay is posted, and the rows are copied.
+/// The change is not waited for.
+const CHOICES: [Decision; 1] = [Decision::Drop(ActId(5))];
+
+/// A delay is posted, the rows are copied, and a choice is carried over.
 pub fn serves<R: Wait + AllocGlobal>(rt: &R, net: &Network) -> Result<(), Failure> {
     match serves_once(rt, net) {
         Err(Failure::OutOfMemory) => serves_once(rt, net),
@@ -37,7 +41,8 @@ fn is_served<'n, R: Wait>(
 {
     let number = posted(rt, server, pass)?;
     let entry = copied(rt, server, pass)?;
-    is_due((number, entry) == (1, 1), 3)
+    let carried = carried(rt, server, pass)?;
+    is_due((number, entry, carried) == (1, 1, 2), 5)
 }
 
 /// Posts the delay, and gives the number of its entry.
@@ -87,6 +92,8 @@ fn copied<'n, R: Wait>(
 ) -> Result<u32, Failure>
     requires turn { pass.old.turn ≡ server.now.id }
     requires idle { pass.old.holds ≡ false }
+    ensures turn { pass.new.turn ≡ server.now.id }
+    ensures idle { pass.new.holds ≡ false }
 {
     if let Ok(snapshot) = server.snapshot(rt, pass) {
         return Ok(snapshot.entry);
@@ -95,4 +102,23 @@ fn copied<'n, R: Wait>(
         Ok(snapshot) => Ok(snapshot.entry),
         Err(_refused) => Err(Failure::Differs(2)),
     }
+}
+
+/// Carries the choice over, and gives the number of its entry.
+fn carried<'n, R: Wait>(
+    rt: &R,
+    server: &Server<'n>,
+    pass: &mut Pass<Kept<'n>>,
+) -> Result<u32, Failure>
+    requires turn { pass.old.turn ≡ server.now.id }
+    requires idle { pass.old.holds ≡ false }
+{
+    let At { entry, why } = match server.carry(rt, pass, CHOICES.as_slice(), 1, 2) {
+        Ok(number) => return Ok(number),
+        Err(refused) => refused,
+    };
+    is_due(entry == 1 && why == Refusal::OutOfMemory, 3)?;
+    server
+        .carry(rt, pass, CHOICES.as_slice(), 1, 2)
+        .map_err(|_refused| Failure::Differs(4))
 }

@@ -1,8 +1,8 @@
 -- What a table refuses after its history, that it never refuses a true plan there, and what a pass has then seen.
-use Rattle.std.proofs.Common.{◌≡◌, ℕ, ◌<◌, ◌≤◌, true, false, List, [], ◌∷◌, ◌++◌, length, take, fold, Ok, Err, refl, sym, ap, subst, ◌∙◌, arith}
+use Rattle.std.proofs.Common.{◌≡◌, ℕ, ◌<◌, ◌≤◌, Bool, true, false, List, [], ◌∷◌, ◌++◌, length, take, fold, Ok, Err, refl, sym, ap, subst, ◌∙◌, arith}
 use Rattle.std.proofs.lemmas.List.{take-append-le}
 use Rattle.std.specs.Prelude.{Result, Option, Some, IfErr, IfOk}
-use Rattle.std.specs.Option.{IsSomeAnd}
+use Rattle.std.specs.Option.{ForSome, IsSomeAnd}
 use mathlib.Core.List.{IsPrefix}
 use Rattle.dm_base.specs.declared.limits.TheConstants.{ENTRIES}
 use Rattle.dm_network.specs.Net.{Net}
@@ -11,7 +11,8 @@ use Rattle.dm_rows.specs.declared.messages.Entry.{Entry}
 use Rattle.dm_rows.specs.declared.messages.Message.{Message}
 use Rattle.dm_rows.specs.declared.messages.Message.TheVariants.{Adopt}
 use Rattle.dm_rows.specs.declared.messages.Refusal.{Refusal}
-use Rattle.dm_rows.specs.declared.messages.Refusal.TheVariants.{Range, UnknownEvent, UnknownActivity, UnknownChange, UnknownPair, Passed, NotPassed, Back, Cycle, Full, OutOfMemory}
+use Rattle.dm_rows.specs.declared.messages.Refusal.TheVariants.{Range, UnknownEvent, UnknownActivity, UnknownChange, UnknownPair, Passed, NotPassed, Cancelled, NotCancelled, Locked, NotLocked, Back, Cycle, Full, OutOfMemory}
+use Rattle.dm_rows.specs.Cost.{cost_of, Costs}
 use Rattle.dm_rows.specs.History.{rows_at, IsLegal}
 use Rattle.dm_rows.specs.Refuse.{Refuses, RefusesNothing}
 use Rattle.dm_rows.specs.Resolve.{after}
@@ -26,7 +27,7 @@ use Rattle.dm_tree.proofs.Admitted.{free_choices_are_admitted}
 use Rattle.dm_turn.specs.Passes.{PassValue, numbered}
 use Rattle.dm_turn.proofs.Fronts.{prefix_length}
 use Rattle.dm_server.specs.declared.kept.Base.{Base}
-use Rattle.dm_server.specs.Answers.{base_of, rows_after, RefusesAfter, IsAdoptable}
+use Rattle.dm_server.specs.Answers.{base_of, rows_after, CostsAfter, RefusesAfter, IsAdoptable, HasEnteredAfter}
 use Rattle.dm_server.specs.Inside.Holding.{Gains}
 
 -- what a table refuses a message for is a refusal after its history
@@ -40,6 +41,10 @@ refused_after table is m (UnknownChange a) h = subst (λ (rows : RowsValue). Ref
 refused_after table is m (UnknownPair i j) h = subst (λ (rows : RowsValue). Refuses table.network rows (length table.history) m (UnknownPair i j)) is.replayed h
 refused_after table is m (Passed e t) h = subst (λ (rows : RowsValue). Refuses table.network rows (length table.history) m (Passed e t)) is.replayed h
 refused_after table is m (NotPassed e) h = subst (λ (rows : RowsValue). Refuses table.network rows (length table.history) m (NotPassed e)) is.replayed h
+refused_after table is m (Cancelled e) h = subst (λ (rows : RowsValue). Refuses table.network rows (length table.history) m (Cancelled e)) is.replayed h
+refused_after table is m (NotCancelled e) h = subst (λ (rows : RowsValue). Refuses table.network rows (length table.history) m (NotCancelled e)) is.replayed h
+refused_after table is m (Locked e) h = subst (λ (rows : RowsValue). Refuses table.network rows (length table.history) m (Locked e)) is.replayed h
+refused_after table is m (NotLocked e) h = subst (λ (rows : RowsValue). Refuses table.network rows (length table.history) m (NotLocked e)) is.replayed h
 refused_after table is m (Back t) h = subst (λ (rows : RowsValue). Refuses table.network rows (length table.history) m (Back t)) is.replayed h
 refused_after table is m (Cycle ids) h = subst (λ (rows : RowsValue). Refuses table.network rows (length table.history) m (Cycle ids)) is.replayed h
 refused_after table is m (Full k) h = subst (λ (rows : RowsValue). Refuses table.network rows (length table.history) m (Full k)) is.replayed h
@@ -61,6 +66,19 @@ pub least_of_longer : (base : Base) (seen history : List Entry) (n : ℕ) (x : L
     IsLeast base.network (rows_at base.network base.start seen n) x → IsLeast base.network (rows_at base.network base.start history n) x
 least_of_longer base seen history n x prefix le least =
     subst (λ (rows : RowsValue). IsLeast base.network rows x) (rows_longer base.network base.start seen history n prefix le) least
+
+-- and marks of cancelled events
+pub marks_of_longer : (base : Base) (seen history : List Entry) (n : ℕ) (flags : List Bool) → IsPrefix seen history → n ≤ length seen →
+    flags ≡ (rows_at base.network base.start seen n).cancelled → flags ≡ (rows_at base.network base.start history n).cancelled
+marks_of_longer base seen history n flags prefix le is =
+    is ∙ ap (λ (rows : RowsValue). rows.cancelled) (rows_longer base.network base.start seen history n prefix le)
+
+-- what the rows of a table cost is what those after its history do
+pub costs_after : (table : TableValue) → IsTable table → (cost : ℕ) → cost ≡ cost_of table.network table.rows table.times table.penalty →
+    CostsAfter (base_of table) table.history cost
+costs_after table is cost so_much =
+    subst (λ (rows : RowsValue). Costs table.network rows table.penalty cost) is.replayed
+    (record { times = table.times; least = is.least; cost = so_much })
 
 -- choices that may be adopted for a history's rows may be so for a longer one's
 pub adoptable_of_longer : (base : Base) (seen history : List Entry) (plan : Chosen) → IsPrefix seen history → IsAdoptable base seen plan → IsAdoptable base history plan
@@ -94,6 +112,10 @@ only_memory base history m nothing (UnknownChange a) h = absurd (nothing (Unknow
 only_memory base history m nothing (UnknownPair i j) h = absurd (nothing (UnknownPair i j) h)
 only_memory base history m nothing (Passed e t) h = absurd (nothing (Passed e t) h)
 only_memory base history m nothing (NotPassed e) h = absurd (nothing (NotPassed e) h)
+only_memory base history m nothing (Cancelled e) h = absurd (nothing (Cancelled e) h)
+only_memory base history m nothing (NotCancelled e) h = absurd (nothing (NotCancelled e) h)
+only_memory base history m nothing (Locked e) h = absurd (nothing (Locked e) h)
+only_memory base history m nothing (NotLocked e) h = absurd (nothing (NotLocked e) h)
 only_memory base history m nothing (Back t) h = absurd (nothing (Back t) h)
 only_memory base history m nothing (Cycle ids) h = absurd (nothing (Cycle ids) h)
 only_memory base history m nothing (Full k) h = absurd (nothing (Full k) h)
@@ -137,3 +159,45 @@ pub ok_holds : {E : Type 0} (F : Base → List Entry → Snapshot → Type 0) (b
     before.base ≡ Some base → now ≡ record held { holds = false } → (answer : Result Snapshot E) → IfOk answer (F base history) → IfOk answer (λ snapshot. Holds (λ b h. F b h snapshot) now)
 ok_holds F before held now base history took is gave (Ok snapshot) h = holds_given (λ b l. F b l snapshot) before held now base history took is gave h
 ok_holds F before held now base history took is gave (Err e) h = tt
+
+-- ---- a plan that is carried over
+
+one_base : (o : Option Base) (a b : Base) → o ≡ Some a → o ≡ Some b → a ≡ b
+one_base o a b is also = let both : Some a ≡ Some b = sym is ∙ also in cc
+
+-- the entry is told by the history before it
+pub entered_after : (before held added now : PassValue Base) (old new : TableValue) (entry : Base → List Entry → Entry) (n : ℕ) →
+    held ≡ record before { holds = true; seen = old.history } → before.holds ≡ false → before.base ≡ Some (base_of old) →
+    IsPrefix before.seen held.seen → Gains old new (entry (base_of old) old.history) n →
+    ((e : Entry) → new.history ≡ held.seen ++ e ∷ [] → added ≡ record held { seen = new.history; mine = held.mine ++ numbered (length new.history) e ∷ [] }) →
+    now ≡ record added { holds = false } → IsSomeAnd before.base (λ base. HasEnteredAfter before now (entry base) n)
+entered_after before held added now old new entry n took idle is later gains adds gave =
+    let e : Entry = entry (base_of old) old.history in
+    let seen : new.history ≡ held.seen ++ e ∷ [] =
+    gains.gained ∙ ap (λ (xs : List Entry). xs ++ e ∷ []) (sym (ap (λ (p : PassValue Base). p.seen) took)) in
+    let all : now ≡ record before { seen = old.history ++ e ∷ []; mine = before.mine ++ numbered n e ∷ [] } =
+    gave ∙ ap (λ (p : PassValue Base). record p { holds = false }) (adds e seen)
+    ∙ ap (λ (p : PassValue Base). record p { holds = false; seen = new.history; mine = p.mine ++ numbered (length new.history) e ∷ [] }) took
+    ∙ ap (λ (b : Bool). record before { holds = b; seen = new.history; mine = before.mine ++ numbered (length new.history) e ∷ [] }) (sym idle)
+    ∙ ap (λ (k : ℕ). record before { seen = new.history; mine = before.mine ++ numbered k e ∷ [] }) (sym gains.number)
+    ∙ ap (λ (xs : List Entry). record before { seen = xs; mine = before.mine ++ numbered n e ∷ [] }) gains.gained in
+    subst (λ (o : Option Base). IsSomeAnd o (λ base. HasEnteredAfter before now (entry base) n)) (sym is)
+    (record {
+      history = old.history;
+      entered = record {
+        history = old.history;
+        later = subst (λ (p : PassValue Base). IsPrefix before.seen p.seen) took later;
+        number = gains.number ∙ ap length gains.gained;
+        same = all;
+      };
+      behind = ap (λ (p : PassValue Base). p.seen) all;
+    })
+
+-- what is told of the base and the history of a table that was given back
+pub refused_given : (F : Base → List Entry → Type 0) (before held now : PassValue Base) (base : Base) (history : List Entry) →
+    held ≡ record before { holds = true; seen = history } → before.base ≡ Some base → now ≡ record held { holds = false } → F base history →
+    ForSome now.base (λ b. F b now.seen)
+refused_given F before held now base history took is gave h b at =
+    let there : now.base ≡ Some base = ap (λ (p : PassValue Base). p.base) gave ∙ ap (λ (p : PassValue Base). p.base) took ∙ is in
+    let seen : now.seen ≡ history = ap (λ (p : PassValue Base). p.seen) gave ∙ ap (λ (p : PassValue Base). p.seen) took in
+    subst (λ (x : Base). F x now.seen) (one_base now.base base b there at) (subst (F base) (sym seen) h)

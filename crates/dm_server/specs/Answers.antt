@@ -1,13 +1,15 @@
 -- What a server answers, at the history that a pass has then seen.
-use Rattle.std.specs.Prelude.{ℕ, ◌≡◌, ◌<◌, ◌≤◌, List, [], ◌∷◌, ◌++◌, length, Some}
+use Rattle.std.specs.Prelude.{ℕ, ◌≡◌, ◌<◌, ◌≤◌, Bool, List, [], ◌∷◌, ◌++◌, length, Some}
 use mathlib.Core.List.{IsPrefix}
 use Rattle.dm_base.specs.declared.ids.EventId.{EventId}
 use Rattle.dm_base.specs.declared.limits.TheConstants.{ENTRIES}
+use Rattle.dm_rows.specs.declared.messages.Decision.{Decision}
 use Rattle.dm_rows.specs.declared.messages.Entry.{Entry}
 use Rattle.dm_rows.specs.declared.messages.Message.{Message}
 use Rattle.dm_rows.specs.declared.messages.Message.TheVariants.{Adopt}
 use Rattle.dm_rows.specs.declared.messages.Refusal.{Refusal}
 use Rattle.dm_rows.specs.declared.messages.Refusal.TheVariants.{OutOfMemory}
+use Rattle.dm_rows.specs.Carry.{free_among}
 use Rattle.dm_rows.specs.Cost.{Costs}
 use Rattle.dm_rows.specs.History.{rows_at}
 use Rattle.dm_rows.specs.Refuse.{Refuses}
@@ -33,6 +35,10 @@ rows_after base history = rows_at base.network base.start history (length histor
 -- the times are the least timetable after the history
 abbrev pub AreTimesAfter : Base → List Entry → List ℕ → Type 0
 AreTimesAfter base history times = IsLeast base.network (rows_after base history) times
+
+-- these are the marks of the events that are cancelled after the history
+abbrev pub AreMarksAfter : Base → List Entry → List Bool → Type 0
+AreMarksAfter base history flags = flags ≡ (rows_after base history).cancelled
 
 -- the event with this id has this time in the least timetable after the history
 pub record ShowsTime (base : Base) (history : List Entry) (id : EventId) (time : ℕ) : Type 0 where
@@ -64,6 +70,15 @@ RefusesAdopt plan history NoMemory = Unit {0}
 abbrev pub adopts : Chosen → ℕ → ℕ → Entry
 adopts plan feed line = record { feed = feed; line = line; message = Adopt plan.choices }
 
+-- the entry of those of the choices that are free after a history
+abbrev pub carries : Base → List Entry → List Decision → ℕ → ℕ → Entry
+carries base history choices feed line =
+    record {
+      feed = feed;
+      line = line;
+      message = Adopt (free_among base.network (rows_after base history) choices);
+    }
+
 -- the pass has seen as much or more, and all else of it is as before
 pub record HasLooked {B : Type 0} (before now : PassValue B) : Type 0 where
   pub later : IsPrefix before.seen now.seen
@@ -76,3 +91,9 @@ pub record HasEntered {B : Type 0} (before now : PassValue B) (entry : Entry) (n
   pub later : IsPrefix before.seen history
   pub number : n ≡ length (history ++ entry ∷ [])
   pub same : now ≡ record before { seen = history ++ entry ∷ []; mine = before.mine ++ numbered n entry ∷ [] }
+
+-- The pass has seen a history and then entered this entry, which is told by the history before it.
+pub record HasEnteredAfter {B : Type 0} (before now : PassValue B) (entry : List Entry → Entry) (n : ℕ) : Type 0 where
+  pub history : List Entry
+  pub entered : HasEntered before now (entry history) n
+  pub behind : now.seen ≡ history ++ entry history ∷ []

@@ -1,19 +1,20 @@
 //! The calls of a table that a pass holds.
-ghost use Rattle.std.specs.Prelude.{◌≡◌, ◌+◌, ◌<◌, ◌≤◌, length, vec_capacity, IfOk, IfErr, OnErr};
+ghost use Rattle.std.specs.Prelude.{◌≡◌, ◌+◌, ◌<◌, ◌≤◌, [], length, vec_capacity, IfOk, IfErr, OnErr};
 ghost use Rattle.dm_marks.specs.Moved.{ListsMoved};
 ghost use Rattle.dm_rows.specs.History.{rows_at};
+ghost use Rattle.dm_table.specs.Value.{ListsMarked};
 ghost use Rattle.dm_rows.specs.Rows.{IsSized};
 ghost use Rattle.dm_rows.specs.Timetable.{IsLeast};
 ghost use Rattle.dm_table.specs.Answers.{RefusesTime, RefusesPost};
 ghost use Rattle.dm_table.specs.Value.{HasRoomFor, IsTable};
 ghost use Rattle.dm_tree.specs.Plans.{chosen};
-ghost use Rattle.dm_server.specs.Answers.{base_of, AreTimesAfter, ShowsTime, CostsAfter, RefusesAfter, RefusesAdopt, IsAdoptable, adopts};
+ghost use Rattle.dm_server.specs.Answers.{base_of, AreMarksAfter, AreTimesAfter, ShowsTime, CostsAfter, RefusesAfter, RefusesAdopt, IsAdoptable, adopts, carries};
 ghost use Rattle.dm_server.specs.Inside.Holding.{Gains, Stays};
 
 use crate::kept::Kept;
 use dm_base::limits::ENTRIES;
 use dm_base::{Cost, EventId, Items, Secs, Steps};
-use dm_rows::{Decision, Entry, Message, Refusal, Snapshot};
+use dm_rows::{At, Decision, Entry, Message, Refusal, Snapshot, free_among};
 use dm_settle::Times;
 use dm_tree::AdoptRefusal;
 use std::alloc::{AllocError, Global};
@@ -70,6 +71,43 @@ impl<'n> Kept<'n> {
     {
         let mut steps = Steps::<L>::new(blank);
         self.table.post(entry, &mut steps)
+    }
+
+    /// Enters those of the choices that are free after the history, in room that was made for all of them, or says why that is
+    /// refused.
+    pub(crate) fn carry(
+        &mut self,
+        room: Result<Vec<Decision>, AllocError>,
+        choices: &[Decision],
+        feed: u32,
+        line: u32,
+    ) -> Result<u32, At<Refusal>>
+        requires room { IfOk room (λ v. (v.items ≡ []) × (length choices.now ≤ vec_capacity v)) }
+        ensures entered { IfOk result (Gains self.old.table.value self.new.table.value
+            (carries (base_of self.old.table.value) self.old.table.value.history choices.now feed line)) }
+        ensures stays { OnErr result (Stays self.old.table.value self.new.table.value) }
+        ensures here { IfErr result (λ at. at.entry ≡ length self.old.table.value.history) }
+        ensures refused { IfErr result (λ at. RefusesAfter (base_of self.old.table.value) self.old.table.value.history
+            (carries (base_of self.old.table.value) self.old.table.value.history choices.now feed line).message at.why) }
+    {
+        self.reveal();
+        let entry = self.table.len();
+        let Ok(room) = room else {
+            return Err(At {
+                entry,
+                why: Refusal::OutOfMemory,
+            });
+        };
+        let free = free_among(self.table.network(), self.table.rows(), choices, room);
+        let message = Message::Adopt(free);
+        match self.enter(Entry {
+            feed,
+            line,
+            message,
+        }) {
+            Ok(n) => Ok(n),
+            Err(why) => Err(At { entry, why }),
+        }
     }
 
     /// Adopts the choices of a plan of the rows at an entry, or says why they are not adopted after the history.
@@ -135,20 +173,42 @@ impl<'n> Kept<'n> {
         into.copy_from(self.table.times());
     }
 
-    /// Makes times that are those after the first `shown` entries the times after the history, and lists the events whose times
-    /// were others.
-    pub(crate) fn follow_times(&mut self, into: &mut Times, shown: u32, listed: &mut Vec<usize>)
+    /// Copies the times after the history, and which events are cancelled then.
+    pub(crate) fn copy_shown(&self, into: &mut Times, cancelled: &mut [bool])
+        requires size { length into.old ≡ length self.now.table.value.network.events }
+        requires flags { length cancelled.old ≡ length self.now.table.value.network.events }
+        ensures times { AreTimesAfter (base_of self.now.table.value) self.now.table.value.history into.new }
+        ensures flags { AreMarksAfter (base_of self.now.table.value) self.now.table.value.history cancelled.new }
+    {
+        self.reveal();
+        into.copy_from(self.table.times());
+        self.table.copy_cancelled(cancelled);
+    }
+
+    /// Makes times and marks of cancelled events that are those after the first `shown` entries those after the history, and lists
+    /// the events whose times or marks were others.
+    pub(crate) fn follow_times(
+        &mut self,
+        into: &mut Times,
+        cancelled: &mut [bool],
+        shown: u32,
+        listed: &mut Vec<usize>,
+    )
         requires shown { shown ≤ length self.old.table.value.history }
         requires times { IsLeast self.old.table.value.network (rows_at self.old.table.value.network self.old.table.value.start
             self.old.table.value.history shown) into.old }
+        requires flags { cancelled.old ≡ (rows_at self.old.table.value.network self.old.table.value.start
+            self.old.table.value.history shown).cancelled }
         requires room { length self.old.table.value.network.events ≤ vec_capacity listed.old }
         ensures same { self.new.table.value ≡ self.old.table.value }
         ensures times { AreTimesAfter (base_of self.old.table.value) self.old.table.value.history into.new }
+        ensures flags { AreMarksAfter (base_of self.old.table.value) self.old.table.value.history cancelled.new }
         ensures listed { ListsMoved into.old into.new listed.new.items }
+        ensures marked { ListsMarked cancelled.old cancelled.new listed.new.items }
         ensures room { vec_capacity listed.old ≤ vec_capacity listed.new }
     {
         self.reveal();
-        self.table.follow_times(into, shown, listed);
+        self.table.follow_times(into, cancelled, shown, listed);
     }
 }
 

@@ -19,14 +19,18 @@
 //! after what the pass has then seen, or want of memory.
 //!
 //! `time`, `cost`, `copy_times`, `snapshot`, `length`: the answer is that of the least timetable and rows after what the pass
-//! has then seen. They also tell how many entries that is. `time` refuses exactly an unknown event.
+//! has then seen. They also tell how many entries that is. `time` refuses exactly an unknown event. `copy_shown` copies what
+//! boards show: the times, and which events are cancelled.
 //!
-//! `follow_times` answers the same. It starts from the times after a given number of first entries that the pass had seen. It
-//! lists each event whose time was another then.
+//! `follow_times` answers the same. It starts from the times and the marks of cancelled events after a given number of first
+//! entries that the pass had seen. It lists each event whose time or mark was another then.
 //!
 //! `adopt` takes the choices of a plan of the rows after a number of entries: free ones, in order, with which these rows have
 //! no cycle. They are entered as the next entry, or refused: as old where there are more entries, as full where there are as
 //! many and no more are taken, or for want of memory.
+//!
+//! `carry` enters those of some choices that are free after what the pass has then seen, as one adopted list, which may be empty.
+//! Or there is a refusal that applies to this list, or want of memory. The choices are looked at and entered in one turn.
 //!
 //! `rest` is that of the turn and has no clause.
 #![tactic(auto)]

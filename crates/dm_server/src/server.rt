@@ -6,6 +6,7 @@ ghost use Rattle.dm_base.specs.declared.limits.TheConstants.{PENALTY};
 ghost use Rattle.dm_marks.specs.Moved.{ListsMoved};
 ghost use Rattle.dm_rows.specs.Active.{HasNoCycle};
 ghost use Rattle.dm_rows.specs.History.{rows_at, IsLegal};
+ghost use Rattle.dm_table.specs.Value.{ListsMarked};
 ghost use Rattle.dm_rows.specs.Rows.{IsSized};
 ghost use Rattle.dm_rows.specs.Timetable.{IsLeast};
 ghost use Rattle.dm_table.specs.Answers.{RefusesTime};
@@ -13,7 +14,7 @@ ghost use Rattle.dm_table.specs.Value.{IsTable};
 ghost use Rattle.dm_times.specs.Faults.{RefusesTimes};
 ghost use Rattle.dm_turn.specs.Passes.{longer, AreEntriesOf, AreAllAbove};
 ghost use Rattle.dm_tree.specs.Plans.{chosen};
-ghost use Rattle.dm_server.specs.Answers.{base_of, rows_after, AreTimesAfter, ShowsTime, CostsAfter, RefusesAfter, RefusesAdopt, IsAdoptable, adopts, HasLooked, HasEntered};
+ghost use Rattle.dm_server.specs.Answers.{base_of, rows_after, AreMarksAfter, AreTimesAfter, ShowsTime, CostsAfter, RefusesAfter, RefusesAdopt, IsAdoptable, adopts, carries, HasLooked, HasEntered, HasEnteredAfter};
 
 use crate::kept::Kept;
 use dm_base::{Cost, EventId, Secs};
@@ -225,14 +226,43 @@ impl<'n> Server<'n> {
         entry
     }
 
-    /// Makes times that are the least timetable after the first `shown` entries the one after all entries, lists the events whose
-    /// times were others, in room for all events, and gives how many entries there are then. It takes no memory. Where times were
-    /// followed last when there were `shown` entries, it looks at the events alone whose times have moved since then.
+    /// What boards are shown: copies the least timetable into times of as many events, and which of them are cancelled, and gives
+    /// how many entries there are then.
+    pub fn copy_shown<R: Wait>(
+        &self,
+        rt: &R,
+        pass: &mut Pass<Kept<'n>>,
+        into: &mut Times,
+        cancelled: &mut [bool],
+    ) -> u32
+        requires turn { pass.old.turn ≡ self.now.id }
+        requires idle { pass.old.holds ≡ false }
+        requires size { ForSome pass.old.base (λ base. length into.old ≡ length base.network.events) }
+        requires flags { ForSome pass.old.base (λ base. length cancelled.old ≡ length base.network.events) }
+        ensures looked { HasLooked pass.old pass.new }
+        ensures legal { IsSomeAnd pass.new.base (λ base. IsLegal base.network base.start pass.new.seen) }
+        ensures number { result ≡ length pass.new.seen }
+        ensures times { IsSomeAnd pass.new.base (λ base. AreTimesAfter base pass.new.seen into.new) }
+        ensures flags { IsSomeAnd pass.new.base (λ base. AreMarksAfter base pass.new.seen cancelled.new) }
+    {
+        let held = self.turn.take(rt, pass);
+        held.state.reveal();
+        let entry = held.state.length();
+        held.state.copy_shown(into, cancelled);
+        self.turn.give(pass, held);
+        entry
+    }
+
+    /// Makes times that are the least timetable after the first `shown` entries the one after all entries, and the marks of events
+    /// that were cancelled then those of events that are cancelled now. It lists the events whose times or marks were others, in room
+    /// for all events, and gives how many entries there are then. It takes no memory. Where times were followed last when there were
+    /// `shown` entries, it looks at the events alone whose times or marks have changed since then.
     pub fn follow_times<R: Wait>(
         &self,
         rt: &R,
         pass: &mut Pass<Kept<'n>>,
         into: &mut Times,
+        cancelled: &mut [bool],
         shown: u32,
         listed: &mut Vec<usize>,
     ) -> u32
@@ -241,18 +271,21 @@ impl<'n> Server<'n> {
         requires shown { shown ≤ length pass.old.seen }
         requires times { ForSome pass.old.base (λ base. IsLeast base.network (rows_at base.network base.start pass.old.seen shown)
             into.old) }
+        requires flags { ForSome pass.old.base (λ base. cancelled.old ≡ (rows_at base.network base.start pass.old.seen shown).cancelled) }
         requires room { ForSome pass.old.base (λ base. length base.network.events ≤ vec_capacity listed.old) }
         ensures looked { HasLooked pass.old pass.new }
         ensures legal { IsSomeAnd pass.new.base (λ base. IsLegal base.network base.start pass.new.seen) }
         ensures number { result ≡ length pass.new.seen }
         ensures times { IsSomeAnd pass.new.base (λ base. AreTimesAfter base pass.new.seen into.new) }
+        ensures flags { IsSomeAnd pass.new.base (λ base. AreMarksAfter base pass.new.seen cancelled.new) }
         ensures listed { ListsMoved into.old into.new listed.new.items }
+        ensures marked { ListsMarked cancelled.old cancelled.new listed.new.items }
         ensures room { vec_capacity listed.old ≤ vec_capacity listed.new }
     {
         let mut held = self.turn.take(rt, pass);
         held.state.reveal();
         let entry = held.state.length();
-        held.state.follow_times(into, shown, listed);
+        held.state.follow_times(into, cancelled, shown, listed);
         self.turn.give(pass, held);
         entry
     }
@@ -277,6 +310,43 @@ impl<'n> Server<'n> {
         let copied = held.state.copy();
         self.turn.give(pass, held);
         copied
+    }
+
+    /// Enters those of the choices that are free, as one adopted list, after the history that the pass then sees. Finding them
+    /// and entering them is done in one holding, and room for all of them is made before.
+    pub fn carry<R: Wait>(
+        &self,
+        rt: &R,
+        pass: &mut Pass<Kept<'n>>,
+        choices: &[Decision],
+        feed: u32,
+        line: u32,
+    ) -> Result<u32, At<Refusal>>
+        requires turn { pass.old.turn ≡ self.now.id }
+        requires idle { pass.old.holds ≡ false }
+        ensures entered { IfOk result (λ n. IsSomeAnd pass.old.base (λ base.
+            HasEnteredAfter pass.old pass.new (λ history. carries base history choices.now feed line) n)) }
+        ensures legal { IsSomeAnd pass.new.base (λ base. IsLegal base.network base.start pass.new.seen) }
+        ensures looked { OnErr result (HasLooked pass.old pass.new) }
+        ensures here { IfErr result (λ at. at.entry ≡ length pass.new.seen) }
+        ensures refused { IfErr result (λ at. ForSome pass.new.base (λ base.
+            RefusesAfter base pass.new.seen (carries base pass.new.seen choices.now feed line).message at.why)) }
+    {
+        let room = Vec::with_capacity(self.alloc, choices.len());
+        let mut held = self.turn.take(rt, pass);
+        held.state.reveal();
+        let answer = held.state.carry(room, choices, feed, line);
+        match answer {
+            Ok(n) => {
+                self.turn.add(pass, &held);
+                self.turn.give(pass, held);
+                Ok(n)
+            }
+            Err(at) => {
+                self.turn.give(pass, held);
+                Err(at)
+            }
+        }
     }
 
     /// Adopts the choices of a plan of the rows at an entry, which the pass has seen: free ones with which these rows have no

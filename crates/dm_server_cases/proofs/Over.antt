@@ -1,14 +1,16 @@
 -- What is known of a pass over a server of a network, and of plans that are adopted by it.
-use Rattle.std.proofs.Common.{◌≡◌, ℕ, false, List, [], ◌∷◌, ◌++◌, length, sym, ap, subst, ◌∙◌, arith, append_assoc}
-use Rattle.std.specs.Prelude.{Some, Result, Ok, Err, IfOk, OnErr}
-use Rattle.std.specs.Option.{ForSome}
+use Rattle.std.proofs.Common.{◌≡◌, ℕ, false, List, [], ◌∷◌, ◌++◌, length, refl, sym, ap, subst, ◌∙◌, arith, append_assoc}
+use Rattle.std.specs.Prelude.{Option, None, Some, Result, Ok, Err, IfOk, OnErr}
+use Rattle.std.specs.Option.{ForSome, IsSomeAnd}
 use mathlib.Core.List.{IsPrefix}
 use Rattle.dm_network.specs.Net.{Net}
+use Rattle.dm_rows.specs.declared.messages.At.{At}
 use Rattle.dm_rows.specs.declared.messages.Entry.{Entry}
+use Rattle.dm_rows.specs.declared.messages.Refusal.{Refusal}
 use Rattle.dm_rows.specs.History.{rows_at}
 use Rattle.dm_rows.specs.Rows.{RowsValue}
 use Rattle.dm_server.specs.declared.kept.Base.{Base}
-use Rattle.dm_server.specs.Answers.{rows_after, IsAdoptable, HasLooked, HasEntered}
+use Rattle.dm_server.specs.Answers.{rows_after, IsAdoptable, HasLooked, HasEntered, HasEnteredAfter}
 use Rattle.dm_server.proofs.After.{adoptable_of_longer}
 use Rattle.dm_server_cases.specs.Passes.{IsOver, IsSame, IsServed}
 use Rattle.dm_server_cases.specs.declared.served.TheConstants.{PENALTY, SEATS}
@@ -90,3 +92,16 @@ still_true before now plan entry (Ok n) entered looked t base e =
 still_true before now plan entry (Err r) entered looked t base e =
     let was : before.base ≡ Some base = sym (ap (λ (p : PassValue Base). p.base) looked.same) ∙ e in
     adoptable_of_longer base before.seen now.seen plan looked.later (t base was)
+
+-- a pass that has carried choices over is the same but for what it has seen and its own entries
+entered_same : (base : Option Base) (before now : PassValue Base) (entry : Base → List Entry → Entry) (n : ℕ) →
+    IsSomeAnd base (λ b. HasEnteredAfter before now (entry b) n) → IsSame before now
+entered_same None before now entry n h = absurd h
+entered_same (Some b) before now entry n h =
+    subst (λ (p : PassValue Base). p ≡ record before { seen = p.seen; mine = p.mine }) (sym h.entered.same) refl
+
+pub carried_same : (before now : PassValue Base) (entry : Base → List Entry → Entry) (result : Result ℕ (At Refusal)) →
+    IfOk result (λ n. IsSomeAnd before.base (λ b. HasEnteredAfter before now (entry b) n)) → OnErr result (HasLooked before now) → IsSame before now
+carried_same before now entry (Ok n) entered looked = entered_same before.base before now entry n entered
+carried_same before now entry (Err at) entered looked =
+    subst (λ (p : PassValue Base). p ≡ record before { seen = p.seen; mine = p.mine }) (sym looked.same) refl

@@ -18,6 +18,9 @@ use std::sync::Wait;
 /// The first event is a minute late.
 pub const LATE: Message = Message::DelayEvent(EventId(1), 60);
 
+/// The last event, an arrival, is cancelled.
+pub const CANCELLED: Message = Message::Cancel(EventId(6));
+
 /// Posts a message as line 1 of feed 1.
 pub fn post<'n, R: Wait>(
     rt: &R,

@@ -1,8 +1,9 @@
 -- A table as a desk: what its calls come to.
-use Rattle.std.proofs.Common.{◌≡◌, ℕ, ◌+◌, ◌-◌, ◌<◌, ◌≤◌, ◌⊎◌, inl, inr, List, [], ◌∷◌, ◌++◌, length, Some, Result, Ok, Err, refl, sym, ap, subst, ◌∙◌, arith, append-nil, length-append, slice_get}
+use Rattle.std.proofs.Common.{◌≡◌, ℕ, ◌+◌, ◌-◌, ◌<◌, ◌≤◌, ◌⊎◌, inl, inr, List, [], ◌∷◌, ◌++◌, length, fold, Some, Result, Ok, Err, refl, sym, ap, subst, ◌∙◌, arith, append-nil, length-append, slice_get}
 use Rattle.std.specs.List.{range_with_len}
 use Rattle.std.specs.Prelude.{IfErr}
 use Rattle.std.proofs.Math.Seq.{get_or-append_seam}
+use Rattle.std.proofs.lemmas.List.{take-append-le}
 use Rattle.std.proofs.lemmas.Option.{slice_get-get_or}
 use Rattle.dm_base.specs.declared.limits.TheConstants.{ENTRIES}
 use Rattle.dm_network.specs.Net.{Net}
@@ -13,12 +14,16 @@ use Rattle.dm_rows.specs.declared.messages.Message.{Message}
 use Rattle.dm_rows.specs.declared.messages.Message.TheVariants.{Adopt}
 use Rattle.dm_rows.specs.declared.messages.Refusal.{Refusal}
 use Rattle.dm_rows.specs.declared.messages.Refusal.TheVariants as refusal
+use Rattle.dm_rows.specs.declared.messages.At.{At}
+use Rattle.dm_rows.specs.declared.messages.Decision.{Decision}
+use Rattle.dm_rows.specs.Carry.{free_among}
+use Rattle.dm_rows.specs.Resolve.{after}
 use Rattle.dm_rows.specs.Cost.{cost_of, Costs}
 use Rattle.dm_rows.specs.History.{rows_at}
 use Rattle.dm_rows.specs.Refuse.{Refuses, RefusesNothing}
 use Rattle.dm_rows.specs.Rows.{RowsValue}
 use Rattle.dm_cert.specs.Answers.{Setting, IsRefused}
-use Rattle.dm_desk.specs.Desks.{DeskValue, Looks, Enters, RefusesEntry, TellsCost, AdoptsPlan, adopts}
+use Rattle.dm_desk.specs.Desks.{DeskValue, carries, Looks, Enters, RefusesEntry, TellsCost, AdoptsPlan, adopts}
 use Rattle.dm_table.specs.Answers.{RefusesPost}
 use Rattle.dm_table.specs.Value.{TableValue, IsTable}
 use Rattle.dm_tree.specs.declared.adopting.Chosen.{Chosen}
@@ -97,6 +102,10 @@ refused_after table is m (refusal.UnknownChange a) h = refused_so table is m (re
 refused_after table is m (refusal.UnknownPair i j) h = refused_so table is m (refusal.UnknownPair i j) h
 refused_after table is m (refusal.Passed e t) h = refused_so table is m (refusal.Passed e t) h
 refused_after table is m (refusal.NotPassed e) h = refused_so table is m (refusal.NotPassed e) h
+refused_after table is m (refusal.Cancelled e) h = refused_so table is m (refusal.Cancelled e) h
+refused_after table is m (refusal.NotCancelled e) h = refused_so table is m (refusal.NotCancelled e) h
+refused_after table is m (refusal.Locked e) h = refused_so table is m (refusal.Locked e) h
+refused_after table is m (refusal.NotLocked e) h = refused_so table is m (refusal.NotLocked e) h
 refused_after table is m (refusal.Back t) h = refused_so table is m (refusal.Back t) h
 refused_after table is m (refusal.Cycle ids) h = refused_so table is m (refusal.Cycle ids) h
 refused_after table is m (refusal.Full k) h = refused_so table is m (refusal.Full k) h
@@ -146,3 +155,51 @@ enters_plan plans before now plan feed line n may late g =
     let within = may.within in
     let next = grows before now (adopts plan feed line) n g in
     record { enters = enters plans before now (adopts plan feed line) n g; next = omega arith }
+
+-- ---- a plan that is carried over
+
+abbrev entry_of : Net → List Decision → ℕ → ℕ → RowsValue → Entry
+entry_of net choices feed line rows = record { feed = feed; line = line; message = Adopt (free_among net rows choices) }
+
+-- what choices come to after all entries of a table is so by its rows
+carried_here : (plans : ℕ) (table : TableValue) (choices : List Decision) (feed line n : ℕ) → IsTable table → n ≡ length table.history →
+    entry_of table.network choices feed line table.rows ≡ carries (desk_of plans table) choices feed line n
+carried_here plans table choices feed line n is here =
+    ap (entry_of table.network choices feed line) (is.replayed ∙ ap (rows_at table.network table.start table.history) (sym here))
+
+-- rows after some first entries are so in a longer history
+rows_front : (net : Net) (start : RowsValue) (front more : List Entry) (k : ℕ) → k ≤ length front → rows_at net start front k ≡ rows_at net start (front ++ more) k
+rows_front net start front more k low = ap (fold (λ (r : RowsValue) (e : Entry). after net r e.message) start) (sym (take-append-le k front more low))
+
+pub carry_enters : (plans : ℕ) (before now : TableValue) (choices : List Decision) (free : List Decision) (feed line n : ℕ) → IsTable before → free ≡ free_among before.network before.rows choices →
+    Gains before now (record { feed = feed; line = line; message = Adopt free }) n → Enters (desk_of plans before) (desk_of plans now) (carries (desk_of plans now) choices feed line (n - 1)) n
+carry_enters plans before now choices free feed line n is same g =
+    let h = before.history in
+    let entry : Entry = record { feed = feed; line = line; message = Adopt free } in
+    let next = grows before now entry n g in
+    let at : n - 1 ≡ length h = omega (arith, next) in
+    let s = setting_of plans before in
+    let rows : rows_at s.net s.start h (length h) ≡ rows_at s.net s.start now.history (n - 1) =
+    rows_front s.net s.start h (entry ∷ []) (length h) (omega arith) ∙ (ap (λ (l : List Entry). rows_at s.net s.start l (length h)) (sym g.gained) ∙ ap (rows_at s.net s.start now.history) (sym at)) in
+    let there : entry_of s.net choices feed line (rows_at s.net s.start now.history (n - 1)) ≡ carries (desk_of plans now) choices feed line (n - 1) =
+    ap (λ (t : Setting). entry_of t.net choices feed line (rows_at t.net t.start now.history (n - 1))) (sym (same_setting plans before now entry n g)) in
+    let is_entry : entry ≡ carries (desk_of plans now) choices feed line (n - 1) =
+    ap (λ (f : List Decision). let e : Entry = record { feed = feed; line = line; message = Adopt f } in e) same
+    ∙ (ap (entry_of s.net choices feed line) (is.replayed ∙ rows) ∙ there) in
+    subst (λ (e : Entry). Enters (desk_of plans before) (desk_of plans now) e n) is_entry (enters plans before now entry n g)
+
+pub carry_refused : (plans : ℕ) (before now : TableValue) (choices : List Decision) (free : List Decision) (feed line n : ℕ) (why : Refusal) → IsTable before → free ≡ free_among before.network before.rows choices →
+    IsSameDesk before now → n ≡ length before.history → IsRefusedAfter before (Adopt free) why →
+    RefusesEntry (desk_of plans before) (desk_of plans now) (carries (desk_of plans now) choices feed line n) (record { entry = n; why = why })
+carry_refused plans before now choices free feed line n why is same stays here h =
+    let entry : Entry = record { feed = feed; line = line; message = Adopt free } in
+    let at : At Refusal = record { entry = n; why = why } in
+    let is_entry : entry ≡ carries (desk_of plans before) choices feed line n =
+    ap (λ (f : List Decision). let e : Entry = record { feed = feed; line = line; message = Adopt f } in e) same ∙ carried_here plans before choices feed line n is here in
+    subst (λ (d : DeskValue). RefusesEntry (desk_of plans before) (desk_of plans now) (carries d choices feed line n) at) (sym (stays plans))
+    (subst (λ (e : Entry). RefusesEntry (desk_of plans before) (desk_of plans now) e at) is_entry (refuses_entry plans before now entry n why is stays here h))
+
+pub carry_wants_memory : (plans : ℕ) (table : TableValue) (choices : List Decision) (feed line n : ℕ) → IsTable table → n ≡ length table.history →
+    RefusesEntry (desk_of plans table) (desk_of plans table) (carries (desk_of plans table) choices feed line n) (record { entry = n; why = refusal.OutOfMemory })
+carry_wants_memory plans table choices feed line n is here =
+    refuses_entry plans table table (carries (desk_of plans table) choices feed line n) n refusal.OutOfMemory is (λ p. refl) here (inl refl)

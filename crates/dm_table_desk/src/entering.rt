@@ -1,7 +1,7 @@
 //! Entries and plans that a table takes.
 
 ghost use Rattle.std.specs.Prelude.{◌≡◌, ◌<◌, ℕ, length, IfOk, IfErr, OnErr};
-ghost use Rattle.dm_desk.specs.Desks.{AdoptsPlan};
+ghost use Rattle.dm_desk.specs.Desks.{AdoptsPlan, CarriesPlan};
 ghost use Rattle.dm_table.specs.Answers.{RefusesPost};
 ghost use Rattle.dm_table.specs.Value.{HasRoomFor};
 ghost use Rattle.dm_tree.specs.Plans.{chosen};
@@ -10,7 +10,7 @@ ghost use Rattle.dm_table_desk.specs.Inside.Entering.{Gains, IsSameDesk, IsRefus
 
 use dm_base::limits::ENTRIES;
 use dm_base::{Items, Steps};
-use dm_rows::{Decision, Entry, Message, Refusal};
+use dm_rows::{At, Decision, Entry, Message, Refusal, free_among};
 use dm_table::Table;
 use dm_tree::AdoptRefusal;
 use std::alloc::{AllocError, Global};
@@ -93,4 +93,34 @@ fn copy_of(alloc: Global, decisions: &[Decision]) -> Result<Items<Decision>, All
     ensures { IfOk result (λ items. items ≡ decisions.now) }
 {
     Ok(Items::from_vec(Vec::from_slice(alloc, decisions)?))
+}
+
+/// Enters those of the choices that are free after the history, or says why that is refused.
+pub(crate) fn carry(
+    alloc: Global,
+    table: &mut Table<'_>,
+    choices: &[Decision],
+    feed: u32,
+    line: u32,
+) -> Result<u32, At<Refusal>>
+    ensures { (plans : ℕ) → CarriesPlan (desk_of plans table.old) (desk_of plans table.new) choices.now feed line result }
+{
+    table.reveal();
+    let here = table.len();
+    let Ok(room) = Vec::with_capacity(alloc, choices.len()) else {
+        return Err(At {
+            entry: here,
+            why: Refusal::OutOfMemory,
+        });
+    };
+    let free = free_among(table.network(), table.rows(), choices, room);
+    let entry = Entry {
+        feed,
+        line,
+        message: Message::Adopt(free),
+    };
+    match enter(table, entry) {
+        Ok(number) => Ok(number),
+        Err(why) => Err(At { entry: here, why }),
+    }
 }

@@ -7,7 +7,7 @@
 //!
 //! A `TableDesk` answers the calls of a `Desk` at the history of its table. The entries of that history are its own, by their
 //! numbers from 1 (`desk_of`). It takes memory for the room of an entry, for a cycle that is shown, for the copy of the rows, and
-//! for the choices of a plan that is adopted.
+//! for the choices of a plan that is adopted or carried over.
 #![tactic(auto)]
 
 mod entering;

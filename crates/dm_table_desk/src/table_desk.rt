@@ -1,6 +1,6 @@
 //! A table as a desk.
 
-use crate::entering::{adopt, enter};
+use crate::entering::{adopt, carry, enter};
 use dm_base::{Cost, EventId, Secs};
 use dm_desk::Desk;
 use dm_rows::{At, Decision, Entry, Refusal, Snapshot};
@@ -68,5 +68,9 @@ impl Desk for TableDesk<'_> {
         line: u32,
     ) -> Result<u32, AdoptRefusal> {
         adopt(self.alloc, &mut self.table, entry, choices, feed, line)
+    }
+
+    fn carry(&mut self, choices: &[Decision], feed: u32, line: u32) -> Result<u32, At<Refusal>> {
+        carry(self.alloc, &mut self.table, choices, feed, line)
     }
 }

@@ -9,7 +9,17 @@ abbrev pub no_base : Base
 no_base =
     record {
       network = record { events = []; activities = []; pairs = [] };
-      start = record { event_delays = []; act_delays = []; passed = []; kept = []; small_first = []; clock = 0 };
+      start = record {
+        event_delays = [];
+        act_delays = [];
+        passed = [];
+        kept = [];
+        cancelled = [];
+        locked_changes = [];
+        locked_pairs = [];
+        small_first = [];
+        clock = 0;
+      };
       penalty = 0;
     }
 

@@ -1,10 +1,10 @@
-use Rattle.std.proofs.Common.{◌≡◌, ℕ, ◌+◌, List, Option, arith, sym, ap, subst, ◌∙◌}
+use Rattle.std.proofs.Common.{◌≡◌, ℕ, ◌+◌, Bool, List, Option, arith, sym, ap, subst, ◌∙◌}
 use Rattle.std.specs.Prelude.{vec_len}
 use Rattle.dm_network.specs.Net.{Net}
 use Rattle.dm_desk.specs.Answered.{HasSeenLegal}
 use Rattle.dm_server.specs.declared.kept.Base.{Base}
 use Rattle.dm_turn.specs.Passes.{PassValue}
-use Rattle.dm_publish.specs.Value.{PublisherValue}
+use Rattle.dm_publish.specs.Value.{Published, PublisherValue}
 use Rattle.dm_crew.specs.AtOnce.{AnswersDay}
 use Rattle.dm_crew.specs.Boards.{AreShown}
 use Rattle.dm_display.specs.Displays.{IsFor}
@@ -77,15 +77,15 @@ returns-clause-answers g c =
     (ap (λ (p : PassValue Base). p.seen) is) (ap (λ (p : PassValue Base). p.mine) is) (ap (λ (p : PassValue Base). p.opening) is) (ap (λ (p : PassValue Base). p.base) is) c.in_ok-logs.ensures.same c.close-table.ensures.base c.close-table.ensures.history c.close-table.ensures.table c.close-table.ensures.numbers c.in_ok-logs.ensures.answers)
 
 -- what boards show is noted by a publisher that is the same
-shown_by : {B : Type 0} (place : B → ℕ) (times : B → Option (ℕ → Option ℕ)) (faults : B → ℕ) (is_sound : B → ℕ → Type 0) (net : Net) (x : List ℕ) (entries : ℕ) (first now : List B) (before after : PublisherValue) → after ≡ before →
-    AreShown place times faults is_sound net x entries before.notes first now → AreShown place times faults is_sound net x entries after.notes first now
-shown_by place times faults is_sound net x entries first now before after same shown =
-    subst (λ (p : PublisherValue). AreShown place times faults is_sound net x entries p.notes first now) (sym same) shown
+shown_by : {B : Type 0} (place : B → ℕ) (times : B → Option (ℕ → Option ℕ)) (flags : B → Option (ℕ → Option Bool)) (faults : B → ℕ) (is_sound : B → ℕ → Type 0) (net : Net) (x : Published) (entries : ℕ) (first now : List B) (before after : PublisherValue) → after ≡ before →
+    AreShown place times flags faults is_sound net x entries before.notes first now → AreShown place times flags faults is_sound net x entries after.notes first now
+shown_by place times flags faults is_sound net x entries first now before after same shown =
+    subst (λ (p : PublisherValue). AreShown place times flags faults is_sound net x entries p.notes first now) (sym same) shown
 
 pub returns-clause-shown : goal.returns-clause-shown
 returns-clause-shown g c =
     let based = ap (λ (p : PassValue Base). p.base) c.in_ok-logs.ensures.same ∙ ap (λ (p : PassValue Base). p.base) (first g (goal.at.returns-clause-shown g c).In_ok-server) in
     rw (there g (goal.at.returns-clause-shown g c).In_ok-server) at
-    (shown_by _ _ _ _ _ _ _ _ _ c.answer_feeds.new.display.publisher c.into_publisher.result c.into_publisher.ensures
-    (shown_at_end _ _ _ _ (base_in c.in_ok-server.main.base) c.answer_feeds.new.main.seen c.answer_feeds.new.display c.args.boards.now.items c.answer_feeds.new.boards.items c.close-table.result
+    (shown_by _ _ _ _ _ _ _ _ _ _ c.answer_feeds.new.display.publisher c.into_publisher.result c.into_publisher.ensures
+    (shown_at_end _ _ _ _ _ (base_in c.in_ok-server.main.base) c.answer_feeds.new.main.seen c.answer_feeds.new.display c.args.boards.now.items c.answer_feeds.new.boards.items c.close-table.result
     (some_base (sym c.close-table.ensures.base ∙ based)) c.close-table.ensures.history c.close-table.ensures.table c.in_ok-logs.ensures.up))

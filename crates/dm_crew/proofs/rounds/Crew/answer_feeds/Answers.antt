@@ -22,7 +22,7 @@ loop-init g c = (
         low = 0;
         state = first_round g.S.Source.left g.S.Source.is_sound c.args.self.now.batch c.requires.some c.args.feeds.items (desk_of c.args.self.now.plans g.P.Seat.base c.args.main.now) (map (λ b. b.value) c.in_ok-jobs.jobs.items) c.requires.legal c.in_ok-jobs.ensures;
       }),
-  shown_first _ _ _ _ g.P.Seat.base c.show.new.main.seen c.args.display.now c.show.new.display c.args.boards.now.items c.show.new.boards.items c.requires.none c.show.ensures.up,
+  shown_first _ _ _ _ _ g.P.Seat.base c.show.new.main.seen c.args.display.now c.show.new.display c.args.boards.now.items c.show.new.boards.items c.requires.none c.show.ensures.up,
 )
 
 pub show-requires-clause-legal : goal.show-requires-clause-legal
@@ -80,7 +80,7 @@ loop-preserved g c =
     let same : IsSamePass c.args.main.now before = c.in_ok-jobs-2.ensures.same ∙ ap (λ (p : PassValue Base). record p { seen = before.seen; mine = before.mine }) c.loop.invariant.0 in (
       looked_same c.args.main.now before now same looked,
       rounds_look g.S.Source.left g.S.Source.is_sound c.args.feeds.items (desk_of c.args.self.now.plans g.P.Seat.base c.args.main.now) c.args.self.now.batch c.args.self.now.plans g.P.Seat.base before now (map (λ b. b.value) c.in_ok-jobs-2.jobs.items) looked legal (record { rounds = rounds.rounds + 1; low = length before.seen; state = round }),
-      shown_on _ _ _ _ g.P.Seat.base c.loop.main.seen now.seen c.loop.display c.show_growth.new.display c.args.boards.now.items c.loop.boards.items c.show_growth.new.boards.items on c.show_growth.ensures.up c.loop.invariant.2,
+      shown_on _ _ _ _ _ g.P.Seat.base c.loop.main.seen now.seen c.loop.display c.show_growth.new.display c.args.boards.now.items c.loop.boards.items c.show_growth.new.boards.items on c.show_growth.ensures.up c.loop.invariant.2,
     )
 
 pub logs_of-requires-clause-room : goal.logs_of-requires-clause-room

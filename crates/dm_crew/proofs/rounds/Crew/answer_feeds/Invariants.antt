@@ -9,5 +9,5 @@ invariant-loop g l =
     IsSamePass l.fn.main l.main
     × InRounds g.S.Source.left g.S.Source.is_sound l.fn.feeds.items (desk_of l.self.plans g.P.Seat.base l.fn.main) l.self.batch (desk_of l.self.plans g.P.Seat.base l.main) (map (λ b. b.value) l.jobs.items)
     × AreUp (λ b. (goal.Board-dyn g (b.vtable, b.value)).place b.value) (λ b. (goal.Board-dyn g (b.vtable, b.value)).times b.value)
-    (λ b. (goal.Board-dyn g (b.vtable, b.value)).faults b.value) (λ b. (goal.Board-dyn g (b.vtable, b.value)).is_sound b.value)
+    (λ b. (goal.Board-dyn g (b.vtable, b.value)).flags b.value) (λ b. (goal.Board-dyn g (b.vtable, b.value)).faults b.value) (λ b. (goal.Board-dyn g (b.vtable, b.value)).is_sound b.value)
     g.P.Seat.base l.main.seen l.display l.fn.boards.items l.boards.items
