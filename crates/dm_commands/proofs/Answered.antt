@@ -7,7 +7,7 @@ use Rattle.dm_input.specs.Input.{Told, IsHeld, Opening, OpeningAnswer}
 use Rattle.dm_words.specs.Words.{CheckAsked, CheckOf, QueryAsked, QueryOf, Asks}
 use Rattle.dm_words.specs.declared.queries.Query.{Query}
 use Rattle.dm_words.proofs.OneCommand.{one_command}
-use Rattle.dm_cert.specs.RunTexts.{Run}
+use Rattle.dm_commands.specs.Boards.{Ended}
 use Rattle.dm_commands.specs.declared.status.Status.{Status}
 use Rattle.dm_commands.specs.declared.status.Status.TheVariants.{Ok as Well, Bad, Usage, Refused, ReadFault, WriteFault, NoMemory}
 use Rattle.dm_commands.specs.Answers.{IsAnswerAt, IsAnswerFor}
@@ -24,7 +24,7 @@ query_is x y e = cc
 no_check : (check : CheckAsked) (query : QueryAsked) → CheckOf check ≡ QueryOf query → ⊥
 no_check check query e = cc
 
-module _ {K : Type 0} (taken : K → Option (List ℕ)) (faults : K → ℕ) (told : Told) (is_sound : List ℕ → Type 0) (end_boards : Option Run → Type 0) (words : List (List ℕ)) (before now : K) (asked : QueryAsked) (asks : Asks words (QueryOf asked)) where
+module _ {K : Type 0} (taken : K → Option (List ℕ)) (faults : K → ℕ) (told : Told) (is_sound : List ℕ → Type 0) (end_boards : Option Ended → Type 0) (words : List (List ℕ)) (before now : K) (asked : QueryAsked) (asks : Asks words (QueryOf asked)) where
   about : AsksAbout words asked.files asked.text
   about = record { asked = QueryOf asked; is_asked = asks; reads = refl; names = refl }
 

@@ -18,7 +18,7 @@ use Rattle.dm_network.specs.Net.{Net}
 use Rattle.dm_network.specs.Start.{IsNetwork}
 use Rattle.dm_rows.specs.Active.{HasNoCycle}
 use Rattle.dm_rows.specs.Rows.{RowsValue}
-use Rattle.dm_times.proofs.Meeting.{start_has_no_cycle}
+use Rattle.dm_times.proofs.Meeting.{starts_have_no_cycle}
 use Rattle.dm_commands.specs.Inside.Stages.{IsAtStart, AreWithin, IsCheckWithin, IsQueryWithin, IsWithin, IsWithinLimits}
 use Rattle.dm_commands.specs.Inside.Generating.{IsDayWithin}
 
@@ -101,4 +101,4 @@ command_within words (QueryOf asked) asks = query_within words asked asks
 
 pub start_has_none : (net : Net) (rows : RowsValue) → IsNetwork net → IsAtStart net rows → HasNoCycle net rows
 start_has_none net rows network at =
-    subst (HasNoCycle net) (sym at.are) (start_has_no_cycle net at.event_delays at.activity_delays network)
+    subst (HasNoCycle net) (sym at.are) (starts_have_no_cycle.without net at.event_delays at.activity_delays at.cancelled network)

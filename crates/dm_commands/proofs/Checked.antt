@@ -8,7 +8,7 @@ use Rattle.dm_outside.specs.declared.faults.TakeFault.TheVariants.{ReadFault as 
 use Rattle.dm_input.specs.Input.{Told, IsHeld, Opening, OpeningAnswer}
 use Rattle.dm_words.specs.Words.{CheckAsked, CheckOf, FilesAsked, QueryAsked, QueryOf, Asks}
 use Rattle.dm_words.proofs.OneCommand.{one_command}
-use Rattle.dm_cert.specs.RunTexts.{Run}
+use Rattle.dm_commands.specs.Boards.{Ended}
 use Rattle.dm_cert.specs.Runs.{IsRunText}
 use Rattle.dm_check.specs.declared.verdicts.Verdict.{Verdict}
 use Rattle.dm_check.specs.declared.verdicts.Verdict.TheVariants.{Good as GoodVerdict, Bad as BadVerdict}
@@ -30,7 +30,7 @@ bad_is_not_well e = cc
 no_query : (query : QueryAsked) (check : CheckAsked) → QueryOf query ≡ CheckOf check → ⊥
 no_query query check e = cc
 
-module _ {K : Type 0} (taken : K → Option (List ℕ)) (faults : K → ℕ) (told : Told) (is_sound : List ℕ → Type 0) (end_boards : Option Run → Type 0) (words : List (List ℕ)) (before now : K) (asked : CheckAsked) (asks : Asks words (CheckOf asked)) where
+module _ {K : Type 0} (taken : K → Option (List ℕ)) (faults : K → ℕ) (told : Told) (is_sound : List ℕ → Type 0) (end_boards : Option Ended → Type 0) (words : List (List ℕ)) (before now : K) (asked : CheckAsked) (asks : Asks words (CheckOf asked)) where
   about : AsksAbout words asked.files asked.text
   about = record { asked = CheckOf asked; is_asked = asks; reads = refl; names = refl }
 

@@ -11,7 +11,7 @@ use Rattle.dm_input.specs.declared.flaws.InputFlaw.{InputFlaw}
 use Rattle.dm_input.specs.declared.flaws.InputStop.{InputStop}
 use Rattle.dm_input.specs.declared.flaws.InputStop.TheVariants.{Refused as StopRefused, ReadFault as StopUnread, NoMemory as StopMemory}
 use Rattle.dm_cert.specs.declared.replies.FeedLog.{FeedLog}
-use Rattle.dm_cert.specs.RunTexts.{Run}
+use Rattle.dm_commands.specs.Boards.{Ended}
 use Rattle.dm_commands.specs.declared.status.Status.{Status}
 use Rattle.dm_commands.specs.declared.status.Status.TheVariants.{Ok as Well, Bad, Usage, Refused, ReadFault, WriteFault, NoMemory}
 use Rattle.dm_commands.specs.Feeds.{is_fault, is_long, status_of}
@@ -26,7 +26,7 @@ of_two true long s e = inr (inr e)
 of_two false true s e = inr (inl e)
 of_two false false s e = inl e
 
-module _ (told : Told) (is_sound : List ℕ → Type 0) (end_boards : Option Run → Type 0) (words : List (List ℕ)) where
+module _ (told : Told) (is_sound : List ℕ → Type 0) (end_boards : Option Ended → Type 0) (words : List (List ℕ)) where
   pub due_of_run : (logs : List FeedLog) (s : Status) (text : List ℕ) → s ≡ status_of logs → IsRunOf told is_sound end_boards words s text → IsDue told is_sound end_boards words s text
   due_of_run logs s text e run =
       let D : Status → Type 0 = λ t. IsDue told is_sound end_boards words t text in
@@ -39,7 +39,7 @@ module _ (told : Told) (is_sound : List ℕ → Type 0) (end_boards : Option Run
         ]
       ]
 
-module _ {K : Type 0} (taken : K → Option (List ℕ)) (faults : K → ℕ) (told : Told) (is_sound : List ℕ → Type 0) (end_boards : Option Run → Type 0) (words : List (List ℕ)) (before now : K) where
+module _ {K : Type 0} (taken : K → Option (List ℕ)) (faults : K → ℕ) (told : Told) (is_sound : List ℕ → Type 0) (end_boards : Option Ended → Type 0) (words : List (List ℕ)) (before now : K) where
   written : (status : Status) (text : List ℕ) → IsDue told is_sound end_boards words status text → Appends (taken before) (taken now) text → Ends taken faults told is_sound end_boards words before now status
   written Well text due appended = record { text = text; holds = due; appended = appended }
   written Bad text due appended = record { text = text; holds = due; appended = appended }
@@ -78,14 +78,14 @@ pub wants_memory : {K : Type 0} (taken : K → Option (List ℕ)) (now : K) (wor
 wants_memory taken now words asked asks = record { asked = asked; is_asked = asks; kept = keeps_same (taken now) }
 
 -- want of memory, where nothing was done
-pub ends_wanting : {K : Type 0} (taken : K → Option (List ℕ)) (faults : K → ℕ) (told : Told) (is_sound : List ℕ → Type 0) (end_boards : Option Run → Type 0) (words : List (List ℕ)) (before now : K) (asked : Command) → Asks words asked → (result : Status) → now ≡ before → result ≡ NoMemory → Ends taken faults told is_sound end_boards words before now result
+pub ends_wanting : {K : Type 0} (taken : K → Option (List ℕ)) (faults : K → ℕ) (told : Told) (is_sound : List ℕ → Type 0) (end_boards : Option Ended → Type 0) (words : List (List ℕ)) (before now : K) (asked : Command) → Asks words asked → (result : Status) → now ≡ before → result ≡ NoMemory → Ends taken faults told is_sound end_boards words before now result
 ends_wanting {K} taken faults told is_sound end_boards words before now asked asks result same is =
     let E : Status → Type 0 = Ends taken faults told is_sound end_boards words before now in
     let W : K → Type 0 = λ k. WantsMemory (taken before) (taken k) words in
     subst E (sym is) (subst W (sym same) (wants_memory taken before words asked asks))
 
 -- a command that its files stopped
-pub ends_stopped : {K : Type 0} (taken : K → Option (List ℕ)) (faults : K → ℕ) (told : Told) (is_sound : List ℕ → Type 0) (end_boards : Option Run → Type 0) (words : List (List ℕ)) (before now : K) (files : FilesAsked) → end_boards None → AsksOver words files → (stop : InputStop) (result : Status)
+pub ends_stopped : {K : Type 0} (taken : K → Option (List ℕ)) (faults : K → ℕ) (told : Told) (is_sound : List ℕ → Type 0) (end_boards : Option Ended → Type 0) (words : List (List ℕ)) (before now : K) (files : FilesAsked) → end_boards None → AsksOver words files → (stop : InputStop) (result : Status)
     → StopsOpening told is_sound files stop → EndsStopped taken faults files stop before now result → Ends taken faults told is_sound end_boards words before now result
 ends_stopped taken faults told is_sound end_boards words before now files left over (StopRefused flaw) result stops h = ends_refused taken faults told is_sound end_boards words before now files flaw result left over stops h
 ends_stopped taken faults told is_sound end_boards words before now files left over (StopUnread file) result stops h = ends_unread taken faults told is_sound end_boards words before now files file result left over stops h

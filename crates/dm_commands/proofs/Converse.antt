@@ -17,7 +17,7 @@ use Rattle.dm_feed.specs.declared.feed.FeedStop.{FeedStop}
 use Rattle.dm_feed.specs.declared.feed.FeedStop.TheVariants.{End, Fault, Long}
 use Rattle.dm_feed.specs.DueItems.{DueItem, EndsWith}
 use Rattle.dm_cert.specs.declared.replies.FeedLog.{FeedLog}
-use Rattle.dm_cert.specs.RunTexts.{Run}
+use Rattle.dm_commands.specs.Boards.{Ended}
 use Rattle.dm_rounds.proofs.Places.{behind_one}
 use Rattle.dm_commands.specs.declared.status.Status.{Status}
 use Rattle.dm_commands.specs.declared.status.Status.TheVariants.{Ok as Well, Bad, Usage, Refused, ReadFault, WriteFault, NoMemory}
@@ -99,7 +99,7 @@ name_ends told is_sound name bytes log known held short sound (inl l) =
     end_of log.stop l.bytes l.log_of.due (λ fault. l.cause fault sound) (omega (arith, ap length (held_is told name l.bytes bytes known l.held held))) l.log_of.ends
 name_ends told is_sound name bytes log known held short sound (inr l) = absurd (l.cause sound)
 
-module _ {K : Type 0} (taken : K → Option (List ℕ)) (faults : K → ℕ) (told : Told) (is_sound : List ℕ → Type 0) (end_boards : Option Run → Type 0) (words : List (List ℕ)) (before now : K) where
+module _ {K : Type 0} (taken : K → Option (List ℕ)) (faults : K → ℕ) (told : Told) (is_sound : List ℕ → Type 0) (end_boards : Option Ended → Type 0) (words : List (List ℕ)) (before now : K) where
   -- how a call ends whose words ask for nothing
   pub ends_outside : AsksNothing words → (result : Status) → Ends taken faults told is_sound end_boards words before now result → (result ≡ Usage) ⊎ (result ≡ WriteFault)
   ends_outside nothing Usage h = inl refl

@@ -3,7 +3,7 @@ use Rattle.std.proofs.Common.{◌≡◌, ℕ, ◌⊎◌, inl, inr, List, Option,
 use Rattle.dm_input.specs.Input.{Told}
 use Rattle.dm_words.specs.Words.{GenAsked, GenOf, RunAsked, RunOf, CheckAsked, CheckOf, QueryAsked, QueryOf, FilesAsked, Asks}
 use Rattle.dm_report.specs.Summaries.{summary_text}
-use Rattle.dm_cert.specs.RunTexts.{Run}
+use Rattle.dm_commands.specs.Boards.{Ended}
 use Rattle.dm_commands.specs.declared.status.Status.{Status}
 use Rattle.dm_commands.specs.declared.status.Status.TheVariants.{Ok as Well, Bad, Usage, Refused, ReadFault, WriteFault, NoMemory}
 use Rattle.dm_commands.specs.Commands.{AsksOver}
@@ -12,7 +12,7 @@ use Rattle.dm_commands.specs.Inside.Generating.{EndsGenerated}
 use Rattle.dm_commands.proofs.Closing.{ends_due, ends_wanting}
 use Rattle.dm_commands.proofs.Converse.{about_over, no_files}
 
-module _ {K : Type 0} (taken : K → Option (List ℕ)) (faults : K → ℕ) (told : Told) (is_sound : List ℕ → Type 0) (end_boards : Option Run → Type 0) (words : List (List ℕ)) (before now : K) (asked : GenAsked) (asks : Asks words (GenOf asked)) where
+module _ {K : Type 0} (taken : K → Option (List ℕ)) (faults : K → ℕ) (told : Told) (is_sound : List ℕ → Type 0) (end_boards : Option Ended → Type 0) (words : List (List ℕ)) (before now : K) (asked : GenAsked) (asks : Asks words (GenOf asked)) where
   pub ends_generated : end_boards None → (result : Status) → EndsGenerated taken faults asked before now result → Ends taken faults told is_sound end_boards words before now result
   ends_generated as_before result (inl h) =
       ends_due taken faults told is_sound end_boards words before now Well (summary_text h.0) result

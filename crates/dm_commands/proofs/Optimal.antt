@@ -73,6 +73,7 @@ module _ (s : Setting) (network : IsNetwork s.net) (sized : IsSized s.net s.star
       (whole_is_task s.net (rows_after s history plan.entry) s.penalty budget network (sized_after plan.entry)) t.is_true optimal).0)
   planned feed here before (line.Solve budget) plan t = absurd t
   planned feed here before line.Adopt plan t = absurd t
+  planned feed here before line.Carry plan t = absurd t
   planned feed here before line.Read plan t = absurd t
 
   solved : (feed here : ℕ) (before : List LogItem) (said : Line) (plan : PlanByParts) → IsTrueReply s history feed before here said (reply.Solved plan) →
@@ -86,6 +87,7 @@ module _ (s : Setting) (network : IsNetwork s.net) (sized : IsSized s.net s.star
       (bounds_by_parts_hold.optimal (whole_task s.net (rows_after s history plan.entry) s.penalty budget) plan
       (whole_is_task s.net (rows_after s history plan.entry) s.penalty budget network (sized_after plan.entry)) t.is_true optimal))
   solved feed here before line.Adopt plan t = absurd t
+  solved feed here before line.Carry plan t = absurd t
   solved feed here before line.Read plan t = absurd t
 
   item_least : (feed : ℕ) (before : List LogItem) (x : LogItem) → IsTrueAnswer s history feed before x → IfSome (claim_in x) IsLeastThere
@@ -123,6 +125,7 @@ knows_line line.CostNow = tt
 knows_line (line.Plan budget) = tt
 knows_line (line.Solve budget) = refl
 knows_line line.Adopt = tt
+knows_line line.Carry = tt
 knows_line line.Read = tt
 
 knows_reply : (answer : Reply) → KnowsReply 2 answer

@@ -1,10 +1,11 @@
 -- A run that is answered has a spelling, and is true.
-use Rattle.std.proofs.Common.{◌≡◌, ℕ, ◌≤◌, inl, inr, List, [], length, Option, Some, None, Ok, refl, sym, ap, subst, ◌∙◌, arith, get_or}
+use Rattle.std.proofs.Common.{◌≡◌, ℕ, ◌≤◌, inl, inr, Bool, List, [], length, All, Option, Some, None, Ok, refl, sym, ap, subst, ◌∙◌, arith, get_or}
 use Rattle.std.specs.Prelude.{IfSome}
 use Rattle.std.proofs.lemmas.Option.{slice_get_within, slice_get-get_or}
 use Rattle.dm_network.specs.Net.{Net}
 use Rattle.dm_network.specs.Start.{IsNetwork}
 use Rattle.dm_rows.specs.Rows.{RowsValue, IsSized}
+use Rattle.dm_rows.specs.History.{rows_at}
 use Rattle.dm_rows.specs.Cost.{cost_of}
 use Rattle.dm_rows.specs.Timetable.{IsLeast}
 use Rattle.dm_input.specs.Input.{Told, IsHeld, Opening, OpeningAnswer}
@@ -12,8 +13,10 @@ use Rattle.dm_words.specs.Words.{RunAsked, RunOf, Asks}
 use Rattle.dm_cert.specs.declared.replies.FeedLog.{FeedLog}
 use Rattle.dm_cert.specs.Logs.{names, AreTrueLogs, KeepsRounds}
 use Rattle.dm_cert.specs.declared.notes.Note.{Note}
-use Rattle.dm_cert.specs.RunTexts.{Run, IsSpelledRun, FitsRun, run_text}
+use Rattle.dm_cert.specs.RunTexts.{IsSpelledLog, IsSpelledRun, FitsRun, run_text}
+use Rattle.dm_commands.specs.Boards.{Ended}
 use Rattle.dm_cert.specs.Runs.{IsTrueRun, AreTrueNotes}
+use Rattle.dm_cert.proofs.SortedEntries.{true_logs_have_sorted_entries}
 use Rattle.dm_desk.specs.Answered.{times}
 use Rattle.dm_rounds.specs.Rounds.{IsLogFrom, IsLogFor}
 use Rattle.dm_table.specs.Value.{TableValue}
@@ -22,24 +25,28 @@ use Rattle.dm_commands.specs.Feeds.{IsLogOfHeld, IsLogOfName, AreLogsOf, status_
 use Rattle.dm_commands.specs.Headline.{IsRunOf}
 use Rattle.dm_crew.specs.AtOnce.{table_desk, AnswersDay}
 use Rattle.dm_crew.proofs.Days.{each_once}
-use Rattle.dm_commands.specs.Inside.Stages.{IsOpenedAs, IsOpened, AreOpened, AreWithin, run_in}
+use Rattle.dm_commands.specs.Inside.Stages.{IsOpenedAs, IsOpened, AreOpened, AreWithin, ended_in, run_in}
 use Rattle.dm_commands.proofs.Optimal.{optimal_is_least, knows_logs}
 
 -- ---- one run
 
 module _ {S : Type 0} (left : S → Option (List ℕ)) (source_sound : S → Type 0) (net : Net) (rows : RowsValue) (price plans : ℕ) (feeds : List (Option S)) (batch : ℕ) (table : TableValue) (logs : List FeedLog) (notes : List Note) (r : AnswersDay left source_sound net rows price plans feeds batch table logs) where
-  pub run_is_spelled : IsSpelledRun (run_in table logs notes)
-  run_is_spelled = record {
-    logs = λ k d low. r.answers.spelled k (get_or logs k d) (slice_get-get_or logs k d low);
-    times = r.is_table.least.meets.size;
-  }
-
   logs_are_true : AreTrueLogs (table_desk plans table).setting table.history logs
   logs_are_true = record {
     each = r.answers.are_true;
     once = λ n some low.
         let before : times n [] ≡ 0 = refl in
         omega (arith, r.answers.named n, before, each_once (length table.history) n some low);
+  }
+
+  logs_are_spelled : All IsSpelledLog logs
+  logs_are_spelled k d low = r.answers.spelled k (get_or logs k d) (slice_get-get_or logs k d low)
+
+  pub run_is_spelled : IsSpelledRun (run_in table logs notes)
+  run_is_spelled = record {
+    history = true_logs_have_sorted_entries (table_desk plans table).setting table.history logs logs_are_true logs_are_spelled;
+    logs = logs_are_spelled;
+    times = r.is_table.least.meets.size;
   }
 
   run_is_true : AreTrueNotes (length table.history) notes → 1 ≤ length logs → length logs ≤ 64 → IsTrueRun 2 plans table.start (run_in table logs notes)
@@ -82,8 +89,8 @@ module _ {S : Type 0} (left : S → Option (List ℕ)) (source_sound : S → Typ
 
   -- ---- its text
 
-  pub is_run_of : (told : Told) (is_sound : List ℕ → Type 0) (end_boards : Option Run → Type 0) (words : List (List ℕ)) (asked : RunAsked) (opening : Opening) → Asks words (RunOf asked) → AreWithin asked → IsNetwork net → OpeningAnswer told asked.files (Ok opening) → opening.net ≡ net → opening.rows ≡ rows → price ≡ asked.files.penalty → plans ≡ asked.files.plans
-      → batch ≡ asked.batch → AreOpened left source_sound told is_sound asked.feeds feeds → FitsRun (run_in table logs notes) → AreTrueNotes (length table.history) notes → end_boards (Some (run_in table logs notes)) → (status : Status) → status ≡ status_of logs → IsRunOf told is_sound end_boards words status (run_text 2 (run_in table logs notes))
+  pub is_run_of : (told : Told) (is_sound : List ℕ → Type 0) (end_boards : Option Ended → Type 0) (words : List (List ℕ)) (asked : RunAsked) (opening : Opening) → Asks words (RunOf asked) → AreWithin asked → IsNetwork net → OpeningAnswer told asked.files (Ok opening) → opening.net ≡ net → opening.rows ≡ rows → price ≡ asked.files.penalty → plans ≡ asked.files.plans
+      → batch ≡ asked.batch → AreOpened left source_sound told is_sound asked.feeds feeds → FitsRun (run_in table logs notes) → AreTrueNotes (length table.history) notes → end_boards (Some (ended_in table logs notes)) → (status : Status) → status ≡ status_of logs → IsRunOf told is_sound end_boards words status (run_text 2 (run_in table logs notes))
   is_run_of told is_sound end_boards words asked opening asks within network opens is_net is_rows is_price is_plans is_batch opened fits noted boards status is_status =
       let of = logs_of_names told is_sound asked.feeds opened in
       let start : table.start ≡ opening.rows = r.start ∙ sym is_rows in
@@ -97,7 +104,7 @@ module _ {S : Type 0} (left : S → Option (List ℕ)) (source_sound : S → Typ
         run = run_in table logs notes;
         net = r.network ∙ sym is_net;
         penalty = r.penalty ∙ is_price;
-        boards = boards;
+        boards = subst (λ (f : List Bool). end_boards (Some (record { run = run_in table logs notes; cancelled = f }))) (ap (λ (x : RowsValue). x.cancelled) (r.is_table.replayed ∙ ap (λ (x : RowsValue). rows_at table.network x table.history (length table.history)) start)) boards;
         logs = of;
         rounds = subst (KeepsRounds logs) is_batch r.answers.rounds;
         has_status = is_status;

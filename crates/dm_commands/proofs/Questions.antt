@@ -70,7 +70,7 @@ module _ (net : Net) (rows : RowsValue) (penalty : ℕ) (bytes : List ℕ) (f : 
         is_tail = is.follows.tail_is;
         times = f.table.times;
         least = subst (λ (x : RowsValue). IsLeast f.table.network x f.table.times) table.replayed table.least;
-        is_text = ap (λ (x : RowsValue). state_text f.table.network (length f.table.history) (tail_of f) f.table.times (cost_of f.table.network x f.table.times f.table.penalty)) table.replayed;
+        is_text = ap (λ (x : RowsValue). state_text f.table.network x (length f.table.history) (tail_of f) f.table.times (cost_of f.table.network x f.table.times f.table.penalty)) table.replayed;
       }) is.no_fault
 
   -- journeys in its times are those of the bytes
@@ -137,15 +137,16 @@ module _ (net : Net) (rows : RowsValue) (penalty : ℕ) (bytes : List ℕ) (f : 
       }) whole
 
 -- the state that a follower has come to, of the parts that are told of it
-pub state_same : (f : FollowerValue) (table : TableValue) (net : Net) (entries : ℕ) (t : Tail) (times : List ℕ) (cost : ℕ) → table ≡ f.table → net ≡ table.network → entries ≡ length table.history → t ≡ tail_of f → times ≡ table.times →
-    cost ≡ cost_of table.network table.rows table.times table.penalty → state_text net entries t times cost ≡ state_of f
-state_same f table net entries t times cost table_is net_is entries_are tail_is times_are cost_is =
-    ap (λ (x : Net). state_text x entries t times cost) net_is
-    ∙ (ap (λ (x : ℕ). state_text table.network x t times cost) entries_are
-    ∙ (ap (λ (x : Tail). state_text table.network (length table.history) x times cost) tail_is
-    ∙ (ap (λ (x : List ℕ). state_text table.network (length table.history) (tail_of f) x cost) times_are
-    ∙ (ap (λ (x : ℕ). state_text table.network (length table.history) (tail_of f) table.times x) cost_is
-    ∙ ap (λ (x : TableValue). state_text x.network (length x.history) (tail_of f) x.times (cost_of x.network x.rows x.times x.penalty)) table_is))))
+pub state_same : (f : FollowerValue) (table : TableValue) (net : Net) (rows : RowsValue) (entries : ℕ) (t : Tail) (times : List ℕ) (cost : ℕ) → table ≡ f.table → net ≡ table.network → rows ≡ table.rows → entries ≡ length table.history → t ≡ tail_of f → times ≡ table.times →
+    cost ≡ cost_of table.network table.rows table.times table.penalty → state_text net rows entries t times cost ≡ state_of f
+state_same f table net rows entries t times cost table_is net_is rows_are entries_are tail_is times_are cost_is =
+    ap (λ (x : Net). state_text x rows entries t times cost) net_is
+    ∙ (ap (λ (x : RowsValue). state_text table.network x entries t times cost) rows_are
+    ∙ (ap (λ (x : ℕ). state_text table.network table.rows x t times cost) entries_are
+    ∙ (ap (λ (x : Tail). state_text table.network table.rows (length table.history) x times cost) tail_is
+    ∙ (ap (λ (x : List ℕ). state_text table.network table.rows (length table.history) (tail_of f) x cost) times_are
+    ∙ (ap (λ (x : ℕ). state_text table.network table.rows (length table.history) (tail_of f) table.times x) cost_is
+    ∙ ap (λ (x : TableValue). state_text x.network x.rows (length x.history) (tail_of f) x.times (cost_of x.network x.rows x.times x.penalty)) table_is)))))
 
 -- ---- walks
 

@@ -9,7 +9,7 @@ use Rattle.dm_input.specs.Stops.{IsLong}
 use Rattle.dm_input.specs.declared.flaws.InputFlaw.{InputFlaw}
 use Rattle.dm_input.proofs.OneOpening.{opening_is_one}
 use Rattle.dm_words.specs.Words.{RunAsked, RunOf, GenAsked, GenOf, CheckOf, QueryOf, FilesAsked, Asks}
-use Rattle.dm_cert.specs.RunTexts.{Run}
+use Rattle.dm_commands.specs.Boards.{Ended}
 use Rattle.dm_commands.specs.declared.status.Status.{Status}
 use Rattle.dm_commands.specs.declared.status.Status.TheVariants.{Ok as Well, Bad, Usage, Refused, ReadFault, WriteFault, NoMemory}
 use Rattle.dm_commands.specs.Answers.{IsAnswerFor}
@@ -19,7 +19,7 @@ use Rattle.dm_commands.specs.Ends.{IsDue, Ends, EndsTold, IsSoundFor, Writes}
 use Rattle.dm_commands.specs.Verdicts.{long_text_line}
 use Rattle.dm_commands.proofs.Converse.{about_over, held_is, no_files, no_text, same_files, same_text}
 
-module _ {K : Type 0} (taken : K → Option (List ℕ)) (faults : K → ℕ) (told : Told) (is_sound : List ℕ → Type 0) (end_boards : Option Run → Type 0) (words : List (List ℕ)) (before now : K) (files : FilesAsked) (text : List ℕ) (about : AsksAbout words files text) (known : IsSome told) (opening : Opening) (opens : OpeningAnswer told files (Ok opening)) where
+module _ {K : Type 0} (taken : K → Option (List ℕ)) (faults : K → ℕ) (told : Told) (is_sound : List ℕ → Type 0) (end_boards : Option Ended → Type 0) (words : List (List ℕ)) (before now : K) (files : FilesAsked) (text : List ℕ) (about : AsksAbout words files text) (known : IsSome told) (opening : Opening) (opens : OpeningAnswer told files (Ok opening)) where
   over : AsksOver words files
   over = about_over words files text about
 

@@ -5,7 +5,7 @@ use Rattle.dm_base.specs.declared.limits.TheConstants.{TEXT}
 use Rattle.dm_text.specs.Places.{at_start}
 use Rattle.dm_network.specs.Net.{Net}
 use Rattle.dm_rows.specs.Rows.{RowsValue}
-use Rattle.dm_cert.specs.RunTexts.{Run}
+use Rattle.dm_commands.specs.Boards.{Ended}
 use Rattle.dm_check.specs.declared.verdicts.BadKind.{BadKind}
 use Rattle.dm_check.specs.declared.verdicts.BadKind.TheVariants.{Form, Truncated, Entry}
 use Rattle.dm_check.specs.declared.verdicts.Verdict.TheVariants.{Bad as BadVerdict}
@@ -75,7 +75,7 @@ IsAnswerAt query net start penalty bytes _ text = ⊥
 
 -- The text is due to what the words ask of a journal, over the network and the rows at the start of the files and at the penalty of
 -- the words.
-pub record IsAnswerFor (told : Told) (end_boards : Option Run → Type 0) (words : List (List ℕ)) (status : Status)
+pub record IsAnswerFor (told : Told) (end_boards : Option Ended → Type 0) (words : List (List ℕ)) (status : Status)
     (text : List ℕ) : Type 0 where
   pub asked : QueryAsked
   pub is_asked : Asks words (QueryOf asked)

@@ -5,7 +5,7 @@ use Rattle.dm_base.specs.declared.limits.TheConstants.{TEXT}
 use Rattle.dm_input.specs.Input.{Told, IsHeld, Opening, OpeningAnswer}
 use Rattle.dm_input.specs.Stops.{IsLong}
 use Rattle.dm_words.specs.Words.{CheckAsked, CheckOf, FilesAsked, Asks}
-use Rattle.dm_cert.specs.RunTexts.{Run}
+use Rattle.dm_commands.specs.Boards.{Ended}
 use Rattle.dm_cert.specs.Runs.{IsRunText}
 use Rattle.dm_check.specs.declared.verdicts.Verdict.{Verdict}
 use Rattle.dm_check.specs.FalseRecords.{IsVerdict}
@@ -17,7 +17,7 @@ use Rattle.dm_commands.specs.Verdicts.{verdict_line, verdict_status, long_text_l
 -- The line is the verdict on the text, over the network and the start rows of the files, at the penalty of the words and for as
 -- many plans of a feed as they say: that it is good, with so many entries and plans, or the first record that breaks its rule.
 -- The status is the verdict's. The good texts are exactly the spellings, in one of the versions, of true runs.
-pub record IsVerdictFor (told : Told) (end_boards : Option Run → Type 0) (words : List (List ℕ)) (status : Status)
+pub record IsVerdictFor (told : Told) (end_boards : Option Ended → Type 0) (words : List (List ℕ)) (status : Status)
     (line : List ℕ) : Type 0 where
   pub asked : CheckAsked
   pub is_asked : Asks words (CheckOf asked)
@@ -34,7 +34,7 @@ pub record IsVerdictFor (told : Told) (end_boards : Option Run → Type 0) (word
   pub boards : end_boards None
 
 -- the text has more than TEXT bytes
-pub record IsLongText (told : Told) (end_boards : Option Run → Type 0) (words : List (List ℕ)) (line : List ℕ) : Type 0 where
+pub record IsLongText (told : Told) (end_boards : Option Ended → Type 0) (words : List (List ℕ)) (line : List ℕ) : Type 0 where
   pub files : FilesAsked
   pub text : List ℕ
   pub about : AsksAbout words files text
@@ -45,7 +45,7 @@ pub record IsLongText (told : Told) (end_boards : Option Run → Type 0) (words 
   pub boards : end_boards None
 
 -- the text could not be opened or read: the shelf does not tell it sound
-pub record IsUnreadText (told : Told) (is_sound : List ℕ → Type 0) (end_boards : Option Run → Type 0) (words : List (List ℕ))
+pub record IsUnreadText (told : Told) (is_sound : List ℕ → Type 0) (end_boards : Option Ended → Type 0) (words : List (List ℕ))
     (line : List ℕ) : Type 0 where
   pub files : FilesAsked
   pub text : List ℕ

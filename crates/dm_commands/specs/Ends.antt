@@ -7,7 +7,7 @@ use Rattle.dm_input.specs.Input.{Told, IsHeld, OpeningAnswer, IsUnread, file_nam
 use Rattle.dm_input.specs.Lines.{usage_line, refused_line, read_fault_line}
 use Rattle.dm_input.specs.Order.{SameFlaw, IsReadBy}
 use Rattle.dm_words.specs.Words.{Command, FilesAsked, RunAsked, RunOf, Asks, AsksNothing}
-use Rattle.dm_cert.specs.RunTexts.{Run}
+use Rattle.dm_commands.specs.Boards.{Ended}
 use Rattle.dm_input.specs.declared.flaws.File.{File}
 use Rattle.dm_input.specs.declared.flaws.InputFlaw.{InputFlaw}
 use Rattle.dm_outside.specs.Printing.{TakesAll, TakesFront}
@@ -20,13 +20,13 @@ use Rattle.dm_commands.specs.Checked.{IsVerdictFor, IsLongText, IsUnreadText}
 use Rattle.dm_commands.specs.Answers.{IsAnswerFor}
 
 -- the words ask for nothing
-pub record IsUsage (end_boards : Option Run → Type 0) (words : List (List ℕ)) (text : List ℕ) : Type 0 where
+pub record IsUsage (end_boards : Option Ended → Type 0) (words : List (List ℕ)) (text : List ℕ) : Type 0 where
   pub outside : AsksNothing words
   pub line : text ≡ usage_line
   pub boards : end_boards None
 
 -- what is refused first, of bytes that are those that the shelf tells
-pub record IsRefusal (told : Told) (end_boards : Option Run → Type 0) (words : List (List ℕ)) (text : List ℕ) : Type 0 where
+pub record IsRefusal (told : Told) (end_boards : Option Ended → Type 0) (words : List (List ℕ)) (text : List ℕ) : Type 0 where
   pub files : FilesAsked
   pub over : AsksOver words files
   pub flaw : InputFlaw
@@ -35,7 +35,7 @@ pub record IsRefusal (told : Told) (end_boards : Option Run → Type 0) (words :
   pub boards : end_boards None
 
 -- a file that the shelf does not tell sound, where nothing is refused before it
-pub record IsReadFault (told : Told) (is_sound : List ℕ → Type 0) (end_boards : Option Run → Type 0) (words : List (List ℕ))
+pub record IsReadFault (told : Told) (is_sound : List ℕ → Type 0) (end_boards : Option Ended → Type 0) (words : List (List ℕ))
     (text : List ℕ) : Type 0 where
   pub files : FilesAsked
   pub over : AsksOver words files
@@ -46,7 +46,7 @@ pub record IsReadFault (told : Told) (is_sound : List ℕ → Type 0) (end_board
 
 -- The text that is due at a status, of a run, of a generated day, of a checked text or of what is asked of a journal; a write fault
 -- and want of memory have none of their own. A run whose feeds did not all end well has its whole text.
-abbrev pub IsDue : Told → (List ℕ → Type 0) → (Option Run → Type 0) → List (List ℕ) → Status → List ℕ → Type 0
+abbrev pub IsDue : Told → (List ℕ → Type 0) → (Option Ended → Type 0) → List (List ℕ) → Status → List ℕ → Type 0
 IsDue told is_sound end_boards words Ok text =
     IsRunOf told is_sound end_boards words Ok text
     ⊎ (IsSummaryFor end_boards words text ⊎ (IsVerdictFor told end_boards words Ok text ⊎ IsAnswerFor told end_boards words Ok text))
@@ -83,7 +83,7 @@ pub record WantsMemory (before now : Option (List ℕ)) (words : List (List ℕ)
   pub kept : Keeps before now
 
 -- how a call ends, by its status
-abbrev pub Ends : {K : Type 0} → (K → Option (List ℕ)) → (K → ℕ) → Told → (List ℕ → Type 0) → (Option Run → Type 0) →
+abbrev pub Ends : {K : Type 0} → (K → Option (List ℕ)) → (K → ℕ) → Told → (List ℕ → Type 0) → (Option Ended → Type 0) →
     List (List ℕ) → K → K → Status → Type 0
 Ends taken faults told is_sound end_boards words before now WriteFault =
     FailsToWrite taken faults before now (IsDue told is_sound end_boards words)

@@ -1,6 +1,6 @@
 //! What becomes of the boards that a call is given, under one name for clauses.
 ghost use Rattle.std.specs.Prelude.{Option};
-ghost use Rattle.dm_cert.specs.RunTexts.{Run};
+ghost use Rattle.dm_commands.specs.Boards.{Ended};
 
 use dm_outside::Board;
 
@@ -11,12 +11,12 @@ pub type BoardList = Vec<Box<dyn Board>>;
 pub trait Ending {
     /// Whether the boards have come from the first list to the second one as a call has to leave them that ends with a run, or
     /// without one.
-    ghost ends: { Self → Self → Option Run → Type 0 };
+    ghost ends: { Self → Self → Option Ended → Type 0 };
 }
 
 impl Ending for Vec<Box<dyn Board>> {
     ghost use Rattle.dm_commands.specs.Boards.{EndBoards};
 
     ghost ends = { λ old new. EndBoards (λ b. (Board-box b).place b.value) (λ b. (Board-box b).times b.value)
-        (λ b. (Board-box b).faults b.value) (λ b. (Board-box b).is_sound b.value) old.items new.items };
+        (λ b. (Board-box b).flags b.value) (λ b. (Board-box b).faults b.value) (λ b. (Board-box b).is_sound b.value) old.items new.items };
 }

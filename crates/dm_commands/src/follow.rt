@@ -1,6 +1,7 @@
 //! The state that a journal tells, in print.
 ghost use Rattle.std.specs.Prelude.{◌≡◌, ◌≤◌, length};
 ghost use Rattle.dm_outside.specs.Printing.{Puts};
+ghost use Rattle.dm_rows.specs.Rows.{IsSized};
 ghost use Rattle.dm_commands.specs.Ends.{EndsAs};
 ghost use Rattle.dm_commands.specs.Followed.{cost_line, entries_line, state_text, tail_line};
 ghost use Rattle.dm_commands.specs.Inside.Asking.{state_of};
@@ -11,7 +12,8 @@ use dm_base::Cost;
 use dm_follow::{Follower, Tail};
 use dm_network::Network;
 use dm_outside::{Piece, Sink, WriteFault};
-use dm_report::write_timetable;
+use dm_report::{write_cancelled, write_timetable};
+use dm_rows::Rows;
 use dm_times::Times;
 
 /// Prints the state that a follower has come to.
@@ -31,12 +33,13 @@ fn put_state<K: Sink>(follower: &Follower<'_>, out: &mut K) -> Result<(), WriteF
 {
     let table = follower.table();
     table.reveal();
-    let (net, times) = (table.network(), table.times());
+    let (net, rows, times) = (table.network(), table.rows(), table.times());
     put_parts(
         out,
         table.len(),
         follower.tail(),
         net,
+        rows,
         times,
         table.cost_now(),
     )
@@ -48,11 +51,13 @@ fn put_parts<K: Sink>(
     entries: u32,
     tail: Tail,
     net: &Network,
+    rows: &Rows,
     times: &Times,
     cost: Cost,
 ) -> Result<(), WriteFault>
-    requires { length times.now ≡ length net.now.events }
-    ensures { Puts K.taken K.faults out.old out.new result (state_text net.now entries tail times.now cost) }
+    requires sized { IsSized net.now rows.now }
+    requires times { length times.now ≡ length net.now.events }
+    ensures { Puts K.taken K.faults out.old out.new result (state_text net.now rows.now entries tail times.now cost) }
 {
     let Ok(()) = put_entries(out, entries) else {
         return Err(WriteFault);
@@ -61,6 +66,9 @@ fn put_parts<K: Sink>(
         return Err(WriteFault);
     };
     let Ok(()) = write_timetable(net, times, out) else {
+        return Err(WriteFault);
+    };
+    let Ok(()) = write_cancelled(net, rows, out) else {
         return Err(WriteFault);
     };
     put_cost(out, cost)

@@ -5,6 +5,7 @@ ghost use Rattle.dm_base.specs.declared.limits.TheConstants.{BOARDS, FEEDS};
 ghost use Rattle.dm_rows.specs.Rows.{IsSized};
 ghost use Rattle.dm_crew.specs.AtOnce.{AnswersDay};
 ghost use Rattle.dm_crew.specs.Boards.{AreShown};
+ghost use Rattle.dm_display.specs.Displays.{shown_of};
 ghost use Rattle.dm_input.specs.Stops.{IsKept};
 ghost use Rattle.dm_words.specs.Asked.{run_of};
 ghost use Rattle.dm_words.specs.Words.{Asks, RunOf};
@@ -99,8 +100,8 @@ pub fn answer_run<
     requires few_boards { vec_len boards.old ≤ BOARDS }
     ensures answers { IfOk result (λ day. AnswersDay S.left S.is_sound net.now rows run.now.files.penalty run.now.files.plans
         feeds.items run.now.batch day.table day.logs.items) }
-    ensures shown { IfOk result (λ day. AreShown place times (λ b. (Board-box b).faults b.value) (λ b. (Board-box b).is_sound b.value)
-        net.now day.table.times (length day.table.history) day.publisher.notes boards.old.items boards.new.items) }
+    ensures shown { IfOk result (λ day. AreShown place times flags (λ b. (Board-box b).faults b.value) (λ b. (Board-box b).is_sound b.value)
+        net.now (shown_of day.table) (length day.table.history) day.publisher.notes boards.old.items boards.new.items) }
     ensures stops { map place boards.new.items ≡ map place boards.old.items }
 {
     net.reveal();

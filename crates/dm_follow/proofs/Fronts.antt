@@ -10,6 +10,7 @@ use Rattle.dm_text.specs.Judging.{Times}
 use Rattle.dm_network.specs.Net.{Net}
 use Rattle.dm_rows.specs.declared.messages.Entry.{Entry}
 use Rattle.dm_rows.specs.Rows.{RowsValue}
+use Rattle.dm_feed.specs.Lines.{HasSortedChoice}
 use Rattle.dm_cert.specs.declared.replies.FeedLog.{FeedLog}
 use Rattle.dm_cert.specs.Answers.{Setting}
 use Rattle.dm_cert.specs.Logs.{names, all_items, AreTrueLogs}
@@ -79,10 +80,14 @@ followed_is_one = record {
 
 -- ---- a run's text
 
+abbrev IsSorted : Entry → Type 0
+IsSorted entry = HasSortedChoice entry.message
+
 module _ (s : Setting) (history : List Entry) (logs : List FeedLog) (are : AreTrueLogs s history logs) where
   -- each entry came from some line of one of the feeds
-  entry_came : (before : List Entry) (entry : Entry) (later : List Entry) → FitsEntry entry → history ≡ before ++ entry ∷ later → IsEntryOf (length logs) entry
-  entry_came before entry later fits e =
+  entry_came : (before : List Entry) (entry : Entry) (later : List Entry) → FitsEntry entry → HasSortedChoice entry.message
+      → history ≡ before ++ entry ∷ later → IsEntryOf (length logs) entry
+  entry_came before entry later fits sorted e =
       let n : ℕ = length before + 1 in
       let size : length history ≡ length before + length (entry ∷ later) = ap length e ∙ length-append before (entry ∷ later) in
       let once : count_by (names n) (all_items logs) ≡ 1 = are.once n (omega arith) (omega (arith, size)) in
@@ -92,13 +97,17 @@ module _ (s : Setting) (history : List Entry) (logs : List FeedLog) (are : AreTr
         feed = (let few = came.few in let f = ap (λ (x : Entry). x.feed) same in omega (arith, few, f));
         line = (let some = came.some_line in let l = ap (λ (x : Entry). x.line) same in omega (arith, some, l));
         fits = fits;
+        sorted = sorted;
       }
 
-  entries_came : (before tail : List Entry) → All FitsEntry history → history ≡ before ++ tail → All (IsEntryOf (length logs)) tail
-  entries_came before [] fits e = All-nil (IsEntryOf (length logs))
-  entries_came before (x ∷ tail) fits e =
-      All-cons (IsEntryOf (length logs)) x tail (entry_came before x tail (all_there FitsEntry before x tail (subst (All FitsEntry) e fits)) e)
-      (entries_came (before ++ x ∷ []) tail fits (e ∙ sym (append_assoc before (x ∷ []) tail)))
+  entries_came : (before tail : List Entry) → All FitsEntry history → All IsSorted history → history ≡ before ++ tail
+      → All (IsEntryOf (length logs)) tail
+  entries_came before [] fits sorted e = All-nil (IsEntryOf (length logs))
+  entries_came before (x ∷ tail) fits sorted e =
+      All-cons (IsEntryOf (length logs)) x tail
+      (entry_came before x tail (all_there FitsEntry before x tail (subst (All FitsEntry) e fits))
+      (all_there IsSorted before x tail (subst (All IsSorted) e sorted)) e)
+      (entries_came (before ++ x ∷ []) tail fits sorted (e ∙ sym (append_assoc before (x ∷ []) tail)))
 
 -- what stands behind a run's entries
 abbrev behind_entries : ℕ → Run → List ℕ
@@ -125,7 +134,7 @@ module _ (version plans : ℕ) (start : RowsValue) (run : Run) (text : List ℕ)
     few_feeds = is.is_true.few_feeds;
     few_entries = is.is_true.legal.size;
     within = omega arith;
-    each = entries_came (setting_of version plans start run) run.history run.logs is.is_true.logs [] run.history is.fits.history refl;
+    each = entries_came (setting_of version plans start run) run.history run.logs is.is_true.logs [] run.history is.fits.history is.is_spelled.history refl;
     legal = is.is_true.legal;
     front = is.spelled ∙ text_front version run;
   }

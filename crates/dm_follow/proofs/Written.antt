@@ -167,7 +167,7 @@ entries_there net start feeds before (e ∷ tail) place rest legal each left =
           (subst (λ (rows : RowsValue). Refuses net rows (length before) e.message r) (sym (rows_before net start before (e ∷ tail))) refuses);
     } in
     let one = rules_there IsEntryLine (λ (s : Numbered). entry_text s.number s.entry) (IsNextEntry net start feeds before) kind.Entry (λ (s : Numbered). s.entry) said place more
-    (entry_line n e (omega (arith, few, size)) here.fits) next_is (left ∙ append_assoc (entry_text n e) (entries_text (n + 1) tail) rest) in
+    (entry_line n e (omega (arith, few, size)) here.fits here.sorted) next_is (left ∙ append_assoc (entry_text n e) (entries_text (n + 1) tail) rest) in
     let together : (before ++ e ∷ []) ++ tail ≡ before ++ e ∷ tail = append_assoc before (e ∷ []) tail in
     let two = entries_there net start feeds (before ++ e ∷ []) tail (next_line place more) rest (subst (IsLegal net start) (sym together) legal) (All-tail (IsEntryOf feeds) e tail each)
     (ap (λ k. entries_text k tail ++ rest) (ap (λ k. k + 1) (sym (length-append before (e ∷ []))))) in
@@ -212,6 +212,7 @@ entries_told net start feeds (suc n) before all place next few told =
       feed = feed;
       line = one.then.0.line;
       fits = (omega (arith, feed, few), one.told.spelled.of_line, one.told.spelled.message);
+      sorted = one.told.spelled.sorted;
     } in
     record {
       tail = e ∷ rest.tail;

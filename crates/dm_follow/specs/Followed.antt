@@ -6,6 +6,7 @@ use Rattle.dm_network.specs.Net.{Net}
 use Rattle.dm_rows.specs.declared.messages.Entry.{Entry}
 use Rattle.dm_rows.specs.Rows.{RowsValue}
 use Rattle.dm_rows.specs.History.{IsLegal}
+use Rattle.dm_feed.specs.Lines.{HasSortedChoice}
 use Rattle.dm_cert.specs.PlanTexts.{IsVersion}
 use Rattle.dm_cert.specs.RunTexts.{header_text, entries_text, FitsEntry}
 use Rattle.dm_follow.specs.declared.faults.FollowKind.{FollowKind}
@@ -13,11 +14,13 @@ use Rattle.dm_follow.specs.declared.faults.Tail.{Tail}
 use Rattle.dm_follow.specs.declared.faults.Tail.TheVariants.{Whole, Torn, Failed}
 use Rattle.dm_follow.specs.Journals.{TellsJournal, IsFrontFault, unended}
 
--- the entry came from some line of one of so many feeds, and its numbers are ones that types hold
+-- the entry came from some line of one of so many feeds, its numbers are ones that types hold, and of a pair to lock or unlock the
+-- smaller id stands first
 pub record IsEntryOf (feeds : ℕ) (entry : Entry) : Type 0 where
   pub feed : entry.feed ≤ feeds
   pub line : 1 ≤ entry.line
   pub fits : FitsEntry entry
+  pub sorted : HasSortedChoice entry.message
 
 -- The lines of these entries stand whole at the front of the bytes, with the header before them, and break no rule: the version
 -- is one that there is, the penalty is this one, there are 1 to 64 feeds and at most 1,000,000 entries, these are no more, each

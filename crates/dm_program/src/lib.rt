@@ -24,7 +24,8 @@
 //!
 //! Of the boards of the list (`ShowRun`; clauses name it `Ending`, by its one ghost member `ends`):
 //!
-//! - Each board that no note of the text names shows the run's final times of its stop, where it told at first what it shows.
+//! - Each board that no note of the text names shows the run's final times of its stop, and which of its events are cancelled then,
+//!   where it told at first what it shows.
 //! - Each note has the stop of its place. It names a board whose count has risen and which was not sound for the network.
 //! - A call that ends without a run leaves all boards as they were, except at want of memory.
 //!
@@ -41,8 +42,8 @@
 //! (`IsAnswerAt`).
 //!
 //! At Ok, `follow` prints exactly the state of these bytes: how many entries the longest history has that they carry, the tail of
-//! the journal's lines, the least timetable of the rows after that history, and its cost. The other three commands answer at Ok
-//! only of a journal that stands whole:
+//! the journal's lines, the least timetable of the rows after that history, the events that are cancelled in them, and the cost.
+//! The other three commands answer at Ok only of a journal that stands whole:
 //!
 //! - `window` prints a true plan of a stretch of time after the named entry, or after the last. Where an entry is named, it also
 //!   prints what becomes of the plan at the last entry (`IsWindowOf`).

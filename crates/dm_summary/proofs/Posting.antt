@@ -11,7 +11,7 @@ use Rattle.dm_rows.specs.declared.messages.Change.TheVariants.{EventDelay}
 use Rattle.dm_rows.specs.declared.messages.Message.{Message}
 use Rattle.dm_rows.specs.declared.messages.Message.TheVariants.{DelayEvent}
 use Rattle.dm_rows.specs.declared.messages.Refusal.{Refusal}
-use Rattle.dm_rows.specs.declared.messages.Refusal.TheVariants.{Range, UnknownEvent, UnknownActivity, UnknownChange, UnknownPair, Passed, NotPassed, Back, Cycle, Full, OutOfMemory}
+use Rattle.dm_rows.specs.declared.messages.Refusal.TheVariants.{Range, UnknownEvent, UnknownActivity, UnknownChange, UnknownPair, Passed, NotPassed, Cancelled, NotCancelled, Locked, NotLocked, Back, Cycle, Full, OutOfMemory}
 use Rattle.dm_rows.specs.Active.{HasNoCycle}
 use Rattle.dm_rows.specs.Resolve.{after_named}
 use Rattle.dm_rows.specs.Rows.{RowsValue, passed_at}
@@ -42,6 +42,10 @@ is_taken net rows n e d (UnknownChange u) none passed known most few refused = r
 is_taken net rows n e d (UnknownPair u v) none passed known most few refused = refused
 is_taken net rows n e d (Passed p t) none passed known most few refused = never_passed rows (event_place net e) t passed refused.1
 is_taken net rows n e d (NotPassed u) none passed known most few refused = refused
+is_taken net rows n e d (Cancelled u) none passed known most few refused = refused
+is_taken net rows n e d (NotCancelled u) none passed known most few refused = refused
+is_taken net rows n e d (Locked u) none passed known most few refused = refused
+is_taken net rows n e d (NotLocked u) none passed known most few refused = refused
 is_taken net rows n e d (Back c) none passed known most few refused = refused
 is_taken net rows n e d (Cycle ids) none passed known most few refused =
     no_cycle_after net rows d (event_place net e) none refused.2.places refused.2.is_cycle

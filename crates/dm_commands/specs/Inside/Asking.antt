@@ -49,7 +49,7 @@ kind_of_rule Entry = bad.Entry
 -- the state that a follower has come to
 abbrev pub state_of : FollowerValue → List ℕ
 state_of f =
-    state_text f.table.network (length f.table.history) (tail_of f) f.table.times
+    state_text f.table.network f.table.rows (length f.table.history) (tail_of f) f.table.times
     (cost_of f.table.network f.table.rows f.table.times f.table.penalty)
 
 -- each place of a walk is that of an activity

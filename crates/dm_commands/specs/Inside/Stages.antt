@@ -13,7 +13,7 @@ use Rattle.dm_waitrule.specs.Rules.{KeepsWithin}
 use Rattle.dm_input.specs.declared.flaws.InputStop.{InputStop}
 use Rattle.dm_input.specs.declared.flaws.InputStop.TheVariants.{Refused, ReadFault, NoMemory}
 use Rattle.dm_network.specs.Net.{Net}
-use Rattle.dm_rows.specs.Rows.{RowsValue, start_rows_of}
+use Rattle.dm_rows.specs.Rows.{RowsValue, start_rows_without}
 use Rattle.dm_rows.specs.Cost.{cost_of}
 use Rattle.dm_cert.specs.declared.limits.TheConstants.{PLANS}
 use Rattle.dm_cert.specs.declared.replies.FeedLog.{FeedLog}
@@ -22,15 +22,17 @@ use Rattle.dm_cert.specs.RunTexts.{Run}
 use Rattle.dm_table.specs.Value.{TableValue}
 use Rattle.dm_commands.specs.declared.status.Status.{Status}
 use Rattle.dm_commands.specs.declared.status.Status.TheVariants.{Refused as IsRefused, ReadFault as IsReadFault, NoMemory as WantsMore}
+use Rattle.dm_commands.specs.Boards.{Ended}
 use Rattle.dm_commands.specs.Ends.{EndsAs}
 use Rattle.dm_commands.specs.Ruled.{rule_named}
 use Rattle.dm_commands.specs.Inside.Generating.{IsDayWithin}
 
--- the rows are those at the start, of some delays
+-- the rows are those at the start, of some delays and some cancelled events
 pub record IsAtStart (net : Net) (rows : RowsValue) : Type 0 where
   pub event_delays : List DelayRow
   pub activity_delays : List DelayRow
-  pub are : rows ≡ start_rows_of net event_delays activity_delays
+  pub cancelled : List ℕ
+  pub are : rows ≡ start_rows_without net event_delays activity_delays cancelled
 
 -- ---- words
 
@@ -115,6 +117,10 @@ run_in table logs notes =
       times = table.times;
       cost = cost_of table.network table.rows table.times table.penalty;
     }
+
+-- how it ends
+abbrev pub ended_in : TableValue → List FeedLog → List Note → Ended
+ended_in table logs notes = record { run = run_in table logs notes; cancelled = table.rows.cancelled }
 
 -- ---- stops
 

@@ -33,7 +33,7 @@ returns-in-Ok-answered-clause-ends g c = λ words asks.
     (rw (c.as_slice.ensures.value, c.in-Ok-names_of.ensures) at c.in-Ok-open_feeds.ensures.opened) in
     ends_run g.K.Sink.taken g.K.Sink.faults told is_sound _ words c.args.out.now c.end_run.new.out logs _ c.end_run.result
     (is_run_of g.H.Src.Source.left g.H.Src.Source.is_sound _ _ _ _ feeds _ table logs notes answers told is_sound _ words (run_of c.args.run.now) (opening_in c.in-Ok.opened) asks c.requires.within c.reveal.ensures.network c.in-Ok.ensures.opening refl refl refl refl refl opened c.end_run.ensures.fits
-    shown.noted (end_shown _ _ _ _ _ table logs notes c.args.boards.now.items c.answer_run-answered.new.boards.items answers.network shown) (status_of logs) refl) c.end_run.ensures.ends
+    shown.noted (end_shown _ _ _ _ _ _ table logs notes c.args.boards.now.items c.answer_run-answered.new.boards.items answers.network shown) (status_of logs) refl) c.end_run.ensures.ends
 
 pub returns-in-Ok-answered-clause-kept : goal.returns-in-Ok-answered-clause-kept
 returns-in-Ok-answered-clause-kept g c = kept_then g.H.Shelf.files g.H.Shelf.is_sound _ _ _ c.in-Ok.ensures.kept c.in-Ok-open_feeds.ensures.kept
