@@ -15,6 +15,7 @@ pub(crate) fn is_same_line(one: &Line, other: &Line) -> bool
         (Line::Plan(budget), Line::Plan(nodes)) => *budget == *nodes,
         (Line::Solve(budget), Line::Solve(nodes)) => *budget == *nodes,
         (Line::Adopt, Line::Adopt) => true,
+        (Line::Carry, Line::Carry) => true,
         (Line::Read, Line::Read) => true,
         _ => false,
     }
@@ -36,6 +37,10 @@ fn is_message(one: &Message, other: &Message) -> bool
             are_decisions(decisions.as_slice(), others.as_slice())
         }
         (Message::Now(t), Message::Now(u)) => *t == *u,
+        (Message::Cancel(e), Message::Cancel(f)) => e.0 == f.0,
+        (Message::Restore(e), Message::Restore(f)) => e.0 == f.0,
+        (Message::Lock(c), Message::Lock(d)) => c.is_same(*d),
+        (Message::Unlock(c), Message::Unlock(d)) => c.is_same(*d),
         _ => false,
     }
 }

@@ -22,10 +22,11 @@ use Rattle.dm_table.specs.Value.{TableValue, IsTable}
 use Rattle.dm_table_desk.specs.Tables.{setting_of}
 use Rattle.dm_book.specs.Books.{AreNone, AreRecorded, IsTrueBook, log_of}
 use Rattle.dm_restore.specs.Restoring.{IsRunIn}
+use Rattle.dm_restore.specs.Inside.Entering.{AreSorted}
 use Rattle.dm_restore.specs.Inside.Judging.{run_of}
 use Rattle.dm_restore.proofs.Known.{logs_known}
 
-module _ (plans : ℕ) (table : TableValue) (logs : List FeedLog) (is : IsTable table) (network : IsNetwork table.network) (limits : IsWithinLimits table.network) (spelled : All IsSpelledLog logs)
+module _ (plans : ℕ) (table : TableValue) (logs : List FeedLog) (is : IsTable table) (network : IsNetwork table.network) (limits : IsWithinLimits table.network) (spelled : All IsSpelledLog logs) (sorted : AreSorted table.history)
     (some : 1 ≤ length logs) (few : length logs ≤ 64) (held : All IsHeldLog logs) (fits : FitsRun (run_of table logs)) where
   -- the text is that of a true run where the logs are true
   pub text_is_true : AreTrueLogs (setting_of plans table) table.history logs → IsRunText table.network table.start table.penalty plans (run_text 2 (run_of table logs))
@@ -53,7 +54,7 @@ module _ (plans : ℕ) (table : TableValue) (logs : List FeedLog) (is : IsTable 
         cost = ap (λ (x : RowsValue). cost_of table.network x table.times table.penalty) is.replayed;
       };
       fits = fits;
-      is_spelled = record { logs = spelled; times = is.least.meets.size };
+      is_spelled = record { history = sorted; logs = spelled; times = is.least.meets.size };
       known = logs_known logs;
       spelled = refl;
     };
@@ -68,7 +69,7 @@ module _ (plans : ℕ) (table : TableValue) (logs : List FeedLog) (is : IsTable 
       let same =
       runs_have_own_texts 2 r.version (run_of table logs) other [] [] (inr refl) r.is_text.is_version
       (record {
-        spelled = record { logs = spelled; times = is.least.meets.size };
+        spelled = record { history = sorted; logs = spelled; times = is.least.meets.size };
         fits = fits;
         held = record { history = omega (arith, entries); feeds = omega (arith, few); logs = held; notes = omega arith };
       })

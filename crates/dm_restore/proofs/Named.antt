@@ -1,10 +1,15 @@
 -- The entries that items name, and a history that is entered again.
 use Rattle.std.proofs.Common.{◌≡◌, inl, inr, ℕ, zero, suc, ◌+◌, ◌-◌, ◌<◌, ◌≤◌, Bool, true, false, cond, List, [], ◌∷◌, ◌++◌, length, take, fold, get_or, set, Option, Some, None, refl, sym, ap, subst, ◌∙◌, arith, append_assoc, append-nil, length-append, slice_get}
-use Rattle.std.specs.Prelude.{count_by}
+use Rattle.std.specs.Prelude.{count_by, Result, Ok as Done, Err as Undone}
+use Rattle.std.proofs.lemmas.List.Elements.{All-push}
+use Rattle.dm_feed.specs.Lines.{HasSortedChoice, IsSaid, IsSpelledLine}
+use Rattle.dm_rows.specs.declared.messages.Message.{Message}
+use Rattle.dm_rows.specs.declared.messages.Message.TheVariants as message
+use Rattle.dm_cert.specs.RunTexts.{IsSpelledItem}
 use Rattle.std.specs.List.{range_with_len}
 use Rattle.std.specs.Option.{IsSomeAnd, option_map}
 use Rattle.std.proofs.lemmas.Bool.{cases_Bool, cases_lt, cases_eq, eqb-true}
-use Rattle.std.proofs.lemmas.List.{take_more, take_all, take-take, length-take-le, nil_from_length}
+use Rattle.std.proofs.lemmas.List.{take_more, take_all, take-append-le, take-take, length-take-le, nil_from_length}
 use Rattle.std.proofs.lemmas.List.FromFn.{length-range_with_len}
 use Rattle.std.proofs.lemmas.List.Sums.{sum_by-append, fold_push}
 use Rattle.std.proofs.lemmas.Option.{none-some, same_Some, some_pair_parts, slice_get_within, slice_get-get_or, get_or_from_slice_get}
@@ -27,48 +32,62 @@ use Rattle.dm_cert.specs.declared.replies.Reply.TheVariants.{Ok, Refused, Time, 
 use Rattle.dm_cert.specs.declared.replies.LogItem.{LogItem}
 use Rattle.dm_cert.specs.declared.replies.LogItem.TheVariants.{Malformed, Answered}
 use Rattle.dm_cert.specs.declared.replies.FeedLog.{FeedLog}
-use Rattle.dm_cert.specs.Answers.{Setting, IsEntry, IsAdopted, IsTrueAnswer, IsTrueReply, latest_plan, plan_after}
+use Rattle.dm_cert.specs.Answers.{Setting, IsEntry, IsAdopted, IsCarried, IsTrueAnswer, IsTrueReply, latest_plan, plan_after}
 use Rattle.dm_cert.specs.Logs.{AreTrueAnswers, AreTrueLogs, all_items, kind_of, names}
 use Rattle.dm_cert.proofs.Numbers.{count_push, one_name}
 use Rattle.dm_cert.proofs.ListsOfLogs.{get_set_same, get_set_other}
-use Rattle.dm_desk.specs.Desks.{Enters, RefusesEntry}
+use Rattle.dm_desk.specs.Desks.{CarriesPlan, Enters, Posts, RefusesEntry, carries}
+use Rattle.dm_rows.specs.Carry.{free_among}
+use Rattle.dm_rows.specs.declared.messages.Decision.{Decision}
+use Rattle.dm_restore.specs.declared.entries.Named.{Named}
+use Rattle.dm_restore.specs.declared.entries.Named.TheVariants.{Entry as OfEntry, Carry as OfCarry}
 use Rattle.dm_table.specs.Value.{TableValue}
 use Rattle.dm_table_desk.specs.Tables.{setting_of, desk_of}
-use Rattle.dm_restore.specs.Inside.Entering.{choices_in, choices_after, entry_of_reply, entry_in, IsAt, HasAt, KeepsEntries, HasPutOne, HasPut, Agrees, Notes, AreEntries, EntersAll}
+use Rattle.dm_restore.specs.Inside.Entering.{choices_in, choices_after, entry_of_reply, entry_in, IsAt, HasAt, KeepsEntries, HasPutOne, HasPut, Agrees, Notes, AreEntries, EntersAll, EntersOne, PostsNamed, NamesSorted, AreNamedSorted, AreSorted, entered}
 
 -- ---- one item
 
--- the entry of an item, where it names one
-abbrev Named : ℕ → Option (ℕ × Entry) → Type 0
-Named n o = (entry : Entry) × (o ≡ Some (n, entry))
+-- what an item names, where it names something
+abbrev NamesOne : ℕ → Option (ℕ × Named) → Type 0
+NamesOne n o = (entry : Named) × (o ≡ Some (n, entry))
 
-of_some : (history : List Entry) (m n : ℕ) (one other : Entry) → IsEntry history m one → ◌≡◌ {A = Option (ℕ × Entry)} (Some (m, one)) (Some (n, other)) → IsEntry history n other
-of_some history m n one other is e =
+-- what is named is the entry of this number
+abbrev IsNamed : Setting → List Entry → ℕ → Named → Type 0
+IsNamed s history n named = IsEntry history n (entered s.net s.start history (n - 1) named)
+
+of_some : (s : Setting) (history : List Entry) (m n : ℕ) (one other : Named) → IsNamed s history m one → ◌≡◌ {A = Option (ℕ × Named)} (Some (m, one)) (Some (n, other)) → IsNamed s history n other
+of_some s history m n one other is e =
     let parts = some_pair_parts m n one other e in
-    subst (λ (k : ℕ). IsEntry history k other) parts.0 (subst (λ (x : Entry). IsEntry history m x) parts.1 is)
+    subst (λ (k : ℕ). IsNamed s history k other) parts.0 (subst (λ (x : Named). IsNamed s history m x) parts.1 is)
 
-adopted_true : (history : List Entry) (feed at m n : ℕ) (entry : Entry) (plan : Option Chosen) → IsSomeAnd plan (λ p. IsAdopted history feed at m p) →
-    option_map {U = ℕ × Entry} (λ message. (m, record { feed = feed; line = at; message = message })) (option_map (λ choices. AdoptAll choices) (choices_in plan)) ≡ Some (n, entry) → IsEntry history n entry
-adopted_true history feed at m n entry None is e = absurd is
-adopted_true history feed at m n entry (Some plan) is e =
-    of_some history m n (record { feed = feed; line = at; message = AdoptAll plan.choices }) entry is.entry e
+adopted_true : (s : Setting) (history : List Entry) (feed at m n : ℕ) (entry : Named) (plan : Option Chosen) → IsSomeAnd plan (λ p. IsAdopted history feed at m p) →
+    option_map {U = ℕ × Named} (λ named. (m, named)) (option_map (λ choices. OfEntry (record { feed = feed; line = at; message = AdoptAll choices })) (choices_in plan)) ≡ Some (n, entry) → IsNamed s history n entry
+adopted_true s history feed at m n entry None is e = absurd is
+adopted_true s history feed at m n entry (Some plan) is e =
+    of_some s history m n (OfEntry (record { feed = feed; line = at; message = AdoptAll plan.choices })) entry is.entry e
 
-ok_true : (s : Setting) (history : List Entry) (feed : ℕ) (before : List LogItem) (at : ℕ) (said : Line) (m n : ℕ) (entry : Entry) →
-    IsTrueReply s history feed before at said (Ok m) → entry_of_reply feed (choices_in (latest_plan before)) at said (Ok m) ≡ Some (n, entry) → IsEntry history n entry
-ok_true s history feed before at (line.Say message) m n entry is e = of_some history m n (record { feed = feed; line = at; message = message }) entry is e
-ok_true s history feed before at line.Adopt m n entry is e = adopted_true history feed at m n entry (latest_plan before) is e
+carried_true : (s : Setting) (history : List Entry) (feed at m n : ℕ) (entry : Named) (plan : Option Chosen) → IsSomeAnd plan (λ p. IsCarried s history feed at m p.choices) →
+    option_map {U = ℕ × Named} (λ named. (m, named)) (option_map (λ choices. OfCarry feed at choices) (choices_in plan)) ≡ Some (n, entry) → IsNamed s history n entry
+carried_true s history feed at m n entry None is e = absurd is
+carried_true s history feed at m n entry (Some plan) is e = of_some s history m n (OfCarry feed at plan.choices) entry is e
+
+ok_true : (s : Setting) (history : List Entry) (feed : ℕ) (before : List LogItem) (at : ℕ) (said : Line) (m n : ℕ) (entry : Named) →
+    IsTrueReply s history feed before at said (Ok m) → entry_of_reply feed (choices_in (latest_plan before)) at said (Ok m) ≡ Some (n, entry) → IsNamed s history n entry
+ok_true s history feed before at (line.Say message) m n entry is e = of_some s history m n (OfEntry (record { feed = feed; line = at; message = message })) entry is e
+ok_true s history feed before at line.Adopt m n entry is e = adopted_true s history feed at m n entry (latest_plan before) is e
+ok_true s history feed before at line.Carry m n entry is e = carried_true s history feed at m n entry (latest_plan before) is e
 ok_true s history feed before at (line.Time event) m n entry is e = absurd is
 ok_true s history feed before at line.CostNow m n entry is e = absurd is
 ok_true s history feed before at (line.Plan budget) m n entry is e = absurd is
 ok_true s history feed before at (line.Solve budget) m n entry is e = absurd is
 ok_true s history feed before at line.Read m n entry is e = absurd is
 
-no_entry : (n : ℕ) (entry : Entry) → ◌≡◌ {A = Option (ℕ × Entry)} None (Some (n, entry)) → ⊥
+no_entry : (n : ℕ) (entry : Named) → ◌≡◌ {A = Option (ℕ × Named)} None (Some (n, entry)) → ⊥
 no_entry n entry e = none-some (n, entry) e
 
 -- of an item that is true of a history, the entry is that of the history
-pub entry_true : (s : Setting) (history : List Entry) (feed : ℕ) (before : List LogItem) (answered : LogItem) (n : ℕ) (entry : Entry) →
-    IsTrueAnswer s history feed before answered → entry_in feed (choices_in (latest_plan before)) answered ≡ Some (n, entry) → IsEntry history n entry
+pub entry_true : (s : Setting) (history : List Entry) (feed : ℕ) (before : List LogItem) (answered : LogItem) (n : ℕ) (entry : Named) →
+    IsTrueAnswer s history feed before answered → entry_in feed (choices_in (latest_plan before)) answered ≡ Some (n, entry) → IsNamed s history n entry
 entry_true s history feed before (Malformed at) n entry is e = absurd (no_entry n entry e)
 entry_true s history feed before (Answered at said (Ok m)) n entry is e = ok_true s history feed before at said m n entry is e
 entry_true s history feed before (Answered at said (Refused r)) n entry is e = absurd (no_entry n entry e)
@@ -83,14 +102,20 @@ entry_true s history feed before (Answered at said Plans) n entry is e = absurd 
 entry_true s history feed before (Answered at said (Range v)) n entry is e = absurd (no_entry n entry e)
 
 adopted_named : (history : List Entry) (feed at m : ℕ) (plan : Option Chosen) → IsSomeAnd plan (λ p. IsAdopted history feed at m p) →
-    Named m (option_map {U = ℕ × Entry} (λ message. (m, record { feed = feed; line = at; message = message })) (option_map (λ choices. AdoptAll choices) (choices_in plan)))
+    NamesOne m (option_map {U = ℕ × Named} (λ named. (m, named)) (option_map (λ choices. OfEntry (record { feed = feed; line = at; message = AdoptAll choices })) (choices_in plan)))
 adopted_named history feed at m None is = absurd is
-adopted_named history feed at m (Some plan) is = (record { feed = feed; line = at; message = AdoptAll plan.choices }, refl)
+adopted_named history feed at m (Some plan) is = (OfEntry (record { feed = feed; line = at; message = AdoptAll plan.choices }), refl)
+
+carried_named : (s : Setting) (history : List Entry) (feed at m : ℕ) (plan : Option Chosen) → IsSomeAnd plan (λ p. IsCarried s history feed at m p.choices) →
+    NamesOne m (option_map {U = ℕ × Named} (λ named. (m, named)) (option_map (λ choices. OfCarry feed at choices) (choices_in plan)))
+carried_named s history feed at m None is = absurd is
+carried_named s history feed at m (Some plan) is = (OfCarry feed at plan.choices, refl)
 
 ok_named : (s : Setting) (history : List Entry) (feed : ℕ) (before : List LogItem) (at : ℕ) (said : Line) (m : ℕ) →
-    IsTrueReply s history feed before at said (Ok m) → Named m (entry_of_reply feed (choices_in (latest_plan before)) at said (Ok m))
-ok_named s history feed before at (line.Say message) m is = (record { feed = feed; line = at; message = message }, refl)
+    IsTrueReply s history feed before at said (Ok m) → NamesOne m (entry_of_reply feed (choices_in (latest_plan before)) at said (Ok m))
+ok_named s history feed before at (line.Say message) m is = (OfEntry (record { feed = feed; line = at; message = message }), refl)
 ok_named s history feed before at line.Adopt m is = adopted_named history feed at m (latest_plan before) is
+ok_named s history feed before at line.Carry m is = carried_named s history feed at m (latest_plan before) is
 ok_named s history feed before at (line.Time event) m is = absurd is
 ok_named s history feed before at line.CostNow m is = absurd is
 ok_named s history feed before at (line.Plan budget) m is = absurd is
@@ -102,11 +127,11 @@ no_name e = cc
 
 -- of a true item that names an entry there is one
 entry_named : (s : Setting) (history : List Entry) (feed n : ℕ) (before : List LogItem) (answered : LogItem) →
-    IsTrueAnswer s history feed before answered → names n answered ≡ true → Named n (entry_in feed (choices_in (latest_plan before)) answered)
+    IsTrueAnswer s history feed before answered → names n answered ≡ true → NamesOne n (entry_in feed (choices_in (latest_plan before)) answered)
 entry_named s history feed n before (Malformed at) is named = absurd (no_name named)
 entry_named s history feed n before (Answered at said (Ok m)) is named =
     let same : m ≡ n = eqb-true m n named in
-    subst (λ (k : ℕ). Named k (entry_of_reply feed (choices_in (latest_plan before)) at said (Ok m))) same (ok_named s history feed before at said m is)
+    subst (λ (k : ℕ). NamesOne k (entry_of_reply feed (choices_in (latest_plan before)) at said (Ok m))) same (ok_named s history feed before at said m is)
 entry_named s history feed n before (Answered at said (Refused r)) is named = absurd (no_name named)
 entry_named s history feed n before (Answered at said (Time k x)) is named = absurd (no_name named)
 entry_named s history feed n before (Answered at said (Cost k x)) is named = absurd (no_name named)
@@ -118,21 +143,99 @@ entry_named s history feed n before (Answered at said NoPlan) is named = absurd 
 entry_named s history feed n before (Answered at said Plans) is named = absurd (no_name named)
 entry_named s history feed n before (Answered at said (Range v)) is named = absurd (no_name named)
 
+-- ---- choices in their one order
+
+said_sorted : (m : Message) → IsSaid m → HasSortedChoice m
+said_sorted (message.DelayEvent e d) said = tt
+said_sorted (message.DelayActivity a d) said = tt
+said_sorted (message.Pass e t) said = tt
+said_sorted (message.Recall e) said = tt
+said_sorted (message.Keep a) said = tt
+said_sorted (message.Drop a) said = tt
+said_sorted (message.First e f) said = tt
+said_sorted (message.Adopt ds) said = tt
+said_sorted (message.Now t) said = tt
+said_sorted (message.Cancel e) said = tt
+said_sorted (message.Restore e) said = tt
+said_sorted (message.Lock c) said = said
+said_sorted (message.Unlock c) said = said
+
+some_sorted : (m n : ℕ) (one other : Named) → NamesSorted one → ◌≡◌ {A = Option (ℕ × Named)} (Some (m, one)) (Some (n, other)) → NamesSorted other
+some_sorted m n one other is e = subst NamesSorted (some_pair_parts m n one other e).1 is
+
+adopt_sorted : (feed at m n : ℕ) (latest : Option (List Decision)) (named : Named) →
+    option_map {U = ℕ × Named} (λ x. (m, x)) (option_map (λ choices. OfEntry (record { feed = feed; line = at; message = AdoptAll choices })) latest) ≡ Some (n, named) → NamesSorted named
+adopt_sorted feed at m n None named e = absurd (none-some (n, named) e)
+adopt_sorted feed at m n (Some choices) named e = some_sorted m n (OfEntry (record { feed = feed; line = at; message = AdoptAll choices })) named tt e
+
+carry_sorted : (feed at m n : ℕ) (latest : Option (List Decision)) (named : Named) →
+    option_map {U = ℕ × Named} (λ x. (m, x)) (option_map (λ choices. OfCarry feed at choices) latest) ≡ Some (n, named) → NamesSorted named
+carry_sorted feed at m n None named e = absurd (none-some (n, named) e)
+carry_sorted feed at m n (Some choices) named e = some_sorted m n (OfCarry feed at choices) named tt e
+
+ok_sorted : (feed : ℕ) (latest : Option (List Decision)) (at : ℕ) (said : Line) (m n : ℕ) (named : Named) → IsSpelledLine said → entry_of_reply feed latest at said (Ok m) ≡ Some (n, named) → NamesSorted named
+ok_sorted feed latest at (line.Say x) m n named said e = some_sorted m n (OfEntry (record { feed = feed; line = at; message = x })) named (said_sorted x said) e
+ok_sorted feed latest at line.Adopt m n named said e = adopt_sorted feed at m n latest named e
+ok_sorted feed latest at line.Carry m n named said e = carry_sorted feed at m n latest named e
+ok_sorted feed latest at (line.Time event) m n named said e = absurd (none-some (n, named) e)
+ok_sorted feed latest at line.CostNow m n named said e = absurd (none-some (n, named) e)
+ok_sorted feed latest at (line.Plan budget) m n named said e = absurd (none-some (n, named) e)
+ok_sorted feed latest at (line.Solve budget) m n named said e = absurd (none-some (n, named) e)
+ok_sorted feed latest at line.Read m n named said e = absurd (none-some (n, named) e)
+
+-- what a spelled item names is so
+item_sorted : (feed : ℕ) (latest : Option (List Decision)) (answered : LogItem) (n : ℕ) (named : Named) → IsSpelledItem answered → entry_in feed latest answered ≡ Some (n, named) → NamesSorted named
+item_sorted feed latest (Malformed at) n named said e = absurd (none-some (n, named) e)
+item_sorted feed latest (Answered at said (Ok m)) n named is e = ok_sorted feed latest at said m n named is.0 e
+item_sorted feed latest (Answered at said (Refused r)) n named is e = absurd (none-some (n, named) e)
+item_sorted feed latest (Answered at said (Time k x)) n named is e = absurd (none-some (n, named) e)
+item_sorted feed latest (Answered at said (Cost k x)) n named is e = absurd (none-some (n, named) e)
+item_sorted feed latest (Answered at said (Read k)) n named is e = absurd (none-some (n, named) e)
+item_sorted feed latest (Answered at said (Planned plan)) n named is e = absurd (none-some (n, named) e)
+item_sorted feed latest (Answered at said (Solved plan)) n named is e = absurd (none-some (n, named) e)
+item_sorted feed latest (Answered at said (Old k)) n named is e = absurd (none-some (n, named) e)
+item_sorted feed latest (Answered at said NoPlan) n named is e = absurd (none-some (n, named) e)
+item_sorted feed latest (Answered at said Plans) n named is e = absurd (none-some (n, named) e)
+item_sorted feed latest (Answered at said (Range v)) n named is e = absurd (none-some (n, named) e)
+
+put_sorted : (old now : List (Option Named)) (o : Option (ℕ × Named)) → HasPut old now o → AreNamedSorted old → ((n : ℕ) (named : Named) → o ≡ Some (n, named) → NamesSorted named) → AreNamedSorted now
+put_sorted old now None put are new = subst AreNamedSorted (sym put) are
+put_sorted old now (Some (number, entry)) put are new = λ place other at. elim (put.none_else place other at) [
+  | inl was ↦ are place other was
+  | inr here ↦ subst NamesSorted (sym here.2) (new number entry refl)
+]
+
+pub one_sorted : (feed : ℕ) (latest : Option (List Decision)) (answered : LogItem) (old now : List (Option Named)) → IsSpelledItem answered → HasPut old now (entry_in feed latest answered) → AreNamedSorted old → AreNamedSorted now
+one_sorted feed latest answered old now spelled put are =
+    put_sorted old now (entry_in feed latest answered) put are (λ n named e. item_sorted feed latest answered n named spelled e)
+
+pub none_sorted : (entries : List (Option Named)) → entries ≡ [] → AreNamedSorted entries
+none_sorted entries none = λ place named at. absurd (omega (arith, slice_get_within entries place (Some named) at, ap length none))
+
+pub entered_sorted : (before now : TableValue) (named : Named) → EntersAll before now named true → NamesSorted named → AreSorted before.history → AreSorted now.history
+entered_sorted before now (OfEntry entry) more is are =
+    subst AreSorted (sym more) (All-push (λ (e : Entry). HasSortedChoice e.message) before.history entry are is)
+entered_sorted before now (OfCarry feed at choices) more is are =
+    subst AreSorted (sym more) (All-push (λ (e : Entry). HasSortedChoice e.message) before.history (entered before.network before.start before.history (length before.history) (OfCarry feed at choices)) are tt)
+
+pub same_sorted : (before now : TableValue) → now.history ≡ before.history → AreSorted before.history → AreSorted now.history
+same_sorted before now same are = subst AreSorted (sym same) are
+
 -- ---- the items of a log
 
-pub none_noted : (history : List Entry) (old : List (Option Entry)) → Agrees history old → Notes history [] old old
-none_noted history old agrees = record { agrees = agrees; kept = λ place has. has; all = λ n some low named. absurd (omega (arith, named)) }
+pub none_noted : (net : Net) (start : RowsValue) (history : List Entry) (old : List (Option Named)) → Agrees net start history old → Notes net start history [] old old
+none_noted net start history old agrees = record { agrees = agrees; kept = λ place has. has; all = λ n some low named. absurd (omega (arith, named)) }
 
-module _ (s : Setting) (history : List Entry) (feed : ℕ) (before : List LogItem) (answered : LogItem) (first old now : List (Option Entry)) (few : length history ≤ ENTRIES)
-    (is : IsTrueAnswer s history feed before answered) (so_far : Notes history before first old) where
+module _ (s : Setting) (history : List Entry) (feed : ℕ) (before : List LogItem) (answered : LogItem) (first old now : List (Option Named)) (few : length history ≤ ENTRIES)
+    (is : IsTrueAnswer s history feed before answered) (so_far : Notes s.net s.start history before first old) where
   -- what is named among the items and the one more
   earlier : (n : ℕ) → names n answered ≡ false → 0 < count_by (names n) (before ++ answered ∷ []) → 0 < count_by (names n) before
   earlier n none some =
       let one : one_name n (kind_of answered) ≡ 0 = ap (λ (b : Bool). cond b 1 0) none in
       omega (arith, count_push n before answered, one, some)
 
-  with_none : entry_in feed (choices_in (latest_plan before)) answered ≡ None → now ≡ old → Notes history (before ++ answered ∷ []) first now
-  with_none none same = subst (λ (xs : List (Option Entry)). Notes history (before ++ answered ∷ []) first xs) (sym same) (record {
+  with_none : entry_in feed (choices_in (latest_plan before)) answered ≡ None → now ≡ old → Notes s.net s.start history (before ++ answered ∷ []) first now
+  with_none none same = subst (λ (xs : List (Option Named)). Notes s.net s.start history (before ++ answered ∷ []) first xs) (sym same) (record {
     agrees = so_far.agrees;
     kept = so_far.kept;
     all = λ n some low named. elim (cases_Bool (names n answered)) [
@@ -143,15 +246,15 @@ module _ (s : Setting) (history : List Entry) (feed : ℕ) (before : List LogIte
     ];
   })
 
-  with_one : (number : ℕ) (entry : Entry) → entry_in feed (choices_in (latest_plan before)) answered ≡ Some (number, entry) → HasPutOne old now number entry → Notes history (before ++ answered ∷ []) first now
+  with_one : (number : ℕ) (entry : Named) → entry_in feed (choices_in (latest_plan before)) answered ≡ Some (number, entry) → HasPutOne old now number entry → Notes s.net s.start history (before ++ answered ∷ []) first now
   with_one number entry here put =
       let stands = entry_true s history feed before answered number entry is here in
       record {
         agrees = λ place other at. elim (put.none_else place other at) [
           | inl was ↦ so_far.agrees place other was
           | inr new ↦
-              subst (λ (x : Entry). slice_get history place ≡ Some x) (sym new.2)
-              (subst (λ (k : ℕ). slice_get history k ≡ Some entry) (sym new.0) stands.1)
+              subst (λ (x : Named). slice_get history place ≡ Some (entered s.net s.start history place x)) (sym new.2)
+              (subst (λ (k : ℕ). slice_get history k ≡ Some (entered s.net s.start history k entry)) (sym new.0) stands.1)
         ];
         kept = λ place has. put.kept place (so_far.kept place has);
         all = λ n some low named. elim (cases_Bool (names n answered)) [
@@ -164,11 +267,11 @@ module _ (s : Setting) (history : List Entry) (feed : ℕ) (before : List LogIte
         ];
       }
 
-  noted_as : (o : Option (ℕ × Entry)) → entry_in feed (choices_in (latest_plan before)) answered ≡ o → HasPut old now o → Notes history (before ++ answered ∷ []) first now
+  noted_as : (o : Option (ℕ × Named)) → entry_in feed (choices_in (latest_plan before)) answered ≡ o → HasPut old now o → Notes s.net s.start history (before ++ answered ∷ []) first now
   noted_as None e put = with_none e put
   noted_as (Some (number, entry)) e put = with_one number entry e put
 
-  pub one_noted : HasPut old now (entry_in feed (choices_in (latest_plan before)) answered) → Notes history (before ++ answered ∷ []) first now
+  pub one_noted : HasPut old now (entry_in feed (choices_in (latest_plan before)) answered) → Notes s.net s.start history (before ++ answered ∷ []) first now
   one_noted put = noted_as (entry_in feed (choices_in (latest_plan before)) answered) refl put
 
 -- an item of a true log is true, where those before it are the feed's items
@@ -205,18 +308,18 @@ choices_follow latest (Answered at said (Range v)) = refl
 -- ---- the logs
 
 -- the entries that items of some logs name are there
-pub record AreNoted (history : List Entry) (logs : List FeedLog) (entries : List (Option Entry)) : Type 0 where
-  pub agrees : Agrees history entries
+pub record AreNoted (net : Net) (start : RowsValue) (history : List Entry) (logs : List FeedLog) (entries : List (Option Named)) : Type 0 where
+  pub agrees : Agrees net start history entries
   pub all : (n : ℕ) → 0 < n → n ≤ length history → 0 < count_by (names n) (all_items logs) → HasAt entries (n - 1)
 
-pub no_log_noted : (history : List Entry) (entries : List (Option Entry)) → entries ≡ [] → AreNoted history [] entries
-no_log_noted history entries none = record {
+pub no_log_noted : (net : Net) (start : RowsValue) (history : List Entry) (entries : List (Option Named)) → entries ≡ [] → AreNoted net start history [] entries
+no_log_noted net start history entries none = record {
   agrees = λ place entry at. absurd (omega (arith, slice_get_within entries place (Some entry) at, ap length none));
   all = λ n some low named. absurd (omega (arith, named));
 }
 
-pub one_log_noted : (history : List Entry) (logs : List FeedLog) (log : FeedLog) (old now : List (Option Entry)) → AreNoted history logs old → Notes history log.items old now → AreNoted history (logs ++ log ∷ []) now
-one_log_noted history logs log old now so_far noted = record {
+pub one_log_noted : (net : Net) (start : RowsValue) (history : List Entry) (logs : List FeedLog) (log : FeedLog) (old now : List (Option Named)) → AreNoted net start history logs old → Notes net start history log.items old now → AreNoted net start history (logs ++ log ∷ []) now
+one_log_noted net start history logs log old now so_far noted = record {
   agrees = noted.agrees;
   all = λ n some low named.
       let all : all_items (logs ++ log ∷ []) ≡ all_items logs ++ log.items = all_of logs in
@@ -235,7 +338,7 @@ one_log_noted history logs log old now so_far noted = record {
 pub logs_more : (logs : List FeedLog) (i : ℕ) (x : FeedLog) → i < length logs → x ≡ get_or logs i x → take i logs ++ x ∷ [] ≡ take (i + 1) logs
 logs_more logs i x low is = ap (λ (y : FeedLog). take i logs ++ y ∷ []) is ∙ sym (take_more logs i x low)
 
-pub all_noted : (s : Setting) (history : List Entry) (logs : List FeedLog) (entries : List (Option Entry)) → AreTrueLogs s history logs → AreNoted history logs entries → AreEntries history entries
+pub all_noted : (s : Setting) (history : List Entry) (logs : List FeedLog) (entries : List (Option Named)) → AreTrueLogs s history logs → AreNoted s.net s.start history logs entries → AreEntries s.net s.start history entries
 all_noted s history logs entries are noted = record {
   agrees = noted.agrees;
   all = λ place low.
@@ -247,45 +350,45 @@ all_noted s history logs entries are noted = record {
 
 -- ---- places
 
-pub keeps_all : (entries : List (Option Entry)) → KeepsEntries entries entries
+pub keeps_all : (entries : List (Option Named)) → KeepsEntries entries entries
 keeps_all entries = record { kept = λ place entry at. at; none_else = λ place entry at. at }
 
-at_append : (xs : List (Option Entry)) (place : ℕ) (entry : Entry) → IsAt xs place entry → IsAt (xs ++ None ∷ []) place entry
+at_append : (xs : List (Option Named)) (place : ℕ) (entry : Named) → IsAt xs place entry → IsAt (xs ++ None ∷ []) place entry
 at_append [] place entry at = absurd (none-some (Some entry) at)
 at_append (x ∷ xs) zero entry at = at
 at_append (x ∷ xs) (suc place) entry at = at_append xs place entry at
 
-at_before : (xs : List (Option Entry)) (place : ℕ) (entry : Entry) → IsAt (xs ++ None ∷ []) place entry → IsAt xs place entry
-at_before [] zero entry at = absurd (let inner : ◌≡◌ {A = Option Entry} None (Some entry) = same_Some None (Some entry) at in none-some entry inner)
+at_before : (xs : List (Option Named)) (place : ℕ) (entry : Named) → IsAt (xs ++ None ∷ []) place entry → IsAt xs place entry
+at_before [] zero entry at = absurd (let inner : ◌≡◌ {A = Option Named} None (Some entry) = same_Some None (Some entry) at in none-some entry inner)
 at_before [] (suc place) entry at = absurd (none-some (Some entry) at)
 at_before (x ∷ xs) zero entry at = at
 at_before (x ∷ xs) (suc place) entry at = at_before xs place entry at
 
-pub one_place : (old mid now : List (Option Entry)) → KeepsEntries old mid → now ≡ mid ++ None ∷ [] → KeepsEntries old now
+pub one_place : (old mid now : List (Option Named)) → KeepsEntries old mid → now ≡ mid ++ None ∷ [] → KeepsEntries old now
 one_place old mid now keeps is = record {
-  kept = λ place entry at. subst (λ (xs : List (Option Entry)). IsAt xs place entry) (sym is) (at_append mid place entry (keeps.kept place entry at));
-  none_else = λ place entry at. keeps.none_else place entry (at_before mid place entry (subst (λ (xs : List (Option Entry)). IsAt xs place entry) is at));
+  kept = λ place entry at. subst (λ (xs : List (Option Named)). IsAt xs place entry) (sym is) (at_append mid place entry (keeps.kept place entry at));
+  none_else = λ place entry at. keeps.none_else place entry (at_before mid place entry (subst (λ (xs : List (Option Named)). IsAt xs place entry) is at));
 }
 
-pub put_there : (old mid now : List (Option Entry)) (number : ℕ) (entry : Entry) → KeepsEntries old mid → 0 < number → number ≤ length mid → now ≡ set mid (number - 1) (Some entry) → HasPutOne old now number entry
+pub put_there : (old mid now : List (Option Named)) (number : ℕ) (entry : Named) → KeepsEntries old mid → 0 < number → number ≤ length mid → now ≡ set mid (number - 1) (Some entry) → HasPutOne old now number entry
 put_there old mid now number entry keeps some low is = record {
   here = λ p q. there;
   kept = λ place has. elim (cases_eq place (number - 1)) [
     | inl same ↦ (entry, subst (λ (k : ℕ). IsAt now k entry) (sym same) there)
-    | inr other ↦ (has.0, ap (λ (xs : List (Option Entry)). slice_get xs place) is ∙ (get_set_other mid (number - 1) place (Some entry) other ∙ keeps.kept place has.0 has.1))
+    | inr other ↦ (has.0, ap (λ (xs : List (Option Named)). slice_get xs place) is ∙ (get_set_other mid (number - 1) place (Some entry) other ∙ keeps.kept place has.0 has.1))
   ];
   none_else = λ place other at. elim (cases_eq place (number - 1)) [
     | inl same ↦ inr (same, some, same_Some other entry (same_Some (Some other) (Some entry) (sym at ∙ subst (λ (k : ℕ). IsAt now k entry) (sym same) there)))
-    | inr differs ↦ inl (keeps.none_else place other (sym (get_set_other mid (number - 1) place (Some entry) differs) ∙ (ap (λ (xs : List (Option Entry)). slice_get xs place) (sym is) ∙ at)))
+    | inr differs ↦ inl (keeps.none_else place other (sym (get_set_other mid (number - 1) place (Some entry) differs) ∙ (ap (λ (xs : List (Option Named)). slice_get xs place) (sym is) ∙ at)))
   ];
 }
   where
     there : IsAt now (number - 1) entry
     there =
-        ap (λ (xs : List (Option Entry)). slice_get xs (number - 1)) is
+        ap (λ (xs : List (Option Named)). slice_get xs (number - 1)) is
         ∙ get_set_same mid (number - 1) (get_or mid (number - 1) None) (Some entry) (slice_get-get_or mid (number - 1) None (omega (arith, some, low)))
 
-pub passed_over : (old : List (Option Entry)) (number : ℕ) (entry : Entry) → (0 < number → number ≤ ENTRIES → ⊥) → HasPutOne old old number entry
+pub passed_over : (old : List (Option Named)) (number : ℕ) (entry : Named) → (0 < number → number ≤ ENTRIES → ⊥) → HasPutOne old old number entry
 passed_over old number entry out = record { here = λ p q. absurd (out p q); kept = λ place has. has; none_else = λ place other at. inl at }
 
 -- ---- one entry more
@@ -314,7 +417,16 @@ posted plans other before now entry n e =
         sym is ∙ ap (λ (y : Entry). h ++ y ∷ []) same
     last_one (x ∷ (y ∷ more)) size is at = absurd (omega (arith, size))
 
-pub refused_one : (plans other : ℕ) (before now : TableValue) (entry : Entry) (at : At Refusal) → RefusesEntry (desk_of plans before) (desk_of other now) entry at → (at.why ≡ refusal.OutOfMemory → ⊥) → EntersAll before now entry false
+refused_same : (plans other : ℕ) (before now : TableValue) (entry : Entry) (at : At Refusal) → RefusesEntry (desk_of plans before) (desk_of other now) entry at → now.history ≡ before.history
+refused_same plans other before now entry at r =
+    let h = before.history in
+    let lengths : range_with_len 1 (length now.history) ≡ range_with_len 1 (length h) = r.looks.mine in
+    let count : length now.history ≡ length h = omega (arith, ap length lengths, length-range_with_len 1 (length now.history), length-range_with_len 1 (length h)) in
+    let more = r.looks.goes_on.later in
+    let none : more.0 ≡ [] = nil_from_length more.0 (omega (arith, ap length more.1, length-append h more.0, count)) in
+    sym more.1 ∙ (ap (λ (l : List Entry). h ++ l) none ∙ append-nil h)
+
+refused_one : (plans other : ℕ) (before now : TableValue) (entry : Entry) (at : At Refusal) → RefusesEntry (desk_of plans before) (desk_of other now) entry at → (at.why ≡ refusal.OutOfMemory → ⊥) → EntersOne before now entry false
 refused_one plans other before now entry at r not_memory =
     let h = before.history in
     let lengths : range_with_len 1 (length now.history) ≡ range_with_len 1 (length h) = r.looks.mine in
@@ -333,6 +445,63 @@ refused_one plans other before now entry at r not_memory =
           (same, (at.why, subst (λ (k : ℕ). Refuses before.network (rows_at before.network before.start h k) k entry.message at.why) here refuses))
     ]
 
+-- ---- a plan that is carried over
+
+rows_front : (net : Net) (start : RowsValue) (front more : List Entry) (k : ℕ) → k ≤ length front → rows_at net start (front ++ more) k ≡ rows_at net start front k
+rows_front net start front more k low = ap (fold (λ (r : RowsValue) (e : Entry). after net r e.message) start) (take-append-le k front more low)
+
+-- what choices come to at a desk, by the rows after some entries
+carried_as : (plans other : ℕ) (before now : TableValue) (feed at k : ℕ) (choices : List Decision) → setting_of other now ≡ setting_of plans before →
+    rows_at before.network before.start now.history k ≡ rows_at before.network before.start before.history (length before.history) →
+    carries (desk_of other now) choices feed at k ≡ entered before.network before.start before.history (length before.history) (OfCarry feed at choices)
+carried_as plans other before now feed at k choices setting rows =
+    ap (λ (s : Setting). let e : Entry = record { feed = feed; line = at; message = AdoptAll (free_among s.net (rows_at s.net s.start now.history k) choices) } in e) setting
+    ∙ ap (λ (r : RowsValue). let e : Entry = record { feed = feed; line = at; message = AdoptAll (free_among before.network r choices) } in e) rows
+
+pub carry_posted : (plans other : ℕ) (before now : TableValue) (feed at n : ℕ) (choices : List Decision) → Enters (desk_of plans before) (desk_of other now) (carries (desk_of other now) choices feed at (n - 1)) n →
+    EntersAll before now (OfCarry feed at choices) true
+carry_posted plans other before now feed at n choices e =
+    let h = before.history in
+    let entry = carries (desk_of other now) choices feed at (n - 1) in
+    let more : now.history ≡ h ++ entry ∷ [] = posted plans other before now entry n e in
+    let here : n - 1 ≡ length h = omega (arith, e.number, ap length more, length-append h (entry ∷ [])) in
+    let rows : rows_at before.network before.start now.history (n - 1) ≡ rows_at before.network before.start h (length h) =
+    ap (λ (l : List Entry). rows_at before.network before.start l (n - 1)) more
+    ∙ (ap (rows_at before.network before.start (h ++ entry ∷ [])) here ∙ rows_front before.network before.start h (entry ∷ []) (length h) (omega arith)) in
+    more ∙ ap (λ (x : Entry). h ++ x ∷ []) (carried_as plans other before now feed at (n - 1) choices e.goes_on.setting rows)
+
+pub carry_refused : (plans other : ℕ) (before now : TableValue) (feed line : ℕ) (choices : List Decision) (at : At Refusal) →
+    RefusesEntry (desk_of plans before) (desk_of other now) (carries (desk_of other now) choices feed line at.entry) at → (at.why ≡ refusal.OutOfMemory → ⊥) →
+    EntersAll before now (OfCarry feed line choices) false
+carry_refused plans other before now feed line choices at r not_memory =
+    let h = before.history in
+    let refused = refused_one plans other before now (carries (desk_of other now) choices feed line at.entry) at r not_memory in
+    let here : at.entry ≡ length h = omega (arith, r.here, ap length refused.0) in
+    let rows : rows_at before.network before.start now.history at.entry ≡ rows_at before.network before.start h (length h) =
+    ap (λ (l : List Entry). rows_at before.network before.start l at.entry) refused.0 ∙ ap (rows_at before.network before.start h) here in
+    subst (λ (x : Entry). EntersOne before now x false) (carried_as plans other before now feed line at.entry choices r.looks.goes_on.setting rows) refused
+
+-- what a desk does with what is named
+pub entry_posts : (plans other : ℕ) (before now : TableValue) (entry : Entry) (result : Result ℕ (At Refusal)) → Posts (desk_of plans before) (desk_of other now) entry result →
+    PostsNamed before now (OfEntry entry) result
+entry_posts plans other before now entry (Done n) e = posted plans other before now entry n e
+entry_posts plans other before now entry (Undone at) r = (refused_same plans other before now entry at r, λ not_memory. refused_one plans other before now entry at r not_memory)
+
+pub carry_posts : (plans other : ℕ) (before now : TableValue) (feed line : ℕ) (choices : List Decision) (result : Result ℕ (At Refusal)) →
+    CarriesPlan (desk_of plans before) (desk_of other now) choices feed line result → PostsNamed before now (OfCarry feed line choices) result
+carry_posts plans other before now feed line choices (Done n) e = carry_posted plans other before now feed line n choices e
+carry_posts plans other before now feed line choices (Undone at) r = (refused_same plans other before now (carries (desk_of other now) choices feed line at.entry) at r, λ not_memory. carry_refused plans other before now feed line choices at r not_memory)
+
+pub post_setting : (plans other : ℕ) (before now : TableValue) (entry : Entry) (result : Result ℕ (At Refusal)) → Posts (desk_of plans before) (desk_of other now) entry result →
+    setting_of other now ≡ setting_of plans before
+post_setting plans other before now entry (Done n) e = e.goes_on.setting
+post_setting plans other before now entry (Undone at) r = r.looks.goes_on.setting
+
+pub carry_setting : (plans other : ℕ) (before now : TableValue) (feed line : ℕ) (choices : List Decision) (result : Result ℕ (At Refusal)) →
+    CarriesPlan (desk_of plans before) (desk_of other now) choices feed line result → setting_of other now ≡ setting_of plans before
+carry_setting plans other before now feed line choices (Done n) e = e.goes_on.setting
+carry_setting plans other before now feed line choices (Undone at) r = r.looks.goes_on.setting
+
 -- ---- a history that is entered again
 
 -- so many entries of the history were entered
@@ -343,17 +512,32 @@ pub record EnteredSo (history : List Entry) (count : ℕ) (now : List Entry) : T
 pub none_entered : (history now : List Entry) → now ≡ [] → EnteredSo history 0 now
 none_entered history now is = record { within = omega arith; are = is }
 
-module _ (history : List Entry) (entries : List (Option Entry)) (are : AreEntries history entries) (count : ℕ) (now : List Entry) (so_far : EnteredSo history count now) where
-  pub one_entered : (entry : Entry) (more : List Entry) → slice_get entries count ≡ Some (Some entry) → more ≡ now ++ entry ∷ [] → EnteredSo history (count + 1) more
-  one_entered entry more at is =
-      let there = are.agrees count entry at in
+module _ (net : Net) (start : RowsValue) (history : List Entry) (entries : List (Option Named)) (are : AreEntries net start history entries) (count : ℕ) (now : List Entry) (so_far : EnteredSo history count now) where
+  size : length now ≡ count
+  size = ap length so_far.are ∙ length-take-le count history so_far.within
+
+  rows_there : rows_at net start now (length now) ≡ rows_at net start history count
+  rows_there =
+      ap (rows_at net start now) size
+      ∙ ap (fold (λ (r : RowsValue) (e : Entry). after net r e.message) start) (ap (take count) so_far.are ∙ take-take count count history (omega arith))
+
+  -- what is named is entered as it is of the history
+  entered_same : (named : Named) → entered net start now (length now) named ≡ entered net start history count named
+  entered_same (OfEntry entry) = refl
+  entered_same (OfCarry feed at choices) =
+      ap (λ (r : RowsValue). let e : Entry = record { feed = feed; line = at; message = AdoptAll (free_among net r choices) } in e) rows_there
+
+  pub one_entered : (named : Named) (more : List Entry) → slice_get entries count ≡ Some (Some named) → more ≡ now ++ entered net start now (length now) named ∷ [] → EnteredSo history (count + 1) more
+  one_entered named more at is =
+      let entry = entered net start history count named in
+      let there = are.agrees count named at in
       let low = slice_get_within history count entry there in
       record {
         within = omega (arith, low);
         are =
-            is
+            is ∙ (ap (λ (e : Entry). now ++ e ∷ []) (entered_same named)
             ∙ (ap (λ (l : List Entry). l ++ entry ∷ []) so_far.are
-            ∙ (ap (λ (e : Entry). take count history ++ e ∷ []) (sym (get_or_from_slice_get history count entry entry there)) ∙ sym (take_more history count entry low)));
+            ∙ (ap (λ (e : Entry). take count history ++ e ∷ []) (sym (get_or_from_slice_get history count entry entry there)) ∙ sym (take_more history count entry low))));
       }
 
   whole : length history ≤ count → now ≡ history
@@ -364,7 +548,7 @@ module _ (history : List Entry) (entries : List (Option Entry)) (are : AreEntrie
   at_gap at = elim (cases_lt count (length history)) [
     | inl low ↦
         let has = are.all count low in
-        absurd (let inner : ◌≡◌ {A = Option Entry} None (Some has.0) = same_Some None (Some has.0) (sym at ∙ has.1) in none-some has.0 inner)
+        absurd (let inner : ◌≡◌ {A = Option Named} None (Some has.0) = same_Some None (Some has.0) (sym at ∙ has.1) in none-some has.0 inner)
     | inr late ↦ whole late
   ]
 
@@ -377,13 +561,11 @@ module _ (history : List Entry) (entries : List (Option Entry)) (are : AreEntrie
   ]
 
   -- an entry of a legal history is not refused
-  pub never_refused : (net : Net) (start : RowsValue) (entry : Entry) (why : Refusal) → IsLegal net start history → slice_get entries count ≡ Some (Some entry) →
-      Refuses net (rows_at net start now (length now)) (length now) entry.message why → ⊥
-  never_refused net start entry why legal at refuses =
-      let there = are.agrees count entry at in
-      let size : length now ≡ count = ap length so_far.are ∙ length-take-le count history so_far.within in
-      let rows : rows_at net start now count ≡ rows_at net start history count =
-      ap (fold (λ (r : RowsValue) (e : Entry). after net r e.message) start) (ap (take count) so_far.are ∙ take-take count count history (omega arith)) in
-      legal.accepted count entry why there
-      (subst (λ (r : RowsValue). Refuses net r count entry.message why) rows
-      (subst (λ (k : ℕ). Refuses net (rows_at net start now k) k entry.message why) size refuses))
+  pub never_refused : (named : Named) (why : Refusal) → IsLegal net start history → slice_get entries count ≡ Some (Some named) →
+      Refuses net (rows_at net start now (length now)) (length now) (entered net start now (length now) named).message why → ⊥
+  never_refused named why legal at refuses =
+      let there = are.agrees count named at in
+      legal.accepted count (entered net start history count named) why there
+      (subst (λ (e : Entry). Refuses net (rows_at net start history count) count e.message why) (entered_same named)
+      (subst (λ (r : RowsValue). Refuses net r count (entered net start now (length now) named).message why) rows_there
+      (subst (λ (k : ℕ). Refuses net (rows_at net start now (length now)) k (entered net start now (length now) named).message why) size refuses)))

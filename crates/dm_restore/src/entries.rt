@@ -1,27 +1,42 @@
 //! The entries that items name as accepted, by their numbers.
-ghost use Rattle.std.specs.Prelude.{◌≡◌, ◌-◌, ◌<◌, ◌≤◌, ◌^◌, false, [], List, length, IfOk, OnOk, Some};
+ghost use Rattle.std.specs.Prelude.{◌≡◌, ◌-◌, ◌<◌, ◌≤◌, ◌^◌, false, [], List, All, length, IfOk, OnOk, Some};
 ghost use Rattle.std.specs.Option.{option_copied};
 ghost use Rattle.dm_rows.specs.declared.messages.Entry.{Entry as AnEntry};
 ghost use Rattle.dm_cert.specs.Answers.{Setting};
 ghost use Rattle.dm_cert.specs.Logs.{AreTrueAnswers, AreTrueLogs};
 ghost use Rattle.dm_rows.specs.History.{IsLegal};
 ghost use Rattle.dm_table_desk.specs.Tables.{setting_of};
-ghost use Rattle.dm_restore.specs.Inside.Entering.{message_in, entry_in, choices_after, HasPut, KeepsEntries, Notes, Agrees, AreEntries, EntersAll};
+ghost use Rattle.dm_restore.specs.Inside.Entering.{named_by, entry_in, choices_after, HasPut, KeepsEntries, Notes, Agrees, AreEntries, EntersAll, PostsNamed, NamesSorted, AreNamedSorted, AreSorted};
+ghost use Rattle.dm_cert.specs.RunTexts.{IsSpelledItem, IsSpelledLog};
 
 use dm_base::Items;
 use dm_base::limits::ENTRIES;
 use dm_cert::{FeedLog, LogItem, Reply};
 use dm_desk::Desk;
 use dm_feed::Line;
-use dm_rows::{Decision, Entry, Message, Refusal};
+use dm_rows::{At, Decision, Entry, Message, Refusal};
 use dm_table_desk::TableDesk;
 use std::alloc::{AllocError, Global};
 
+/// What an item names as entered.
+#[derive(Drop)]
+pub(crate) enum Named {
+    Entry(Entry),
+
+    /// Those of a plan's choices that are free after the entries before.
+    Carry {
+        feed: u32,
+        line: u32,
+        choices: Items<Decision>,
+    },
+}
+
 /// The entries of logs, each at the place before its number. Where no item names an entry of this number there is none.
-pub(crate) fn entries_of(alloc: Global, logs: &[FeedLog]) -> Result<Vec<Option<Entry>>, AllocError>
+pub(crate) fn entries_of(alloc: Global, logs: &[FeedLog]) -> Result<Vec<Option<Named>>, AllocError>
     requires { length logs.now < 2 ^ 32 }
-    ensures { IfOk result (λ entries. (s : Setting) (history : List AnEntry) → IsLegal s.net s.start history
-        → AreTrueLogs s history logs.now → AreEntries history entries.items) }
+    ensures entries { IfOk result (λ entries. (s : Setting) (history : List AnEntry) → IsLegal s.net s.start history
+        → AreTrueLogs s history logs.now → AreEntries s.net s.start history entries.items) }
+    ensures sorted { IfOk result (λ entries. All IsSpelledLog logs.now → AreNamedSorted entries.items) }
 {
     let mut entries = Vec::new(alloc);
     for (place, log) in logs.iter().enumerate() {
@@ -33,13 +48,14 @@ pub(crate) fn entries_of(alloc: Global, logs: &[FeedLog]) -> Result<Vec<Option<E
 /// Puts the entries of the log of a feed, which has this number, at their places.
 fn note_log(
     alloc: Global,
-    entries: &mut Vec<Option<Entry>>,
+    entries: &mut Vec<Option<Named>>,
     feed: u32,
     items: &[LogItem],
 ) -> Result<(), AllocError>
-    ensures { OnOk result ((s : Setting) (history : List AnEntry) → length history ≤ ENTRIES
-        → AreTrueAnswers s history feed [] items.now → Agrees history entries.old.items
-        → Notes history items.now entries.old.items entries.new.items) }
+    ensures notes { OnOk result ((s : Setting) (history : List AnEntry) → length history ≤ ENTRIES
+        → AreTrueAnswers s history feed [] items.now → Agrees s.net s.start history entries.old.items
+        → Notes s.net s.start history items.now entries.old.items entries.new.items) }
+    ensures sorted { OnOk result (All IsSpelledItem items.now → AreNamedSorted entries.old.items → AreNamedSorted entries.new.items) }
 {
     let mut latest = None;
     for item in items {
@@ -52,7 +68,7 @@ fn note_log(
 /// Puts the entry that an item names, if it does, at its place. Before it these were the choices of the feed's latest plan.
 fn note_item(
     alloc: Global,
-    entries: &mut Vec<Option<Entry>>,
+    entries: &mut Vec<Option<Named>>,
     feed: u32,
     latest: Option<&Items<Decision>>,
     item: &LogItem,
@@ -92,7 +108,7 @@ fn entry_in(
     feed: u32,
     latest: Option<&Items<Decision>>,
     item: &LogItem,
-) -> Result<Option<(u32, Entry)>, AllocError>
+) -> Result<Option<(u32, Named)>, AllocError>
     ensures { IfOk result (λ found. found ≡ entry_in feed (option_copied latest.entry) item.now) }
 {
     let LogItem::Answered {
@@ -103,35 +119,48 @@ fn entry_in(
     else {
         return Ok(None);
     };
-    let Some(message) = message_in(alloc, latest, said)? else {
-        return Ok(None);
-    };
-    let entry = Entry {
-        feed,
-        line: *line,
-        message,
-    };
-    Ok(Some((*number, entry)))
+    match named_by(alloc, feed, *line, latest, said)? {
+        Some(named) => Ok(Some((*number, named))),
+        None => Ok(None),
+    }
 }
 
-/// The message that a line enters, where it is one that does.
-fn message_in(
+/// What a line of a feed names as entered, where it is one that does.
+fn named_by(
     alloc: Global,
+    feed: u32,
+    line: u32,
     latest: Option<&Items<Decision>>,
     said: &Line,
-) -> Result<Option<Message>, AllocError>
-    ensures { IfOk result (λ message. message ≡ message_in (option_copied latest.entry) said.now) }
+) -> Result<Option<Named>, AllocError>
+    ensures { IfOk result (λ named. named ≡ named_by feed line (option_copied latest.entry) said.now) }
 {
-    match said {
-        Line::Say(message) => Ok(Some(copy_of(alloc, message)?)),
-        Line::Adopt => match latest {
-            Some(choices) => {
-                let choices = decisions(alloc, choices.as_slice())?;
-                Ok(Some(Message::Adopt(choices)))
-            }
-            None => Ok(None),
-        },
-        Line::Time(_) | Line::CostNow | Line::Plan(_) | Line::Solve(_) | Line::Read => Ok(None),
+    match (said, latest) {
+        (Line::Say(message), _) => {
+            let message = copy_of(alloc, message)?;
+            Ok(Some(Named::Entry(Entry {
+                feed,
+                line,
+                message,
+            })))
+        }
+        (Line::Adopt, Some(choices)) => {
+            let message = Message::Adopt(decisions(alloc, choices.as_slice())?);
+            Ok(Some(Named::Entry(Entry {
+                feed,
+                line,
+                message,
+            })))
+        }
+        (Line::Carry, Some(choices)) => {
+            let choices = decisions(alloc, choices.as_slice())?;
+            Ok(Some(Named::Carry {
+                feed,
+                line,
+                choices,
+            }))
+        }
+        _ => Ok(None),
     }
 }
 
@@ -148,6 +177,10 @@ fn copy_of(alloc: Global, message: &Message) -> Result<Message, AllocError>
         Message::First(first, second) => Message::First(*first, *second),
         Message::Adopt(list) => Message::Adopt(decisions(alloc, list.as_slice())?),
         Message::Now(time) => Message::Now(*time),
+        Message::Cancel(event) => Message::Cancel(*event),
+        Message::Restore(event) => Message::Restore(*event),
+        Message::Lock(choice) => Message::Lock(*choice),
+        Message::Unlock(choice) => Message::Unlock(*choice),
     })
 }
 
@@ -159,7 +192,7 @@ fn decisions(alloc: Global, decisions: &[Decision]) -> Result<Items<Decision>, A
 }
 
 /// Puts an entry at the place before its number. A number that no history has is passed over.
-fn put_entry(entries: &mut Vec<Option<Entry>>, number: u32, entry: Entry) -> Result<(), AllocError>
+fn put_entry(entries: &mut Vec<Option<Named>>, number: u32, entry: Named) -> Result<(), AllocError>
     ensures { OnOk result (HasPut entries.old.items entries.new.items (Some (number, entry))) }
 {
     if number == 0 || number > ENTRIES {
@@ -171,7 +204,7 @@ fn put_entry(entries: &mut Vec<Option<Entry>>, number: u32, entry: Entry) -> Res
 }
 
 /// Makes places up to so many.
-fn make_places(entries: &mut Vec<Option<Entry>>, count: usize) -> Result<(), AllocError>
+fn make_places(entries: &mut Vec<Option<Named>>, count: usize) -> Result<(), AllocError>
     ensures keeps { OnOk result (KeepsEntries entries.old.items entries.new.items) }
     ensures places { OnOk result (count ≤ length entries.new.items) }
 {
@@ -184,12 +217,14 @@ fn make_places(entries: &mut Vec<Option<Entry>>, count: usize) -> Result<(), All
 /// Enters entries, up to the first that is not there or is refused. `Err` is want of memory alone.
 pub(crate) fn enter_all(
     desk: &mut TableDesk<'_>,
-    entries: Vec<Option<Entry>>,
+    entries: Vec<Option<Named>>,
 ) -> Result<(), AllocError>
     ensures setting { setting_of desk.new.plans desk.new.table ≡ setting_of desk.old.plans desk.old.table }
     ensures enters { OnOk result (desk.old.table.history ≡ [] → (history : List AnEntry)
-        → IsLegal desk.old.table.network desk.old.table.start history → AreEntries history entries.items
+        → IsLegal desk.old.table.network desk.old.table.start history
+        → AreEntries desk.old.table.network desk.old.table.start history entries.items
         → desk.new.table.history ≡ history) }
+    ensures sorted { AreNamedSorted entries.items → AreSorted desk.old.table.history → AreSorted desk.new.table.history }
 {
     for entry in entries {
         let Some(entry) = entry else {
@@ -202,12 +237,13 @@ pub(crate) fn enter_all(
     Ok(())
 }
 
-/// Enters an entry, or answers that it is refused. `Err` is want of memory alone.
-fn enter(desk: &mut TableDesk<'_>, entry: Entry) -> Result<bool, AllocError>
+/// Enters what an item names, or answers that it is refused. `Err` is want of memory alone.
+fn enter(desk: &mut TableDesk<'_>, entry: Named) -> Result<bool, AllocError>
     ensures setting { setting_of desk.new.plans desk.new.table ≡ setting_of desk.old.plans desk.old.table }
     ensures enters { IfOk result (EntersAll desk.old.table desk.new.table entry) }
+    ensures sorted { NamesSorted entry → AreSorted desk.old.table.history → AreSorted desk.new.table.history }
 {
-    match desk.post(entry) {
+    match post(desk, entry) {
         Ok(_) => Ok(true),
         Err(at) => {
             if wants_memory(&at.why) {
@@ -215,6 +251,21 @@ fn enter(desk: &mut TableDesk<'_>, entry: Entry) -> Result<bool, AllocError>
             }
             Ok(false)
         }
+    }
+}
+
+/// Enters what an item names at a desk, or says why it is refused.
+fn post(desk: &mut TableDesk<'_>, entry: Named) -> Result<u32, At<Refusal>>
+    ensures setting { setting_of desk.new.plans desk.new.table ≡ setting_of desk.old.plans desk.old.table }
+    ensures posts { PostsNamed desk.old.table desk.new.table entry result }
+{
+    match entry {
+        Named::Entry(entry) => desk.post(entry),
+        Named::Carry {
+            feed,
+            line,
+            choices,
+        } => desk.carry(choices.as_slice(), feed, line),
     }
 }
 

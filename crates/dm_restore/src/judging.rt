@@ -8,6 +8,7 @@ ghost use Rattle.dm_outside.specs.Printing.{Puts};
 ghost use Rattle.dm_records.specs.Laws.{IsHeldLog};
 ghost use Rattle.dm_table.specs.Value.{IsTable};
 ghost use Rattle.dm_table_desk.specs.Tables.{setting_of};
+ghost use Rattle.dm_restore.specs.Inside.Entering.{AreSorted};
 ghost use Rattle.dm_restore.specs.Inside.Judging.{run_of, StopsJudging};
 
 use crate::stops::RestoreStop;
@@ -27,7 +28,8 @@ pub(crate) fn put_run<K: Sink>(
     logs: &[FeedLog],
     out: &mut K,
 ) -> Result<(), WriteFault>
-    requires { All IsSpelledLog logs.now }
+    requires logs { All IsSpelledLog logs.now }
+    requires sorted { AreSorted table.now.history }
     ensures puts { Puts K.taken K.faults out.old out.new result (run_text 2 (run_of table.now logs.now)) }
     ensures fits { FitsRun (run_of table.now logs.now) }
 {
@@ -46,7 +48,8 @@ pub(crate) fn put_run<K: Sink>(
 }
 
 fn run_text(alloc: Global, table: &Table<'_>, logs: &[FeedLog]) -> Result<Vec<u8>, AllocError>
-    requires { All IsSpelledLog logs.now }
+    requires logs { All IsSpelledLog logs.now }
+    requires sorted { AreSorted table.now.history }
     ensures text { IfOk result (λ text. text.items ≡ run_text 2 (run_of table.now logs.now)) }
     ensures fits { FitsRun (run_of table.now logs.now) }
 {
@@ -101,6 +104,7 @@ pub(crate) fn judge(
     logs: &[FeedLog],
 ) -> Result<(), RestoreStop>
     requires spelled { All IsSpelledLog logs.now }
+    requires sorted { AreSorted desk.now.table.history }
     requires some { 1 ≤ length logs.now }
     requires few { length logs.now ≤ 64 }
     requires plans { desk.now.plans ≤ PLANS }
@@ -119,6 +123,7 @@ pub(crate) fn judge(
 /// Judges the text of the run of a table and logs, of 1 to 64 feeds.
 fn judge_text(alloc: Global, desk: &TableDesk<'_>, logs: &[FeedLog]) -> Result<(), RestoreStop>
     requires spelled { All IsSpelledLog logs.now }
+    requires sorted { AreSorted desk.now.table.history }
     requires some { 1 ≤ length logs.now }
     requires few { length logs.now ≤ 64 }
     requires plans { desk.now.plans ≤ PLANS }

@@ -1,8 +1,9 @@
 //! What a live server starts with: the run that the file of a journal holds, read back and judged.
 //!
 //! It stands on dm_store for the blocks of a journal, on dm_tape for the rounds in them, on dm_table_desk for the table that
-//! takes their entries, on dm_check, which judges the run, and on dm_book for what a true book is. The logs are judged as they
-//! stand in memory. Only where they are not true is the run printed: the verdict on its text names the record.
+//! takes their entries, on dm_check, which judges the run, and on dm_book for what a true book is. A plan that a log names as
+//! carried over is carried anew: the choices that are free after the entries before come to the same entry. The logs are judged
+//! as they stand in memory. Only where they are not true is the run printed: the verdict on its text names the record.
 //!
 //! # What is promised
 //!

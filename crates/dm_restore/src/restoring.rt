@@ -12,6 +12,7 @@ ghost use Rattle.dm_store.specs.Blocks.{Stands, refusal};
 ghost use Rattle.dm_book.specs.Books.{Book, IsTrueBook, log_of};
 ghost use Rattle.dm_table_desk.specs.Tables.{setting_of};
 ghost use Rattle.dm_restore.specs.Restoring.{IsRestored, RefusesBook};
+ghost use Rattle.dm_restore.specs.Inside.Entering.{AreSorted};
 ghost use Rattle.dm_restore.specs.Start.{setting_of_head, book_back};
 ghost use Rattle.dm_restore.specs.Inside.Judging.{IsJudged, StopsDesk};
 
@@ -148,6 +149,7 @@ fn enter_logs(alloc: Global, desk: &mut TableDesk<'_>, logs: &[FeedLog]) -> Resu
     ensures enters { OnOk result (desk.old.table.history ≡ [] → (history : List AnEntry)
         → IsLegal desk.old.table.network desk.old.table.start history
         → AreTrueLogs (setting_of desk.old.plans desk.old.table) history logs.now → desk.new.table.history ≡ history) }
+    ensures sorted { All IsSpelledLog logs.now → AreSorted desk.old.table.history → AreSorted desk.new.table.history }
 {
     let entries = entries_of(alloc, logs)?;
     enter_all(desk, entries)

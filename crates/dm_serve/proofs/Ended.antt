@@ -11,6 +11,7 @@ use Rattle.dm_parts.specs.declared.kinds.AnyPlan.{AnyPlan}
 use Rattle.dm_desk.specs.declared.searches.Search.{Search}
 use Rattle.dm_desk.specs.Planning.{FindsFor, PlansUnder, budget_of}
 use Rattle.dm_network.specs.Net.{Net}
+use Rattle.dm_publish.specs.Value.{Published}
 use Rattle.dm_cert.specs.declared.notes.Note.{Note}
 use Rattle.dm_cert.specs.Answers.{Setting}
 use Rattle.dm_cert.specs.RunTexts.{FitsRun, run_text}
@@ -41,7 +42,7 @@ well_is_no_want : Well ≢ NoMemory
 well_is_no_want e = cc
 
 module _ {K S T : Type 0} (taken : K → Option (List ℕ)) (sink_faults : K → ℕ) (tells : S → Type 0) (seen : S → List ℕ) (shown : S → List (List ℕ)) (may_leave : S → Image → Type 0) (moment : S → ℕ) (left_since : S → ℕ → Image → Type 0)
-    (store_faults : S → ℕ) (given : T → Option (List ℕ)) (faults : T → ℕ) (up : Net → List ℕ → List Note → Type 0) (names : List (List ℕ)) (store : List ℕ) (s : Setting) (feeds : List (Option T)) (before now : K) (start new : Journal S) where
+    (store_faults : S → ℕ) (given : T → Option (List ℕ)) (faults : T → ℕ) (up : Net → Published → List Note → Type 0) (names : List (List ℕ)) (store : List ℕ) (s : Setting) (feeds : List (Option T)) (before now : K) (start new : Journal S) where
   abbrev Due : List (Tail T) → Status → List ℕ → Type 0
   Due tails status text = IsDueOver tells seen shown may_leave moment left_since store_faults given faults up names store feeds tails start new status s text
 

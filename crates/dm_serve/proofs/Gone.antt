@@ -193,14 +193,14 @@ module _ {T : Type 0} (given : T → Option (List ℕ)) (before now : Watch T) (
 
   -- ---- boards
 
-  module _ {B : Type 0} (place : B → ℕ) (times : B → Option (ℕ → Option ℕ)) (faults_of : B → ℕ) (is_sound : B → ℕ → Type 0) where
-    pub up_later : (table : TableValue) → table ≡ now.desk.table → (display later : Display) (first old new : List B) → AreUp place times faults_of is_sound before.desk.table display first old
-        → Shows place times faults_of is_sound now.desk.table display later old new → AreUp place times faults_of is_sound table later first new
+  module _ {B : Type 0} (place : B → ℕ) (times : B → Option (ℕ → Option ℕ)) (flags : B → Option (ℕ → Option Bool)) (faults_of : B → ℕ) (is_sound : B → ℕ → Type 0) where
+    pub up_later : (table : TableValue) → table ≡ now.desk.table → (display later : Display) (first old new : List B) → AreUp place times flags faults_of is_sound before.desk.table display first old
+        → Shows place times flags faults_of is_sound now.desk.table display later old new → AreUp place times flags faults_of is_sound table later first new
     up_later table same display later first old new up shows =
         let on = goes.answers.goes_on.later in
-        subst (λ (t : TableValue). AreUp place times faults_of is_sound t later first new) (sym same)
+        subst (λ (t : TableValue). AreUp place times flags faults_of is_sound t later first new) (sym same)
         (shows.up first (length before.desk.table.history) (omega (arith, ap length on.1, length-append before.desk.table.history on.0))
-        (subst (λ (n : Net). AreKept place times faults_of is_sound n (length before.desk.table.history) display first old) (sym same_network) up.kept))
+        (subst (λ (n : Net). AreKept place times flags faults_of is_sound n (length before.desk.table.history) display first old) (sym same_network) up.kept))
 
   pub fits_later : (display : Display) (many : ℕ) → IsFor before.desk.table.network many display → IsFor now.desk.table.network many display
   fits_later display many fits = subst (λ (n : Net). IsFor n many display) (sym same_network) fits
@@ -209,7 +209,7 @@ module _ {T : Type 0} (given : T → Option (List ℕ)) (before now : Watch T) (
   earlier_later display e = earlier_on before.desk.table now.desk.table display same_network (ap (λ (x : Setting). x.start) same_setting) goes.answers.goes_on.later e
 
 -- boards at first are shown a table
-pub up_first : {B : Type 0} (place : B → ℕ) (times : B → Option (ℕ → Option ℕ)) (faults : B → ℕ) (is_sound : B → ℕ → Type 0) (table : TableValue) (display now : Display) (old new : List B)
-    → HasShownNothing display → Shows place times faults is_sound table display now old new → AreUp place times faults is_sound table now old new
-up_first place times faults is_sound table display now old new none shows =
-    shows.up old 0 (omega arith) (first_kept place times faults is_sound table.network display old none)
+pub up_first : {B : Type 0} (place : B → ℕ) (times : B → Option (ℕ → Option ℕ)) (flags : B → Option (ℕ → Option Bool)) (faults : B → ℕ) (is_sound : B → ℕ → Type 0) (table : TableValue) (display now : Display) (old new : List B)
+    → HasShownNothing display → Shows place times flags faults is_sound table display now old new → AreUp place times flags faults is_sound table now old new
+up_first place times flags faults is_sound table display now old new none shows =
+    shows.up old 0 (omega arith) (first_kept place times flags faults is_sound table.network display old none)

@@ -1,6 +1,7 @@
 -- A server over a network and start rows: what was read back goes by the setting that the words and the files give.
 use Rattle.std.proofs.Common.{◌≡◌, ℕ, Bool, List, Option, sym, subst, Ok}
 use Rattle.dm_network.specs.Net.{Net}
+use Rattle.dm_publish.specs.Value.{Published}
 use Rattle.dm_cert.specs.declared.notes.Note.{Note}
 use Rattle.dm_cert.specs.Answers.{Setting}
 use Rattle.dm_store.specs.Calls.{Image}
@@ -37,7 +38,7 @@ module _ {S : Type 0} (tells : S → Type 0) (seen : S → List ℕ) (shown : S 
       (subst (λ (x : Setting). KeepsBooks tells seen shown may_leave moment left_since x n sources_now start new) same keeps)
 
 module _ {K S T : Type 0} (taken : K → Option (List ℕ)) (sink_faults : K → ℕ) (tells : S → Type 0) (seen : S → List ℕ) (shown : S → List (List ℕ)) (may_leave : S → Image → Type 0)
-    (moment : S → ℕ) (left_since : S → ℕ → Image → Type 0) (store_faults : S → ℕ) (given : T → Option (List ℕ)) (faults : T → ℕ) (up : Net → List ℕ → List Note → Type 0) (names : List (List ℕ)) (store : List ℕ)
+    (moment : S → ℕ) (left_since : S → ℕ → Image → Type 0) (store_faults : S → ℕ) (given : T → Option (List ℕ)) (faults : T → ℕ) (up : Net → Published → List Note → Type 0) (names : List (List ℕ)) (store : List ℕ)
     (tails : List (Tail T)) (before now : K) (old new : Journal S) (result : Status) where
   -- what is due by one setting, to feeds as they were opened, is due by the other
   pub ends_over_same : (s s_now : Setting) → s_now ≡ s → (feeds feeds_now : List (Option T)) → feeds ≡ feeds_now
@@ -50,7 +51,7 @@ module _ {K S T : Type 0} (taken : K → Option (List ℕ)) (sink_faults : K →
 -- ---- from the files on
 
 module _ {K S T : Type 0} (taken : K → Option (List ℕ)) (sink_faults : K → ℕ) (tells : S → Type 0) (seen : S → List ℕ) (shown : S → List (List ℕ)) (may_leave : S → Image → Type 0)
-    (moment : S → ℕ) (left_since : S → ℕ → Image → Type 0) (store_faults : S → ℕ) (given : T → Option (List ℕ)) (faults : T → ℕ) (up : Net → List ℕ → List Note → Type 0) (told : Told) (is_sound : List ℕ → Type 0) (asked : ServerAsked)
+    (moment : S → ℕ) (left_since : S → ℕ → Image → Type 0) (store_faults : S → ℕ) (given : T → Option (List ℕ)) (faults : T → ℕ) (up : Net → Published → List Note → Type 0) (told : Told) (is_sound : List ℕ → Type 0) (asked : ServerAsked)
     (feeds : List (Option T)) (tails : List (Tail T)) (before now : K) (old new : Journal S) (result : Status) where
   abbrev Over : Status → Setting → List ℕ → Type 0
   Over status s text = IsDueOver tells seen shown may_leave moment left_since store_faults given faults up asked.run.feeds asked.store feeds tails old new status s text

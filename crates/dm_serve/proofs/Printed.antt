@@ -1,10 +1,13 @@
 -- The text of a run at the end of a day.
-use Rattle.std.proofs.Common.{◌≡◌, ℕ, ◌+◌, ◌≤◌, inr, List, [], ◌∷◌, ◌++◌, length, map, get_or, Option, Some, refl, sym, ap, subst, ◌∙◌, arith, slice_get, All}
+use Rattle.std.proofs.Common.{◌≡◌, ℕ, ◌+◌, ◌≤◌, inr, Bool, List, [], ◌∷◌, ◌++◌, length, map, get_or, Option, Some, refl, sym, ap, subst, ◌∙◌, arith, slice_get, All}
 use Rattle.std.specs.Prelude.{count_by}
 use Rattle.std.proofs.lemmas.List.{length-map}
 use Rattle.std.proofs.lemmas.Option.{get_or_from_slice_get, slice_get-get_or, slice_get_within}
 use Rattle.dm_base.specs.declared.limits.TheConstants.{FEEDS}
 use Rattle.dm_network.specs.Net.{Net}
+use Rattle.dm_publish.specs.Value.{Published, published}
+use Rattle.dm_display.specs.Displays.{shown_of}
+use Rattle.dm_rows.specs.History.{rows_at}
 use Rattle.dm_rows.specs.Rows.{RowsValue}
 use Rattle.dm_rows.specs.Cost.{cost_of}
 use Rattle.dm_rows.specs.Timetable.{IsLeast}
@@ -14,7 +17,9 @@ use Rattle.dm_cert.specs.declared.replies.LogItem.{LogItem}
 use Rattle.dm_cert.specs.Answers.{Setting}
 use Rattle.dm_cert.specs.Logs.{AreTrueLogs, IsTrueLog, all_items as logged, names}
 use Rattle.dm_cert.specs.RunTexts.{FitsRun, IsSpelledLog, IsSpelledRun, run_text}
+use Rattle.dm_feed.specs.Lines.{HasSortedChoice}
 use Rattle.dm_cert.specs.Runs.{AreTrueNotes, IsTextOf, IsTrueRun}
+use Rattle.dm_cert.proofs.SortedEntries.{true_logs_have_sorted_entries}
 use Rattle.dm_rounds.proofs.Places.{mapped_at}
 use Rattle.dm_store.specs.Calls.{Image, LeavesOnly}
 use Rattle.dm_store.specs.declared.journal.Journal.{Journal}
@@ -59,9 +64,6 @@ module _ {T : Type 0} (given : T → Option (List ℕ)) (s : Setting) (n : ℕ) 
       let at = mapped_at log_in watch.feeds.items place (get_or logs place d) (slice_get-get_or logs place d low) in
       subst IsSpelledLog (sym at.2) (going.watching.each place at.0 at.1).fed.spelled
 
-  spelled : IsTable table → IsSpelledRun (run_in table logs notes)
-  spelled is = record { logs = spelled_logs; times = is.least.meets.size }
-
   true_logs : AreTrueLogs (setting_of watch.desk.plans table) table.history logs
   true_logs =
       let book = true_book given (desk_in watch) watch.feeds.items refl going.watching in
@@ -72,6 +74,16 @@ module _ {T : Type 0} (given : T → Option (List ℕ)) (s : Setting) (n : ℕ) 
             subst (λ (l : FeedLog). IsTrueLog (setting_of watch.desk.plans table) table.history place l.items) (sym at.2) (record { answers = fed.answers; in_order = fed.in_order });
         once = λ k some low. ap (count_by (names k)) (same_items watch.feeds.items) ∙ book.logs.once k some low;
       }
+
+  pub sorted_entries : All (λ entry. HasSortedChoice entry.message) table.history
+  sorted_entries = true_logs_have_sorted_entries (setting_of watch.desk.plans table) table.history logs true_logs spelled_logs
+
+  spelled : IsTable table → IsSpelledRun (run_in table logs notes)
+  spelled is = record {
+    history = sorted_entries;
+    logs = spelled_logs;
+    times = is.least.meets.size;
+  }
 
   true_run : IsTable table → AreTrueNotes (length table.history) notes → 1 ≤ n → n ≤ FEEDS → IsTrueRun 2 watch.desk.plans table.start (run_in table logs notes)
   true_run is noted some few = record {
@@ -98,7 +110,7 @@ module _ {T : Type 0} (given : T → Option (List ℕ)) (s : Setting) (n : ℕ) 
       (answers_whole given (desk_in watch) (place + 1) one.0 ended (going.watching.each place one.0 one.1)))
 
   module _ {S : Type 0} (tells : S → Type 0) (seen : S → List ℕ) (shown : S → List (List ℕ)) (may_leave : S → Image → Type 0) (moment : S → ℕ) (left_since : S → ℕ → Image → Type 0)
-      (up : Net → List ℕ → List Note → Type 0) (old new : Journal S) (tails : List (Tail T)) where
+      (up : Net → Published → List Note → Type 0) (old new : Journal S) (tails : List (Tail T)) where
     goes_on : (first : Book) → HasGone tells seen shown may_leave moment left_since s first watch old.store new → GoesOnFrom tells seen shown may_leave moment left_since s first (run_in table logs notes) old new
     goes_on first gone = record {
       grows = subst (λ (l : List (List LogItem)). IsFrontBook first (record { history = table.history; logs = l })) (sym (items_in watch.feeds.items)) gone.grows;
@@ -108,7 +120,7 @@ module _ {T : Type 0} (given : T → Option (List ℕ)) (s : Setting) (n : ℕ) 
           (sym (items_in watch.feeds.items)) gone.leaves;
     }
 
-    pub is_day : IsTable table → FitsRun (run_in table logs notes) → AreTrueNotes (length table.history) notes → 1 ≤ n → n ≤ FEEDS → up table.network table.times notes → tails ≡ map tail_in watch.feeds.items → All HasNoneLeft watch.feeds.items
+    pub is_day : IsTable table → FitsRun (run_in table logs notes) → AreTrueNotes (length table.history) notes → 1 ≤ n → n ≤ FEEDS → up table.network (shown_of table) notes → tails ≡ map tail_in watch.feeds.items → All HasNoneLeft watch.feeds.items
         → HasGoneSince tells seen shown may_leave moment left_since s n watch old.store new → IsDayOf tells seen shown may_leave moment left_since given up s n tails old new (run_text 2 (run_in table logs notes))
     is_day is fits noted some few boards are none_left gone = record {
       run = run_in table logs notes;
@@ -116,7 +128,8 @@ module _ {T : Type 0} (given : T → Option (List ℕ)) (s : Setting) (n : ℕ) 
       penalty = ap (λ (x : Setting). x.penalty) going.setting;
       is_text = subst (λ (x : Setting). IsTextOf 2 x.plans x.start (run_in table logs notes) (run_text 2 (run_in table logs notes))) going.setting
           (record { is_version = inr refl; is_true = true_run is noted some few; fits = fits; is_spelled = spelled is; known = logs_known logs; spelled = refl });
-      boards = boards;
+      boards = subst (λ (f : List Bool). up table.network (published table.times f) notes)
+          (ap (λ (r : RowsValue). r.cancelled) (is.replayed ∙ ap (λ (x : Setting). rows_at x.net x.start table.history (length table.history)) going.setting)) boards;
       as_many = length-map watch.feeds.items log_in ∙ going.as_many;
       as_many_tails = ap length are ∙ (length-map watch.feeds.items tail_in ∙ going.as_many);
       answers = λ place log tail l t. answers_all none_left place log tail l (subst (λ (x : List (Tail T)). slice_get x place ≡ Some tail) are t);

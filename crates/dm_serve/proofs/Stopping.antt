@@ -6,6 +6,7 @@ use Rattle.std.proofs.lemmas.List.{append_cancel_left}
 use Rattle.std.proofs.lemmas.Option.{slice_get_within, slice_get-get_or}
 use Rattle.dm_base.specs.declared.limits.TheConstants.{FEEDS}
 use Rattle.dm_network.specs.Net.{Net}
+use Rattle.dm_publish.specs.Value.{Published}
 use Rattle.dm_cert.specs.declared.notes.Note.{Note}
 use Rattle.dm_cert.specs.declared.replies.LogItem.{LogItem}
 use Rattle.dm_cert.specs.Answers.{Setting}
@@ -144,7 +145,7 @@ module _ {S : Type 0} (tells : S → Type 0) (seen : S → List ℕ) (shown : S 
 -- ---- over a network
 
 module _ {K S T : Type 0} (taken : K → Option (List ℕ)) (sink_faults : K → ℕ) (tells : S → Type 0) (seen : S → List ℕ) (shown : S → List (List ℕ)) (may_leave : S → Image → Type 0) (moment : S → ℕ)
-    (left_since : S → ℕ → Image → Type 0) (store_faults : S → ℕ) (given : T → Option (List ℕ)) (faults : T → ℕ) (up : Net → List ℕ → List Note → Type 0) (s : Setting) (names : List (List ℕ)) (store : List ℕ)
+    (left_since : S → ℕ → Image → Type 0) (store_faults : S → ℕ) (given : T → Option (List ℕ)) (faults : T → ℕ) (up : Net → Published → List Note → Type 0) (s : Setting) (names : List (List ℕ)) (store : List ℕ)
     (feeds : List (Option T)) (tails : List (Tail T)) (before now : K) (old new : Journal S) where
   abbrev Due : Status → List ℕ → Type 0
   Due status text = IsDueOver tells seen shown may_leave moment left_since store_faults given faults up names store feeds tails old new status s text
@@ -254,7 +255,7 @@ module _ {K S T : Type 0} (taken : K → Option (List ℕ)) (sink_faults : K →
 
 -- the same by what the end of feeds says
 module _ {K S T : Type 0} (taken : K → Option (List ℕ)) (sink_faults : K → ℕ) (tells : S → Type 0) (seen : S → List ℕ) (shown : S → List (List ℕ)) (may_leave : S → Image → Type 0) (moment : S → ℕ)
-    (left_since : S → ℕ → Image → Type 0) (store_faults : S → ℕ) (given : T → Option (List ℕ)) (faults : T → ℕ) (up : Net → List ℕ → List Note → Type 0) (s : Setting) (asked : ServerAsked)
+    (left_since : S → ℕ → Image → Type 0) (store_faults : S → ℕ) (given : T → Option (List ℕ)) (faults : T → ℕ) (up : Net → Published → List Note → Type 0) (s : Setting) (asked : ServerAsked)
     (before now : K) (old new : Journal S) (book : Book) (is_new : Bool) (one other : List (Watched T)) (end : DayEnd T) where
   pub at_feeds_ends : (stopped : StartStop) → length one ≡ length asked.run.feeds → length book.logs ≡ length asked.run.feeds → IsReadBack tells seen shown may_leave moment left_since s (length asked.run.feeds) book is_new old.store new.store
       → StopsCatchingUp given faults book.logs one other stopped → EndsAtFeeds taken sink_faults asked other stopped before now end

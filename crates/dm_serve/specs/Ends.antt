@@ -5,6 +5,7 @@ use mathlib.Core.List.{IsPrefix}
 use Rattle.std.specs.Io.KnownBytes.{Keeps}
 use Rattle.dm_outside.specs.Faults.{HasRisen}
 use Rattle.dm_network.specs.Net.{Net}
+use Rattle.dm_publish.specs.Value.{Published}
 use Rattle.dm_cert.specs.declared.notes.Note.{Note}
 use Rattle.dm_cert.specs.declared.replies.LogItem.{LogItem}
 use Rattle.dm_cert.specs.Answers.{Setting}
@@ -127,7 +128,7 @@ pub record IsStoreFault {S : Type 0} (tells : S → Type 0) (seen : S → List �
 
 -- The text that is due at a status over a network and start rows, to feeds of these names and a store of this one.
 abbrev pub IsDueOver : {S T : Type 0} → (S → Type 0) → (S → List ℕ) → (S → List (List ℕ)) → (S → Image → Type 0) → (S → ℕ) →
-    (S → ℕ → Image → Type 0) → (S → ℕ) → (T → Option (List ℕ)) → (T → ℕ) → (Net → List ℕ → List Note → Type 0) → List (List ℕ) →
+    (S → ℕ → Image → Type 0) → (S → ℕ) → (T → Option (List ℕ)) → (T → ℕ) → (Net → Published → List Note → Type 0) → List (List ℕ) →
     List ℕ → List (Option T) → List (Tail T) → Journal S → Journal S → Status → Setting → List ℕ → Type 0
 IsDueOver tells seen shown may_leave moment left_since store_faults given faults up names store feeds tails old new Well s text =
     IsDayOf tells seen shown may_leave moment left_since given up s (length names) tails old new text
@@ -144,7 +145,7 @@ IsDueOver tells seen shown may_leave moment left_since store_faults given faults
 
 -- The text that is due at a status; a write fault and want of memory have none of their own.
 abbrev pub IsDue : {S T : Type 0} → (S → Type 0) → (S → List ℕ) → (S → List (List ℕ)) → (S → Image → Type 0) → (S → ℕ) →
-    (S → ℕ → Image → Type 0) → (S → ℕ) → (T → Option (List ℕ)) → (T → ℕ) → (Net → List ℕ → List Note → Type 0) → Told →
+    (S → ℕ → Image → Type 0) → (S → ℕ) → (T → Option (List ℕ)) → (T → ℕ) → (Net → Published → List Note → Type 0) → Told →
     (List ℕ → Type 0) → ServerAsked → List (Option T) → List (Tail T) → Journal S → Journal S → Status → List ℕ → Type 0
 IsDue tells seen shown may_leave moment left_since store_faults given faults up told is_sound asked feeds tails old new status text =
     IsOfFiles told is_sound asked status text

@@ -1,6 +1,8 @@
 -- What the text of a server's end is: that of a true run, which goes on from what its store held, and answers its feeds.
 use Rattle.std.specs.Prelude.{ℕ, ◌≡◌, List, length, map, Option, Some, slice_get}
 use Rattle.dm_network.specs.Net.{Net}
+use Rattle.dm_publish.specs.Value.{Published, published}
+use Rattle.dm_restore.specs.Restoring.{last_rows}
 use Rattle.dm_cert.specs.declared.notes.Note.{Note}
 use Rattle.dm_cert.specs.declared.replies.FeedLog.{FeedLog}
 use Rattle.dm_cert.specs.Answers.{Setting}
@@ -27,17 +29,18 @@ pub record GoesOnFrom {S : Type 0} (tells : S → Type 0) (seen : S → List ℕ
   pub leaves : LeavesOnly moment left_since old.store new.store (IsSafe s first (book_of_run run))
 
 -- The text is that of a true run, in version 2, of a network and start rows, with a log for each feed. Each log answers the due
--- lines of all lines that end of what its feed has given, each once and in order. Boards that no note names are up with its times.
+-- lines of all lines that end of what its feed has given, each once and in order. Boards that no note names are up with its times
+-- and with the events that are cancelled in the end.
 -- The run goes on from what was found in the store.
 pub record IsDayOf {S T : Type 0} (tells : S → Type 0) (seen : S → List ℕ) (shown : S → List (List ℕ))
     (may_leave : S → Image → Type 0) (moment : S → ℕ) (left_since : S → ℕ → Image → Type 0) (given : T → Option (List ℕ))
-    (up : Net → List ℕ → List Note → Type 0) (s : Setting) (feeds : ℕ) (tails : List (Tail T)) (old new : Journal S)
+    (up : Net → Published → List Note → Type 0) (s : Setting) (feeds : ℕ) (tails : List (Tail T)) (old new : Journal S)
     (text : List ℕ) : Type 0 where
   pub run : Run
   pub net : run.net ≡ s.net
   pub penalty : run.penalty ≡ s.penalty
   pub is_text : IsTextOf 2 s.plans s.start run text
-  pub boards : up run.net run.times run.notes
+  pub boards : up run.net (published run.times (last_rows s run).cancelled) run.notes
   pub as_many : length run.logs ≡ feeds
   pub as_many_tails : length tails ≡ feeds
   pub answers : (place : ℕ) (log : FeedLog) (tail : Tail T) → slice_get run.logs place ≡ Some log →

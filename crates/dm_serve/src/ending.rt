@@ -1,6 +1,7 @@
 //! The ends of a server.
 ghost use Rattle.std.specs.Prelude.{◌≡◌, ◌⊎◌, ◌≤◌, All, [], map, IfOk};
 ghost use Rattle.dm_cert.specs.RunTexts.{IsSpelledLog};
+ghost use Rattle.dm_feed.specs.Lines.{HasSortedChoice};
 ghost use Rattle.dm_words.specs.Asked.{names_in};
 ghost use Rattle.dm_words.specs.ServerAsked.{server_of};
 ghost use Rattle.dm_table.specs.Value.{IsTable};
@@ -84,7 +85,8 @@ pub fn end_day<T: Growing + Drop, K: Sink>(
     notes: &[Note],
     out: &mut K,
 ) -> DayEnd<T>
-    requires { All IsSpelledLog (map log_in watch.feeds.items) }
+    requires logs { All IsSpelledLog (map log_in watch.feeds.items) }
+    requires sorted { All (λ entry. HasSortedChoice entry.message) watch.desk.table.history }
     ensures ends { EndsDay K.taken K.faults watch.entry.desk.table watch.entry.feeds.items notes.now out.old out.new result }
     ensures feeds { (result.tails.items ≡ []) ⊎ (result.tails.items ≡ map tail_in watch.entry.feeds.items) }
     ensures table { IsTable watch.entry.desk.table }
@@ -108,7 +110,8 @@ fn end_feeds<T: Growing + Drop, K: Sink>(
     notes: &[Note],
     out: &mut K,
 ) -> DayEnd<T>
-    requires { All IsSpelledLog (map log_in feeds.items) }
+    requires logs { All IsSpelledLog (map log_in feeds.items) }
+    requires sorted { All (λ entry. HasSortedChoice entry.message) table.now.history }
     ensures ends { EndsDay K.taken K.faults table.now feeds.items notes.now out.old out.new result }
     ensures feeds { (result.tails.items ≡ []) ⊎ (result.tails.items ≡ map tail_in feeds.items) }
     ensures table { IsTable table.now }

@@ -59,7 +59,7 @@ pub fn go_round<
         journal.old journal.new) }
     ensures told { IfOk result (λ _. W.told pace.new) }
     ensures later { S.faults journal.old.store ≤ S.faults journal.new.store }
-    ensures up { IfOk result (λ r. AreUp place times (λ b. (Board-box b).faults b.value) (λ b. (Board-box b).is_sound b.value)
+    ensures up { IfOk result (λ r. AreUp place times flags (λ b. (Board-box b).faults b.value) (λ b. (Board-box b).is_sound b.value)
         r.desk.table display.new boards.old.items boards.new.items) }
     ensures stays { map place boards.new.items ≡ map place boards.old.items }
 {
@@ -114,9 +114,9 @@ fn go_once<
         journal.old journal.new) }
     ensures later { S.faults journal.old.store ≤ S.faults journal.new.store }
     ensures up { IfOk result (λ r. (first : List _)
-        → AreUp place times (λ b. (Board-box b).faults b.value) (λ b. (Board-box b).is_sound b.value) watch.entry.desk.table
+        → AreUp place times flags (λ b. (Board-box b).faults b.value) (λ b. (Board-box b).is_sound b.value) watch.entry.desk.table
         display.old first boards.old.items
-        → AreUp place times (λ b. (Board-box b).faults b.value) (λ b. (Board-box b).is_sound b.value) r.0.desk.table
+        → AreUp place times flags (λ b. (Board-box b).faults b.value) (λ b. (Board-box b).is_sound b.value) r.0.desk.table
         display.new first boards.new.items) }
     ensures stays { IfErr result (λ _. boards.new ≡ boards.old) }
 {

@@ -17,7 +17,7 @@
 //!   unless nothing was answered (`LivesSafely`).
 //! - `headline`, at status Ok: the text is that of a true run in version 2 that goes on from what was found, and is the last book
 //!   of the life. All of it is in the journal and in the reply files. Each log answers the due lines of all lines that end of its
-//!   feed, each once and in order. The boards are up with the run's times (`IsDayOf`).
+//!   feed, each once and in order. The boards are up with the run's times and cancelled events (`IsDayOf`).
 //! - `same_feeds`: the feeds come back as they were given, in their order, or not at all.
 //! - `told`: it ends at Ok only where it was told to end.
 //! - `refused`, `read_fault`, `write_fault`: each of these statuses has its cause, as `specs/Ends` has it. Where a journal, a

@@ -1,10 +1,12 @@
 //! Lives of a live server over a store in memory, where each call of a life fails in turn.
 //!
-//! First the program serves a day of two feeds, a line of each in a round, and compares the text with one that was worked out by
-//! hand. Then each call on the store fails in a life of its own, from an empty store. That life has to end with its status and
-//! its line, and what it showed has to be a front of each log. A crash then tears what stood there, in each way, and the next
-//! life goes on from what is left. It has to end with the text and the logs of a day without a crash: every line answered once,
-//! none lost. For two ways of tearing, each call of the next life fails as well, and a third life has to end in the same way.
+//! First the program serves a day of two feeds, a line of each in a round, and compares the text with one that was worked out
+//! by hand. On that day a plan is carried over once one of its choices is locked and the other turned back, so each later life
+//! has to find again which choice was entered. Then each call on the store fails in a life of its own, from an empty store.
+//! That life has to end with its status and its line, and what it showed has to be a front of each log. A crash then tears what
+//! stood there, in each way, and the next life goes on from what is left. It has to end with the text and the logs of a day
+//! without a crash: every line answered once, none lost. For two ways of tearing, each call of the next life fails as well, and
+//! a third life has to end in the same way.
 //!
 //! For each way of tearing the program prints the status of each life whose call failed, by call. Where something is wrong it
 //! prints a letter instead: `s` for the life's status, `p` for what it printed, `f` for what it showed, `n` for a life after it.

@@ -10,6 +10,7 @@ use Rattle.dm_cert.specs.Answers.{Setting}
 use Rattle.dm_cert.specs.Logs.{AreTrueLogs}
 use Rattle.dm_cert.specs.RunTexts.{FitsRun, IsSpelledLog, IsSpelledRun, run_text}
 use Rattle.dm_cert.specs.Runs.{AreTrueNotes, IsTextOf, IsTrueNote, IsTrueRun}
+use Rattle.dm_cert.proofs.SortedEntries.{true_logs_have_sorted_entries}
 use Rattle.dm_store.specs.Blocks.{Stands, refusal}
 use Rattle.dm_table.specs.Value.{IsTable, TableValue}
 use Rattle.dm_table_desk.specs.Tables.{setting_of}
@@ -31,14 +32,18 @@ abbrev book_beside : TableValue → List FeedLog → Book
 book_beside table logs = record { history = table.history; logs = items_of logs }
 
 module _ (s : Setting) (feeds : ℕ) (plans : ℕ) (table : TableValue) (logs : List FeedLog) (same : setting_of plans table ≡ s) (is : IsTable table) where
-  pub spelled : All IsSpelledLog logs → IsSpelledRun (run_in table logs [])
-  spelled all = record { logs = all; times = is.least.meets.size }
-
   module _ (some : 1 ≤ feeds) (few : feeds ≤ 64) (as_many : length logs ≡ feeds) (go_on : logs ≡ map log_of (items_of logs)) (book : IsTrueBook s (book_beside table logs)) where
     true_logs : AreTrueLogs (setting_of plans table) table.history logs
     true_logs =
         subst (λ (ls : List FeedLog). AreTrueLogs (setting_of plans table) table.history ls) (sym go_on)
         (subst (λ (t : Setting). AreTrueLogs t table.history (map log_of (items_of logs))) (sym same) book.logs)
+
+    pub spelled : All IsSpelledLog logs → IsSpelledRun (run_in table logs [])
+    spelled all = record {
+      history = true_logs_have_sorted_entries (setting_of plans table) table.history logs true_logs all;
+      logs = all;
+      times = is.least.meets.size;
+    }
 
     true_run : IsTrueRun 2 plans table.start (run_in table logs [])
     true_run = record {

@@ -3,7 +3,7 @@ use Rattle.std.proofs.Common.{◌≡◌, ℕ, ◌≤◌, List, Option, Some, Non
 use Rattle.dm_base.specs.declared.limits.TheConstants.{PENALTY, WORKERS}
 use Rattle.dm_network.specs.Start.{IsNetwork}
 use Rattle.dm_rows.specs.Active.{HasNoCycle}
-use Rattle.dm_times.proofs.Meeting.{start_has_no_cycle}
+use Rattle.dm_times.proofs.Meeting.{starts_have_no_cycle}
 use Rattle.dm_input.specs.Input.{Opening, OpeningAnswer, Told}
 use Rattle.dm_words.specs.Serving.{ServerAsked}
 use Rattle.dm_words.specs.Values.{IsNumberOr}
@@ -53,5 +53,5 @@ pub opening_has_no_cycle : (told : Told) (files : FilesAsked) (opening : Opening
 opening_has_no_cycle told files opening (rows, read, (net, made, (starts, are, is))) network =
     let same : opening ≡ record { net = net; rows = starts } = some_same is in
     let here : IsNetwork net = subst (λ (o : Opening). IsNetwork o.net) same network in
-    let free : HasNoCycle net starts = subst (HasNoCycle net) (sym are.are) (start_has_no_cycle net rows.event_delays rows.activity_delays here) in
+    let free : HasNoCycle net starts = subst (HasNoCycle net) (sym are.are) (starts_have_no_cycle.without net rows.event_delays rows.activity_delays rows.cancelled here) in
     subst (λ (o : Opening). HasNoCycle o.net o.rows) (sym same) free

@@ -1,14 +1,13 @@
 //! The text of the run that a store holds.
-ghost use Rattle.std.specs.Prelude.{◌≡◌, ◌≤◌, [], All, length, string_bytes, IfOk};
+ghost use Rattle.std.specs.Prelude.{◌≡◌, ◌≤◌, [], length, string_bytes, IfOk};
 ghost use Rattle.std.specs.Io.KnownBytes.{Keeps};
 ghost use Rattle.dm_base.specs.declared.limits.TheConstants.{FEEDS, PENALTY};
 ghost use Rattle.dm_cert.specs.declared.limits.TheConstants.{PLANS};
-ghost use Rattle.dm_cert.specs.RunTexts.{run_text, FitsRun, IsSpelledLog};
+ghost use Rattle.dm_cert.specs.RunTexts.{run_text, FitsRun, IsSpelledRun};
 ghost use Rattle.dm_input.specs.Stops.{IsKept};
 ghost use Rattle.dm_rows.specs.Active.{HasNoCycle};
 ghost use Rattle.dm_rows.specs.Rows.{IsSized};
 ghost use Rattle.dm_restore.specs.Start.{setting_of_head};
-ghost use Rattle.dm_table.specs.Value.{IsTable};
 ghost use Rattle.dm_words.specs.Asked.{names_in};
 ghost use Rattle.dm_words.specs.ServerAsked.{server_of};
 ghost use Rattle.dm_store_text.specs.Asked.{IsAsked, IsWithin, head_of, setting_for};
@@ -127,21 +126,22 @@ fn text_of_bytes<K: Sink>(
     ensures later { K.faults out.old ≤ K.faults out.new }
 {
     match restore(alloc, net, rows, head, bytes) {
-        Ok(restored) => end_restored(&restored, out),
+        Ok(restored) => {
+            restored.desk.table.reveal();
+            end_restored(&restored, out)
+        }
         Err(stop) => end_stopped(stop, out),
     }
 }
 
 /// Prints the run that was read back.
 fn end_restored<K: Sink>(restored: &Restored<'_>, out: &mut K) -> Status
-    requires spelled { All IsSpelledLog restored.now.logs.items }
+    requires { IsSpelledRun (run_in restored.now.desk.table restored.now.logs.items []) }
     ensures ends { EndsAs K.taken K.faults out.old out.new
         (run_text 2 (run_in restored.now.desk.table restored.now.logs.items [])) Status.Ok result }
     ensures fits { FitsRun (run_in restored.now.desk.table restored.now.logs.items []) }
-    ensures table { IsTable restored.now.desk.table }
     ensures later { K.faults out.old ≤ K.faults out.new }
 {
-    restored.desk.table.reveal();
     end_run(&restored.desk.table, &restored.logs, &[], out)
 }
 

@@ -10,19 +10,20 @@ use Rattle.dm_network.specs.Net.{Net, activity_at}
 use Rattle.dm_network.specs.Held.{arcs_of, ShowsCycleOf}
 use Rattle.dm_rows.specs.declared.messages.Entry.{Entry}
 use Rattle.dm_rows.specs.declared.messages.At.{At}
+use Rattle.dm_rows.specs.declared.messages.Message.{Message}
 use Rattle.dm_rows.specs.declared.messages.Refusal.{Refusal}
 use Rattle.dm_rows.specs.declared.messages.Refusal.TheVariants as refusal
 use Rattle.dm_rows.specs.Active.{is_active}
 use Rattle.dm_rows.specs.Refuse.{Refuses}
 use Rattle.dm_rows.specs.Resolve.{after}
 use Rattle.dm_feed.specs.declared.grammar.Line.{Line}
-use Rattle.dm_feed.specs.declared.grammar.Line.TheVariants.{Say, Time as AskTime, CostNow as AskCost, Plan as AskPlan, Solve as AskSolve, Adopt as AskAdopt, Read as AskRead}
+use Rattle.dm_feed.specs.declared.grammar.Line.TheVariants.{Say, Time as AskTime, CostNow as AskCost, Plan as AskPlan, Solve as AskSolve, Adopt as AskAdopt, Carry as AskCarry, Read as AskRead}
 use Rattle.dm_tree.specs.declared.adopting.Chosen.{Chosen}
 use Rattle.dm_cert.specs.declared.replies.Reply.{Reply}
 use Rattle.dm_cert.specs.declared.replies.Reply.TheVariants as reply
 use Rattle.dm_cert.specs.declared.replies.LogItem.{LogItem}
 use Rattle.dm_cert.specs.declared.replies.LogItem.TheVariants.{Malformed, Answered}
-use Rattle.dm_cert.specs.Answers.{Setting, rows_after, latest_plan, HasNoRoom, IsTrueReply, IsTrueAnswer}
+use Rattle.dm_cert.specs.Answers.{Setting, carried, rows_after, latest_plan, HasNoRoom, IsRefused, IsTrueReply, IsTrueAnswer}
 use Rattle.dm_cert.specs.Logs.{AreTrueAnswers}
 use Rattle.dm_cert.specs.RunTexts.{IsSpelledItem}
 use Rattle.dm_desk.specs.Desks.{DeskValue}
@@ -48,16 +49,26 @@ no_room_no_cycle : (history : List Entry) (n : ℕ) (why : Refusal) (ids : List 
 no_room_no_cycle history n why ids None is e = absurd is
 no_room_no_cycle history n why ids (Some plan) is e = let full = is.is_why in absurd cc
 
+-- a refusal shows a cycle that is not empty
+message_cycle : (s : Setting) (history : List Entry) (m : Message) (at : At Refusal) (ids : List ActId) → IsRefused s history at.entry m at.why → at.why ≡ refusal.Cycle ids → 0 < length ids
+message_cycle s history m at ids is e =
+    let refuses = subst (λ (r : Refusal). Refuses s.net (rows_after s history at.entry) at.entry m r) e is.refuses in
+    some_id s.net (is_active s.net (after s.net (rows_after s history at.entry) m)) ids refuses.2
+
+carry_cycle : (s : Setting) (history : List Entry) (latest : Option Chosen) (at : At Refusal) (ids : List ActId) →
+    IsSomeAnd latest (λ plan. IsRefused s history at.entry (carried s history at.entry plan.choices) at.why) → at.why ≡ refusal.Cycle ids → 0 < length ids
+carry_cycle s history None at ids is e = absurd is
+carry_cycle s history (Some plan) at ids is e = message_cycle s history (carried s history at.entry plan.choices) at ids is e
+
 refused_cycle : (s : Setting) (history : List Entry) (feed : ℕ) (before : List LogItem) (line : ℕ) (said : Line) (at : At Refusal) (ids : List ActId) →
     IsTrueReply s history feed before line said (reply.Refused at) → at.why ≡ refusal.Cycle ids → 0 < length ids
-refused_cycle s history feed before line (Say message) at ids is e =
-    let refuses = subst (λ (r : Refusal). Refuses s.net (rows_after s history at.entry) at.entry message r) e is.refuses in
-    some_id s.net (is_active s.net (after s.net (rows_after s history at.entry) message)) ids refuses.2
+refused_cycle s history feed before line (Say message) at ids is e = message_cycle s history message at ids is e
 refused_cycle s history feed before line (AskTime event) at ids is e = let unknown = is.is_why in absurd cc
 refused_cycle s history feed before line AskCost at ids is e = absurd is
 refused_cycle s history feed before line (AskPlan budget) at ids is e = absurd is
 refused_cycle s history feed before line (AskSolve budget) at ids is e = absurd is
 refused_cycle s history feed before line AskAdopt at ids is e = absurd (no_room_no_cycle history at.entry at.why ids (latest_plan before) is e)
+refused_cycle s history feed before line AskCarry at ids is e = carry_cycle s history (latest_plan before) at ids is e
 refused_cycle s history feed before line AskRead at ids is e = absurd is
 
 names_some : (why : Refusal) → ((ids : List ActId) → why ≡ refusal.Cycle ids → 0 < length ids) → NamesSome why
@@ -69,6 +80,10 @@ names_some (refusal.UnknownChange a) some = tt
 names_some (refusal.UnknownPair i j) some = tt
 names_some (refusal.Passed e t) some = tt
 names_some (refusal.NotPassed e) some = tt
+names_some (refusal.Cancelled e) some = tt
+names_some (refusal.NotCancelled e) some = tt
+names_some (refusal.Locked e) some = tt
+names_some (refusal.NotLocked e) some = tt
 names_some (refusal.Back c) some = tt
 names_some (refusal.Full n) some = tt
 names_some refusal.OutOfMemory some = tt

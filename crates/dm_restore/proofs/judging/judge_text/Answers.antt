@@ -17,7 +17,7 @@ returns-in-Ok-Good-clause-good c =
     let network = subst IsNetwork c.network.ensures c.reveal-2.ensures.network in
     let limits = subst IsWithinLimits c.network.ensures c.reveal-2.ensures.within in
     let told = subst (λ (v : Verdict). SaysGood v ↔ IsRunText c.network-2.result.now c.start.result.now c.penalty.result plans c.deref.result.now) c.in-Ok-Good.field-0-is c.in-Ok-Good.ensures.good in
-    logs_are_true plans table c.args.logs.now c.reveal.ensures.table network limits c.requires.spelled c.requires.some c.requires.few c.logs_are_held.ensures c.run_text.ensures.fits
+    logs_are_true plans table c.args.logs.now c.reveal.ensures.table network limits c.requires.spelled c.requires.sorted c.requires.some c.requires.few c.logs_are_held.ensures c.run_text.ensures.fits
     (carried (λ net start penalty text. IsRunText net start penalty plans text) _ _ _ _ _ _ _ _ c.network-2.ensures c.start.ensures c.penalty.ensures (c.deref.ensures.value ∙ c.in-Ok.ensures.text) (told.0 tt))
 
 pub returns-in-Ok-Bad-clause-stops : goal.returns-in-Ok-Bad-clause-stops
@@ -35,5 +35,5 @@ returns-in-Ok-Bad-clause-stops c =
       untrue = λ are.
           told.1
           (carried (λ net start penalty t. IsRunText net start penalty plans t) _ _ _ _ _ _ _ _ (sym c.network-2.ensures) (sym c.start.ensures) (sym c.penalty.ensures) (sym text)
-          (text_is_true plans table c.args.logs.now c.reveal.ensures.table network limits c.requires.spelled c.requires.some c.requires.few c.logs_are_held.ensures c.run_text.ensures.fits are));
+          (text_is_true plans table c.args.logs.now c.reveal.ensures.table network limits c.requires.spelled c.requires.sorted c.requires.some c.requires.few c.logs_are_held.ensures c.run_text.ensures.fits are));
     }

@@ -1,4 +1,8 @@
 use Rattle.std.proofs.Common.{ap, subst, sym, ◌∙◌, arith}
+use Rattle.std.proofs.lemmas.List.Elements.{All-nil}
+use Rattle.dm_feed.specs.Lines.{HasSortedChoice}
+use Rattle.dm_rows.specs.declared.messages.Entry.{Entry}
+use Rattle.dm_restore.specs.Inside.Entering.{AreSorted}
 use Rattle.dm_rows.specs.History.{IsLegal}
 use Rattle.dm_cert.specs.Answers.{Setting}
 use Rattle.dm_cert.specs.Logs.{AreTrueLogs}
@@ -22,3 +26,7 @@ returns-clause-stops c =
     c.in-Ok-enter_logs.ensures.enters c.in-Ok.ensures.none history (subst (λ (t : Setting). IsLegal t.net t.start history) (sym c.in-Ok.ensures.setting) legal)
     (subst (λ (t : Setting). AreTrueLogs t history c.args.logs.now) (sym c.in-Ok.ensures.setting) are))
     c.in-Err-judge.ensures.stops
+
+pub judge-requires-clause-sorted : goal.judge-requires-clause-sorted
+judge-requires-clause-sorted c =
+    c.enter_logs.ensures.sorted c.requires.spelled (subst AreSorted (sym c.in-Ok.ensures.none) (All-nil (λ (e : Entry). HasSortedChoice e.message)))

@@ -8,7 +8,8 @@ use Rattle.dm_serve.proofs.ending.end_feeds.Goals as goal
 
 pub end_run-status-requires : goal.end_run-status-requires
 end_run-status-requires g c = record {
-  logs = subst (All IsSpelledLog) (sym (c.deref.ensures.value ∙ c.in-Ok.ensures.logs)) c.requires;
+  history = c.requires.sorted;
+  logs = subst (All IsSpelledLog) (sym (c.deref.ensures.value ∙ c.in-Ok.ensures.logs)) c.requires.logs;
   times = c.reveal.ensures.table.least.meets.size;
 }
 

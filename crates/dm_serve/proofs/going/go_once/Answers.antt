@@ -37,5 +37,5 @@ returns-clause-leaves g c =
 
 pub returns-clause-up : goal.returns-clause-up
 returns-clause-up g c = λ first up.
-    up_later g.T.Growing.given c.args.watch c.in-Ok.answered.0 c.in-Ok.ensures.answers _ _ _ _ c.show_growth.new.table c.show_growth.ensures.same c.args.display.now c.show_growth.new.self first
+    up_later g.T.Growing.given c.args.watch c.in-Ok.answered.0 c.in-Ok.ensures.answers _ _ _ _ _ c.show_growth.new.table c.show_growth.ensures.same c.args.display.now c.show_growth.new.self first
     c.args.boards.now.items c.show_growth.new.boards.items up c.show_growth.ensures.shows

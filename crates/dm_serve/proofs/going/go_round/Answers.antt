@@ -9,7 +9,7 @@ pub loop-round-init : goal.loop-round-init
 loop-round-init g c = record {
   going = record { setting = refl; as_many = refl; watching = c.requires.watching; shown = c.requires.shown };
   gone = λ s first start is gone. gone;
-  up = up_first _ _ _ _ c.args.watch.desk.table c.args.display.now c.show.new.self c.args.boards.now.items c.show.new.boards.items c.requires.none c.show.ensures;
+  up = up_first _ _ _ _ _ c.args.watch.desk.table c.args.display.now c.show.new.self c.args.boards.now.items c.show.new.boards.items c.requires.none c.show.ensures;
   batch = refl;
   sources = refl;
   later = omega arith;

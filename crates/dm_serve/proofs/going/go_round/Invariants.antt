@@ -15,7 +15,7 @@ invariant-loop-round g l =
           → HasGone g.S.Store.tells g.S.Store.seen g.S.Store.shown g.S.Store.may_leave g.S.Store.moment g.S.Store.left_since s first l.fn.watch start l.fn.journal
           → HasGone g.S.Store.tells g.S.Store.seen g.S.Store.shown g.S.Store.may_leave g.S.Store.moment g.S.Store.left_since s first l.watch start l.journal;
       up :
-          AreUp (λ b. (goal.Board-dyn g (b.vtable, b.value)).place b.value) (λ b. (goal.Board-dyn g (b.vtable, b.value)).times b.value)
+          AreUp (λ b. (goal.Board-dyn g (b.vtable, b.value)).place b.value) (λ b. (goal.Board-dyn g (b.vtable, b.value)).times b.value) (λ b. (goal.Board-dyn g (b.vtable, b.value)).flags b.value)
           (λ b. (goal.Board-dyn g (b.vtable, b.value)).faults b.value) (λ b. (goal.Board-dyn g (b.vtable, b.value)).is_sound b.value)
           l.watch.desk.table l.display l.fn.boards.items l.boards.items;
       batch : l.watch.batch ≡ l.fn.watch.batch;

@@ -1,9 +1,10 @@
 use Rattle.std.proofs.Common.{rules, ℕ, inl, inr, List, length, refl, sym, subst}
 use Rattle.dm_network.specs.Net.{Net}
+use Rattle.dm_publish.specs.Value.{Published}
 use Rattle.dm_cert.specs.Answers.{Setting}
 use Rattle.dm_cert.specs.declared.notes.Note.{Note}
 use Rattle.dm_cert.specs.Runs.{AreTrueNotes}
-use Rattle.dm_display.specs.Displays.{IsFor}
+use Rattle.dm_display.specs.Displays.{IsFor, shown_of}
 use Rattle.dm_publish.specs.Since.{AreUpSince}
 use Rattle.dm_table_desk.specs.Tables.{setting_of}
 use Rattle.dm_tail.proofs.Sources.{answer_sources}
@@ -12,7 +13,7 @@ use Rattle.dm_words.specs.ServerAsked.{server_of}
 use Rattle.dm_serve.specs.Inside.Stages.{IsGoing}
 use Rattle.dm_serve.proofs.Caught.{feeds_of}
 use Rattle.dm_serve.proofs.Ended.{ends_day, ends_round_so, ends_wanting_so, few_feeds, plans_under}
-use Rattle.dm_serve.proofs.Printed.{is_day, spelled_logs}
+use Rattle.dm_serve.proofs.Printed.{is_day, sorted_entries, spelled_logs}
 use Rattle.dm_serve.proofs.Stays.{shown_stays}
 use Rattle.dm_serve.proofs.serving.serve_watch.Goals as goal
 
@@ -29,9 +30,13 @@ go_round-requires-clause-fits g c =
     subst (λ (n : ℕ). IsFor c.args.watch.desk.table.network n c.in-Ok.display) c.len.ensures
     (subst (λ (net : Net). IsFor net c.len.result c.in-Ok.display) (sym c.requires.network) c.in-Ok.ensures.fits)
 
-pub end_day-requires : goal.end_day-requires
-end_day-requires g c =
+pub end_day-requires-clause-logs : goal.end_day-requires-clause-logs
+end_day-requires-clause-logs g c =
     spelled_logs g.T.Growing.given (setting_of c.args.watch.desk.plans c.args.watch.desk.table) (length c.args.watch.feeds.items) c.in-Ok-go_round.watch c.in-Ok-go_round.ensures.going c.notes.result.now
+
+pub end_day-requires-clause-sorted : goal.end_day-requires-clause-sorted
+end_day-requires-clause-sorted g c =
+    sorted_entries g.T.Growing.given (setting_of c.args.watch.desk.plans c.args.watch.desk.table) (length c.args.watch.feeds.items) c.in-Ok-go_round.watch c.in-Ok-go_round.ensures.going c.notes.result.now
 
 pub returns-in_default-clause-ends : goal.returns-in_default-clause-ends
 returns-in_default-clause-ends g c = λ start feeds low since.
@@ -57,11 +62,11 @@ returns-in-Ok-go_round-clause-ends g c = λ start feeds low since.
     let s : Setting = setting_of c.args.watch.desk.plans c.args.watch.desk.table in
     let going : IsGoing g.T.Growing.given s n c.in-Ok-go_round.watch = subst (λ (m : ℕ). IsGoing g.T.Growing.given s m c.in-Ok-go_round.watch) c.requires.as_many c.in-Ok-go_round.ensures.going in
     let noted = subst (AreTrueNotes (length c.in-Ok-go_round.watch.desk.table.history)) (sym c.notes.ensures) c.in-Ok-go_round.ensures.up.kept.noted in
-    let up : Net → List ℕ → List Note → Type 0 = λ net x notes.
-    AreUpSince (λ b. (goal.Board-dyn g (b.vtable, b.value)).place b.value) (λ b. (goal.Board-dyn g (b.vtable, b.value)).times b.value) (λ b. (goal.Board-dyn g (b.vtable, b.value)).faults b.value)
+    let up : Net → Published → List Note → Type 0 = λ net x notes.
+    AreUpSince (λ b. (goal.Board-dyn g (b.vtable, b.value)).place b.value) (λ b. (goal.Board-dyn g (b.vtable, b.value)).times b.value) (λ b. (goal.Board-dyn g (b.vtable, b.value)).flags b.value) (λ b. (goal.Board-dyn g (b.vtable, b.value)).faults b.value)
     (λ b. (goal.Board-dyn g (b.vtable, b.value)).is_sound b.value) net x notes c.args.boards.now.items c.go_round.new.boards.items in
-    let boards : up c.in-Ok-go_round.watch.desk.table.network c.in-Ok-go_round.watch.desk.table.times c.notes.result.now =
-    subst (up c.in-Ok-go_round.watch.desk.table.network c.in-Ok-go_round.watch.desk.table.times) (sym c.notes.ensures) c.in-Ok-go_round.ensures.up.shown in
+    let boards : up c.in-Ok-go_round.watch.desk.table.network (shown_of c.in-Ok-go_round.watch.desk.table) c.notes.result.now =
+    subst (up c.in-Ok-go_round.watch.desk.table.network (shown_of c.in-Ok-go_round.watch.desk.table)) (sym c.notes.ensures) c.in-Ok-go_round.ensures.up.shown in
     ends_day g.K.Sink.taken g.K.Sink.faults g.S.Store.tells g.S.Store.seen g.S.Store.shown g.S.Store.may_leave g.S.Store.moment g.S.Store.left_since g.S.Store.faults g.T.Growing.given g.T.Growing.faults
     up (server_of c.args.serving.now.words.now).run.feeds (server_of c.args.serving.now.words.now).store s feeds c.args.out.now c.end_day.new.out start c.go_round.new.journal
     c.in-Ok-go_round.watch.desk.table c.in-Ok-go_round.watch.feeds.items c.notes.result.now c.end_day.result
