@@ -18,17 +18,25 @@ def add_network(words: argparse.ArgumentParser) -> None:
     words.add_argument('net', metavar='NET', help='folder of a network, with Events-expanded.giv and Activities-expanded.giv')
 
 
-def add_delays(words: argparse.ArgumentParser) -> None:
+def add_start(words: argparse.ArgumentParser) -> None:
+    """The files that say how a day starts."""
     words.add_argument('--event-delays', metavar='NAME', help='file in NET with delays of events at the start, if any')
     activities = 'file in NET with delays of activities at the start, if any'
     words.add_argument('--activity-delays', metavar='NAME', help=activities)
+    words.add_argument('--cancelled', metavar='NAME', help='file in NET with events that are cancelled at the start, if any')
+
+
+def start_options(given: argparse.Namespace) -> list[str]:
+    """The options of the program that say how a day starts, as the words have them."""
+    options = (('event-delays', given.event_delays), ('activity-delays', given.activity_delays), ('cancelled', given.cancelled))
+    return [f'--{name}={value}' for name, value in options if value]
 
 
 def add_run(words: argparse.ArgumentParser) -> None:
-    """A network, the text of a run over it, and the delays at its start."""
+    """A network, the text of a run over it, and how its day starts."""
     add_network(words)
     words.add_argument('text', metavar='TEXT', help='the text of a run over it')
-    add_delays(words)
+    add_start(words)
 
 
 def whole_path(name: str) -> str:

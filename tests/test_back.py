@@ -9,7 +9,7 @@ from dispatch_tools.commands import to_gtfs
 from dispatch_tools.dev.feeds import SMALL, write_feed
 from dispatch_tools.formats.giv import read_network
 from dispatch_tools.formats.gtfs_rows import seconds_of
-from dispatch_tools.model.messages import DelayEvent, Message, Pass
+from dispatch_tools.model.messages import Cancel, DelayEvent, Message, Pass, Restore
 from dispatch_tools.model.railway import admit, cost_of, Rows, sound_times
 from tests.folders import read
 from tests.samples import lines_of_run
@@ -49,6 +49,20 @@ class Back(InNetwork):
         self.assertEqual(times, sorted(times))
         self.assertEqual(lines[-1], 'r1,07:13:20,07:13:20,B,5')
         self.assertIn('one that follows: 7, first the departure at A, call 1, 07:15:00 as 07:13:20', said)
+
+    def test_what_is_cancelled_is_left_out(self) -> None:
+        self.made(trips_and_times('r1 R 0 - A 07:00 B 07:10 C 07:30', 'r2 R 0 - A 09:00 B 09:10'))
+        said, lines = self.late([Cancel(3), Cancel(4), Cancel(5), Cancel(6)])
+        self.assertEqual(lines, ['r1,07:00:00,07:00:00,A,1', 'r1,07:10:00,07:10:00,B,2'])
+        self.assertEqual(said, 'to_gtfs: trip r1: calls that are cancelled and left out: 1\nto_gtfs: trip r2: it is cancelled, and left out\n')
+        self.assertEqual(read(self.folder, 'late', 'delays.csv').splitlines()[1:], ['r1,Red,,0,0,0,A,1'])
+        self.assertEqual(self.late([Cancel(5), Restore(5)])[0], '')
+
+    def test_a_train_stands_at_no_other_stop_as_at_its_ends(self) -> None:
+        files = {'stop_times.txt': [SMALL['stop_times.txt'][0], 'r1,07:55:00,08:00:00,A,1', 'r1,08:10:00,08:11:00,B,2', 'r1,08:30:00,08:34:30,C,3']}
+        self.made(files)
+        feed = write_feed(os.path.join(self.folder, 'ends'), {**SMALL, **files})
+        self.assertEqual(self.late([Cancel(3), Cancel(4)], f'--feed={feed}')[1], ['r1,07:55:00,08:00:00,A,1', 'r1,08:10:00,08:10:00,B,2'])
 
     def test_trains_stand_at_their_ends_as_the_feed_says(self) -> None:
         calls = ['r1,07:55:00,08:00:00,A,1', 'r1,08:10:00,08:11:00,B,2', 'r1,08:30:00,08:34:30,C,3']

@@ -15,8 +15,10 @@ from dispatch_tools.commands import carry as carry_command
 from dispatch_tools.days import carry
 from dispatch_tools.formats.giv import write_records
 from dispatch_tools.formats.runtext import Entry, Run
-from dispatch_tools.model.messages import DelayActivity, DelayEvent, Drop, First, Keep, Message, Now, Pass, Recall
-from dispatch_tools.model.network import Activity, Event, Network
+from dispatch_tools.model.messages import (
+    Cancel, DelayActivity, DelayEvent, Drop, First, Keep, Lock, Message, Now, Pass, Recall, Restore, Unlock,
+)
+from dispatch_tools.model.network import Activity, Change, Choice, Event, Network
 from dispatch_tools.model.railway import admit, apply, Rows, sound_times
 from tests.drawn import drawn_network
 from tests.samples import lines_of_run
@@ -24,8 +26,8 @@ from tests.samples import lines_of_run
 DAY = 86_400
 
 
-def drawn_journal(draws: Random, network: Network, most: int) -> list[Message]:
-    """Messages of all kinds that are accepted one after the other."""
+def drawn_journal(draws: Random, network: Network, most: int, cancels: bool = False) -> list[Message]:
+    """Messages of all kinds that are accepted one after the other; some cancel events and lock choices, where that is wanted."""
     rows = Rows(network)
     journal: list[Message] = []
     for _ in range(most):
@@ -37,6 +39,9 @@ def drawn_journal(draws: Random, network: Network, most: int) -> list[Message]:
             Drop(activity.id), Keep(activity.id), First(network.events[pair[0]].id, network.events[pair[1]].id),
             First(network.events[pair[1]].id, network.events[pair[0]].id),
         ]
+        if cancels:
+            choices: list[Choice] = [Change(activity.id), *map(network.pair_choice, range(len(network.pairs)))]
+            drawn += [Cancel(event.id), Restore(event.id), Lock(draws.choice(choices)), Unlock(draws.choice(choices)), Cancel(event.id)]
         message = draws.choice(drawn)
         refusal, after = admit(network, rows, len(journal), message)
         if refusal is None and after is not None:
@@ -77,6 +82,29 @@ class OneDay(unittest.TestCase):
                              carry.as_it_went(network, Rows(network), target, journal)):
                 self.assertEqual(vars(self.accepted(network, messages)), vars(target), seed)
 
+    def test_drawn_days_with_cancelled_events_and_locks(self) -> None:
+        cancelled, locked = 0, 0
+        for seed in range(200):
+            draws = Random(seed)
+            network = drawn_network(draws)
+            start = Rows(network, cancelled=[event.id for event in network.events if draws.random() < 0.05])
+            journal = [message for message in drawn_journal(draws, network, 40, True)]
+            target, accepted = start.copy(), list[Message]()
+            for message in journal:
+                refusal, after = admit(network, target, len(accepted), message)
+                if refusal is None and after is not None:
+                    target = after
+                    accepted.append(message)
+            cancelled, locked = cancelled + sum(target.cancelled), locked + len(target.locked)
+            rows = start
+            for count, message in enumerate(carry.messages_to(network, start, target, run_of(accepted))):
+                refusal, after = admit(network, rows, count, message)
+                self.assertIsNone(refusal, (seed, message))
+                assert after is not None
+                rows = after
+            self.assertEqual(vars(rows), vars(target), seed)
+        self.assertGreater(min(cancelled, locked), 100)
+
     def test_choices_that_a_pass_made_possible_go_as_they_went(self) -> None:
         """Two trains at two places: each order alone is free of cycles, both with nothing passed are not."""
         events = [Event(1, 'departure', 0, 0, 1), Event(2, 'departure', 50, 0, 2), Event(3, 'departure', 60, 0, 1),
@@ -95,6 +123,14 @@ class OneDay(unittest.TestCase):
         target = rows_after_all(network, [DelayEvent(1, 60)])
         self.assertFalse(carry.leads_to(network, Rows(network), target, [DelayEvent(1, 59)]))
         self.assertFalse(carry.leads_to(network, Rows(network), target, [DelayEvent(99_999, 60)]))
+
+    def test_a_check_is_of_a_day_that_starts_as_planned(self) -> None:
+        for word in '--event-delays=NAME', '--activity-delays=NAME', '--cancelled=NAME', '--to=NEXT':
+            told = io.StringIO()
+            with redirect_stderr(told), self.assertRaises(SystemExit) as ended:
+                carry_command.main(['NET', 'TEXT', '--check=DISPATCHER', word])
+            self.assertEqual(ended.exception.code, 2)
+            self.assertIn('--check goes with NET and TEXT alone', told.getvalue())
 
 
 # A train that leaves at 23:50, stands at a stop over midnight and arrives at 0:20; its other stop after midnight is at 0:30.

@@ -14,7 +14,7 @@ from dispatch_tools.commands import concerns as concerns_command
 from dispatch_tools.desk import concerns
 from dispatch_tools.desk.naming import Naming
 from dispatch_tools.formats.giv import read_network
-from dispatch_tools.model.messages import DelayEvent, Message, Pass
+from dispatch_tools.model.messages import Cancel, DelayEvent, Message, Pass
 from dispatch_tools.model.railway import Rows
 from tests.samples import lines_of_run, TOP
 
@@ -53,6 +53,12 @@ class Concerns(unittest.TestCase):
         self.assertEqual(status, 0)
         self.assertIn('there is time to change all the same', said)
         self.assertIn('cost: kept 0.0 passenger minutes, dropped 0.7 passenger minutes', said)
+
+    def test_a_change_of_a_cancelled_train_concerns_nobody(self) -> None:
+        for event, words in (2, 'Train 1 reaches Buche'), (5, 'Train 5 leaves Buche'):
+            status, said = self.said([DelayEvent(1, 60), Cancel(event)], '5')
+            self.assertEqual(status, 0)
+            self.assertEqual(said.splitlines()[2:], ['dropped: nobody is concerned', f'{words}: this is cancelled, so nobody changes there'])
 
     def test_no_change_and_a_train_that_has_left_are_refused(self) -> None:
         self.assertEqual(self.said([], '4')[0], 2)

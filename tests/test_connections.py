@@ -129,6 +129,12 @@ class OtherStations(Connections):
         trips = [*self.TRIPS[:3], 'g3 G 0 - B 08:25 D 08:40']
         self.assertEqual(self.changes('B,C,,,,,2,60', trips=trips)[0], [('r1 B', 'g3 B', 180)])
 
+    def test_guaranteed_ones_are_locked_if_that_is_asked(self) -> None:
+        net, _ = self.with_transfers(['r1 R 0 - A 08:00 B 08:10', 'g1 G 0 - B 08:15 D 08:30', 'g2 G 0 - B 08:17 E 08:34'], 'B,B,r1,g1,,,1,60',
+                                     options=['--lock-guaranteed'])
+        numbers = {ends: one.id for one, ends in zip((one for one in net.activities if one.kind == 'change'), self.activities(net, 'change'))}
+        self.assertEqual(read(self.net, 'Locked.txt'), f"lock {numbers['r1 B', 'g1 B', 60]}\n")
+
     def test_guaranteed_one_leads_to_another_station(self) -> None:
         self.assertEqual(self.changes('B,C,r1,g1,,,1,90', trips=self.TRIPS)[0], [('r1 B', 'g1 C', 90), ('r1 B', 'g3 B', 180)])
 

@@ -24,7 +24,7 @@ from dispatch_tools.desk.control import Control
 from dispatch_tools.desk.day import Day, Names
 from dispatch_tools.desk.effects import Alone, decisions_together, together_words
 from dispatch_tools.desk.feed import Feed, line_of
-from dispatch_tools.desk.handover import handover
+from dispatch_tools.desk.handover import handover, state
 from dispatch_tools.desk.locks import is_held
 from dispatch_tools.desk.reckoning import Reckoning
 from dispatch_tools.desk.rights import hosts_of, is_loopback, LONGEST_BODY, read_token, Rights
@@ -220,26 +220,91 @@ class Rooms(InRoom):
         self.assertEqual(self.screen()['told'][1]['stands'], 'taken back by line 2; now: Train 1 leaves Stop 1: not late by itself any more')
         self.assertRaises(Refused, self.room.undo, 1, 4)
 
-    def test_choices_that_are_entered_one_by_one_are_taken_back_together(self) -> None:
+    def test_what_is_still_free_of_a_plan_is_entered_and_taken_back_as_one(self) -> None:
         self.feed.tell(["# the number of the plan's line is 3", 'delay event 1 60', 'plan 100'])
         rounds = [round_of('', '2 delay event 1 60 -> 1 ok\n' + PLAN), round_of('1 delay event 3 1 -> 2 ok\n')]
         self.say(*rounds)
-        self.assertEqual(self.room.enter_choices(3), 4)
-        told = self.screen()['told'][0]
-        self.assertEqual((told['line'], told['numbers'], told['good'], told['sets']), (4, '4–5', None, ''))
+        self.assertEqual(self.room.carry(3), 4)
+        self.assertEqual(self.room.pending[4][0], 'carry')
         self.assertRaises(Refused, self.room.undo, 4)
-        lines = [self.room.pending[number][0] for number in (4, 5)]
-        rounds.append(round_of('', f'4 {lines[0]} -> 3 ok\n5 {lines[1]} -> 4 ok\n'))
+        rounds.append(round_of('', '4 carry -> 3 ok\n'))
         self.say(*rounds)
         told = self.screen()['told'][0]
-        self.assertEqual((told['answer'], told['good']), ('2 entered as 3 to 4', True))
-        self.assertEqual(self.room.undo(4).line, 6)
-        self.assertEqual(sorted(line for line, _ in self.room.pending.values()), ['first 3 5', 'keep 5'])
-        other = self.room_of(read_stops(CONNECTION))
-        while other.read_more():
-            pass
-        other.show()
-        self.assertEqual([row['numbers'] for row in json.loads(other.screen)['told']], ['4–5', '3', '2'])
+        self.assertEqual((told['words'], told['answer'], told['good']), ('adopt what is still free of the plan', 'entered as 3', True))
+        self.assertEqual(self.screen()['plan']['adopted'], 3)
+        self.assertEqual(self.room.undo(4).line, 5)
+        self.assertEqual([line for line, _ in self.room.pending.values()], ['first 3 5', 'keep 5'])
+
+    def test_what_is_no_longer_free_is_shown_before_the_rest_is_entered(self) -> None:
+        self.feed.tell(["# the number of the plan's line is 3", 'delay event 1 60', 'plan 100'])
+        begun = round_of('', '2 delay event 1 60 -> 1 ok\n' + PLAN)
+        self.say(begun, round_of('1 lock 5 -> 2 ok\n'))
+        with self.assertRaises(Doubted) as doubted:
+            self.room.carry(3)
+        self.assertRegex(doubted.exception.words[0], '^No longer free: .* this is locked')
+        self.assertEqual(doubted.exception.words[1], 'Still free: 1 choice of 2.')
+        self.assertEqual(self.room.pending, {})
+        self.assertEqual(self.room.carry(3, 2), 4)
+        self.room.pending.clear()
+        self.say(begun, round_of('1 lock 5 -> 2 ok\n'), round_of('2 pass 3 160 -> 3 ok\n'))
+        self.assertRaisesRegex(Refused, 'still free', self.room.carry, 3)
+
+    def test_a_train_is_cancelled_whole_or_in_part_after_a_question(self) -> None:
+        self.say()
+        for part, event, lines in [('whole', None, ['1', '2', '3', '4']), ('ends', 2, ['3', '4']), ('ends', 3, ['3', '4']), ('begins', 3, ['1', '2']),
+                                   ('begins', 2, ['1', '2'])]:
+            with self.assertRaises(Doubted) as doubted:
+                self.room.cancel(0, part, event)
+            first = self.room.cancel(0, part, event, 0)
+            self.assertEqual([self.room.pending[first + more][0] for more in range(len(lines))], [f'cancel {line}' for line in lines])
+            self.room.pending.clear()
+        self.assertEqual(doubted.exception.words[0], 'Train 1 is cancelled up to Stop 2: 10 passengers leave the train there, and 4 change.')
+        for train, part, event in [(9, 'whole', 1), ('0', 'whole', 1), (0, 'half', 1), (0, 'ends', 5), (0, 'ends', None), (0, 'again', 1)]:
+            self.assertRaises(Refused, self.room.cancel, train, part, event, 0)
+
+    def test_a_cancelled_train_is_shown_by_whom_and_runs_again(self) -> None:
+        first = self.room.put(['cancel 3', 'cancel 4'], 'Train 1 is cancelled')
+        self.room.pending.clear()
+        rounds = [round_of('1 delay event 1 600 -> 1 ok\n', f'{first} cancel 3 -> 2 ok\n{first + 1} cancel 4 -> 3 ok\n')]
+        self.say(*rounds)
+        screen = self.screen()
+        self.assertEqual(screen['cancelled'], [[0, 'Train 1', 'from Stop 2 on', '10 passengers leave the train there, and 0 change', 'feed 2, entry 2']])
+        self.assertEqual(screen['told'][0]['words'].split(':')[0], 'Train 1 is cancelled')
+        train = train_of(self.room.day, 0)
+        self.assertEqual([(row[4], row[10]) for row in train['events']], [('0:11:40', False), ('0:13:10', False), ('–', True), ('–', True)])
+        self.assertEqual(train['pairs'], [])
+        self.assertIn('class="run gone"', self.room.draw(Asked(0, None, None)).svg)
+        self.assertIn('Cancelled trains', handover(self.room))
+        self.assertEqual(self.room.undo(first).line, first + 2)
+        self.assertEqual([line for line, _ in self.room.pending.values()], ['restore 4', 'restore 3'])
+        self.room.pending.clear()
+        self.assertEqual(self.room.cancel(0, 'again', None), first + 4)
+        self.assertEqual([line for line, _ in self.room.pending.values()], ['restore 3', 'restore 4'])
+
+    def test_a_train_of_which_nothing_is_left_is_not_late(self) -> None:
+        self.say(round_of('1 delay event 1 600 -> 1 ok\n' + ''.join(f'{event + 1} cancel {event} -> {event + 1} ok\n' for event in (1, 2, 3, 4))))
+        self.assertEqual([row[0] for row in self.screen()['late']], [])
+        self.assertEqual(self.screen()['cancelled'][0][2], 'whole')
+        self.assertEqual(self.room.day.waits, {})
+
+    def test_a_choice_is_held_by_whom_and_let_go(self) -> None:
+        self.say()
+        self.assertEqual(self.room.pending[self.room.hold('keep', [5])][0], 'lock 5')
+        self.room.pending.clear()
+        first = self.room.hold('drop', [5])
+        self.assertEqual([line for line, _ in self.room.pending.values()], ['drop 5', 'lock 5'])
+        lines = ''.join(f'{first + more} {line} -> {more + 1} ok\n' for more, (line, _) in enumerate(self.room.pending.values()))
+        self.room.pending.clear()
+        self.say(round_of('', lines))
+        self.assertEqual(self.screen()['locks'], [[[5], 'Train 5 does not wait for Train 1 in Stop 2', 'feed 2, entry 2']])
+        self.assertTrue(all(row[6] for number in (0, 1) for row in train_of(self.room.day, number)['changes']))
+        self.assertRaisesRegex(Refused, 'locked', self.room.hold, 'keep', [5])
+        for kind, numbers in [('delay event', [1, 60]), ('keep', [99]), ('first', [1, 2]), (None, [5])]:
+            self.assertRaises(Refused, self.room.hold, kind, numbers)
+        back = self.room.undo(first).line
+        self.assertEqual([self.room.pending[back + more][0] for more in (0, 1)], ['unlock 5', 'keep 5'])
+        self.room.pending.clear()
+        self.assertEqual(self.room.pending.get(self.room.tell('unlock', [5]), [''])[0], 'unlock 5')
 
     def test_what_may_be_a_slip_is_asked(self) -> None:
         self.say(round_of('1 now 36000 -> 1 ok\n2 pass 1 36100 -> 2 ok\n'))
@@ -304,11 +369,11 @@ class Rooms(InRoom):
         for line in (4, 2, None, '3', True):
             self.assertRaises(Refused, self.room.adopt, line)
         self.assertEqual(self.room.tell('plan', [50]), 4)
-        for told in self.room.adopt, self.room.enter_choices:
-            self.assertRaises(Refused, told, 3)
+        self.assertRaises(Refused, self.room.adopt, 3)
+        self.assertRaises(Refused, self.room.carry, 3)
         self.say(round_of('', delayed + first), round_of('', second))
-        for told in self.room.adopt, self.room.enter_choices:
-            self.assertRaises(Refused, told, 3)
+        self.assertRaises(Refused, self.room.adopt, 3)
+        self.assertRaises(Refused, self.room.carry, 3)
         self.assertEqual(self.room.pending, {})
         self.assertEqual(self.room.adopt(4), 5)
         self.assertEqual(self.room.pending[5][0], 'adopt')
@@ -333,8 +398,22 @@ class Rooms(InRoom):
         self.assertFalse(self.screen()['plan']['old'])
         self.say(round_of('', '2 delay event 1 60 -> 1 ok\n' + PLAN), round_of('1 delay event 3 1 -> 2 ok\n'))
         self.assertTrue(self.screen()['plan']['old'])
-        self.assertEqual(self.room.enter_choices(3), 4)
-        self.assertEqual(sorted(text for text, _ in self.room.pending.values()), ['drop 5', 'first 5 3'])
+        self.assertEqual(self.room.carry(3), 4)
+
+    def test_how_much_of_a_plan_was_carried_over_and_that_it_was_taken_back(self) -> None:
+        self.feed.tell(['# the number of the plan\'s line is 3', 'delay event 1 60', 'plan 100'])
+        rounds = [round_of('', '2 delay event 1 60 -> 1 ok\n' + PLAN), round_of('1 lock 5 -> 2 ok\n')]
+        self.say(*rounds)
+        self.assertRaises(Doubted, self.room.carry, 3)
+        self.assertEqual(self.room.carry(3, 2), 4)
+        self.assertIsNone(self.screen()['plan']['carried'])
+        rounds.append(round_of('', '4 carry -> 3 ok\n'))
+        self.say(*rounds)
+        plan = self.screen()['plan']
+        self.assertEqual((plan['adopted'], plan['carried'], plan['count'], plan['undone']), (3, 1, 2, None))
+        self.assertEqual(self.room.undo(4).line, 5)
+        self.assertEqual(self.screen()['plan']['undone'], 5)
+        self.assertIn('adopted as entry 3, and taken back', state(self.room))
 
     def test_why_and_one_line_for_one_decision_at_several_stops(self) -> None:
         net = read_network(FORTY)

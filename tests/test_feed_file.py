@@ -28,6 +28,7 @@ from tests.samples import TOP
 WHOLE = [
     'delay event 12 600', 'delay activity 3 40', 'pass 41 30120', 'recall 41', 'keep 36', 'drop 36', 'first 13 5', 'now 30180', 'time 4',
     'cost', 'read', 'plan 4096', 'solve 16384', 'adopt', ' drop  007 ',
+    'cancel 12', 'restore 12', 'lock 36', 'lock 13 5', 'unlock 5 13', 'unlock 36', 'carry',
 ]
 
 

@@ -85,6 +85,35 @@ class Networks(unittest.TestCase):
             'malformed: numbers have no sign',
         ])
 
+    def test_lines_that_cancel_and_lock(self) -> None:
+        feed = self.write('f', 'cancel 9\nrestore 8\nlock 1\nlock 2 1\nunlock 7\nlock 3 9\ncarry\n')
+        found = self.found(EVENTS, '1; 1; "drive"; 1; 2; 90; 100; 0\n', [feed])
+        self.assertEqual([(line, what) for _, line, what in found], [
+            (1, 'there is no event 9'), (2, 'there is no event 8'), (3, 'activity 1 is no change'), (4, 'events 1 and 2 are no pair'),
+            (5, 'there is no activity 7'), (6, 'there is no event 9'),
+        ])
+
+    def test_gap_in_a_train(self) -> None:
+        train = '1; 1; "drive"; 1; 2; 90; 100; 0\n2; 2; "wait"; 2; 3; 10; 30; 0\n3; 3; "drive"; 3; 4; 80; 100; 0\n'
+        gaps = {
+            'cancel 2\ncancel 3\n': [(1, 'event 2 of train 1: it is cancelled, and the train runs on behind it')],
+            'cancel 4\n': [(1, 'event 3 of train 1: the train leaves, and the arrival behind it is cancelled')],
+            'cancel 1\n': [(1, 'event 2 of train 1: the train arrives, and the departure before it is cancelled')],
+            'cancel 1\ncancel 2\n': [], 'cancel 3\ncancel 4\n': [], 'cancel 1\ncancel 2\ncancel 3\ncancel 4\n': [],
+            'cancel 2\nrestore 2\ncancel 4\npass 4 300\n': [], 'cancel 3\ncancel 4\nrestore 4\n': [(1, 'event 3 of train 1: it is cancelled, '
+                                                                                          'and the train runs on behind it')],
+        }
+        for lines, due in gaps.items():
+            self.assertEqual([(line, what) for _, line, what in self.found(EVENTS, train, [self.write('f', lines)])], due, lines)
+
+    def test_events_that_are_cancelled_at_the_start(self) -> None:
+        self.found(EVENTS, '3; 3; "drive"; 3; 4; 80; 100; 0\n')
+        self.write('gone', '# events\n9\n4\n')
+        odd = [*oddities(read_files(self.folder.name), [], 'gone')]
+        self.assertEqual([(one.kind, one.line, one.what) for one in odd], [
+            ('refused', 2, 'there is no event 9'), ('gap', 3, 'event 3 of train 3: the train leaves, and the arrival behind it is cancelled'),
+        ])
+
     def test_only_so_many_lines_of_a_kind(self) -> None:
         feed = self.write('f', 'x\n' * 30)
         self.write('Events-expanded.giv', EVENTS)

@@ -16,13 +16,13 @@ from dispatch_tools.formats.journal import Blocks, Head, Journal, text_of
 from dispatch_tools.formats.protobuf import decode, encode
 from dispatch_tools.formats.runtext import Entry
 from dispatch_tools.commands import gtfs_rt_in as gtfs_rt_in_command
-from dispatch_tools.live import gtfs_rt_in
+from dispatch_tools.live.known import Known
 from dispatch_tools.live.serving import command_of, Server
 from dispatch_tools.model.messages import Adopt, DelayEvent, Drop, First, Message, Now
 from dispatch_tools.model.railway import apply, cost_of, Rows, sound_times
 from dispatch_tools.oracle.journals import at_rest, block
 from tests.folders import read
-from tests.samples import lines_of_run, TOP
+from tests.samples import lines_of_run, network, TOP
 from tests.test_gtfs import InNetwork, trips_and_times
 
 HEAD = b'dm-store 1\npenalty 3600\nplans 16\nfeeds 2\n'
@@ -94,6 +94,19 @@ class Journals(InStore):
         self.write(at_rest([HEAD, b'feed 1 1\n1 now 7 -> 2 ok\nfeed 2 1\n1 now 5 -> 1 ok\n']))
         self.assertEqual([entry.message for entry in Journal(str(self.store)).read()], [Now(5), Now(7)])
 
+    def test_carry_enters_what_was_free_before_its_entry(self) -> None:
+        """The order of the entries counts, and not that of the feeds."""
+        plan = PLANNED.split(b'feed 2 ')[1].split(b'\n', 1)[1].split(b'3 adopt')[0]
+        net = read_network(network('connection'))
+        cases: list[tuple[int, int, Adopt]] = [(2, 3, Adopt((First(5, 3),))), (3, 2, Adopt((Drop(5), First(5, 3))))]
+        for lock, carry, due in cases:
+            last = f'feed 1 1\n2 lock 5 -> {lock} ok\nfeed 2 1\n3 carry -> {carry} ok\n'.encode()
+            self.write(at_rest([HEAD, DELAYED, b'feed 1 0\nfeed 2 1\n' + plan, last]))
+            entries = Journal(str(self.store), net).read()
+            self.assertEqual([entry.message for entry in entries if isinstance(entry.message, Adopt)], [due])
+            with self.assertRaisesRegex(BadFile, 'has another form'):
+                Journal(str(self.store)).read()
+
     def test_what_is_no_journal_is_told(self) -> None:
         self.assertEqual(Journal(str(self.store)).read(), [])
         for blocks, said in (([b'dm-store 2\n'], 'line 1 of block 1'), ([HEAD, b'feed 1 0\n'], 'line 2 of block 2'),
@@ -116,6 +129,11 @@ class Texts(InStore):
         self.write(at_rest([HEAD]))
         told = text_of(program(self.store, 'printf "%s " "$@"'), 'net', str(self.store), ['--event-delays=late'])
         self.assertEqual(told.decode(), f'text net {self.store} feed feed --penalty=3600 --plans=16 --event-delays=late ')
+
+    def test_head_is_all_that_is_read(self) -> None:
+        """What a carried plan entered is known of its network alone."""
+        self.write(at_rest([HEAD, b'feed 1 1\n1 carry -> 1 ok\nfeed 2 0\n']))
+        self.assertEqual(text_of(program(self.store, 'echo done'), 'net', str(self.store)), b'done\n')
 
     def test_what_it_refuses_is_told(self) -> None:
         self.write(b'~')
@@ -163,14 +181,14 @@ class Realtime(InNetwork):
         net = read_network(self.net)
         # The other feed has reported another delay behind the first line, and the second one is not answered yet.
         self.journal(b'feed 1 1\n1 delay event 1 300 -> 1 ok\nfeed 2 1\n1 delay event 1 500 -> 2 ok\n')
-        known = gtfs_rt_in.Known(net, self.feed, self.store)
+        known = Known(net, self.feed, self.store)
         self.assertEqual(known.now().event_delays[0], 120)
-        self.assertEqual(gtfs_rt_in.Known(net, self.feed, self.store, 2).now().event_delays[0], 120)
+        self.assertEqual(Known(net, self.feed, self.store, 2).now().event_delays[0], 120)
         self.journal(b'feed 1 1\n1 delay event 1 300 -> 1 ok\nfeed 2 1\n1 delay event 1 500 -> 2 ok\n',
                      b'feed 1 1\n2 delay event 1 120 -> 3 ok\nfeed 2 1\n3 delay event 1 60 -> 4 ok\n')
         self.assertEqual(known.now().event_delays[0], 60)
         with self.assertRaisesRegex(BadFile, 'has no feed 3'):
-            gtfs_rt_in.Known(net, self.feed, self.store, 3).now()
+            Known(net, self.feed, self.store, 3).now()
 
     def test_only_what_the_server_does_not_show_is_told(self) -> None:
         self.journal(b'feed 1 0\nfeed 2 1\n1 delay event 1 300 -> 1 ok\n')

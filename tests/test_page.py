@@ -10,8 +10,9 @@ from typing import Any, ClassVar
 
 from dispatch_tools.dev.browser import Browser, CHROMIUM, MISSING
 from dispatch_tools.dev.hostile_names import HOSTILE
-from dispatch_tools.formats.giv import network_files
+from dispatch_tools.formats.giv import network_files, read_network
 from dispatch_tools.formats.names import in_print
+from dispatch_tools.model.messages import Cancel
 from dispatch_tools.model.network import Activity, Event, Network
 from dispatch_tools.pictures.scene import read_scene
 from dispatch_tools.pictures.view import page
@@ -156,6 +157,15 @@ class Reach(InBrowser):
             self.assertIn('RB 2 09:08 (trip west): Farnsee', self.find(wanted))
         self.assertEqual(self.find('trip nowhere'), 'Nothing is called “trip nowhere”.')
         self.assertEqual(self.browser.value("document.querySelector('#run caption').textContent"), 'RB 2 09:08, trip west')
+
+    def test_what_is_cancelled_is_struck_out(self) -> None:
+        net = read_network(network('six_stations'))
+        for events, said, gone in ((range(23, 29), 'RE 1 09:10 (trip back): cancelled.', 6), ((27, 28), 'A part of it is cancelled.', 2)):
+            name = self.written(f'gone{gone}', {'text': '\n'.join([*lines_of_run(net, [Cancel(event) for event in events]), ''])})
+            self.show(network('six_stations'), os.path.join(name, 'text'))
+            self.assertIn(said, self.find('back'))
+            rows = "[...document.querySelectorAll('#run tr.gone')].map(row => [row.cells[2].textContent, row.cells[4].textContent])"
+            self.assertEqual([[kind.split(', ')[1], now] for kind, now in self.browser.value(rows)], [['cancelled', '–']] * gone)
 
     def test_trains_that_are_not_drawn_are_found_and_told(self) -> None:
         net = ten_lines()

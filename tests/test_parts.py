@@ -18,7 +18,8 @@ from dispatch_tools.model.network import Change, Choice, Network
 from dispatch_tools.model.parts import (
     are_apart, beside, is_share, is_true_part, is_true_plan_by_parts, Part, PlanByParts, Share, within,
 )
-from dispatch_tools.model.railway import choice_of, cost_of, free_choices, Problem, Rows, times_of, ways_of, with_decisions
+from dispatch_tools.model.railway import choice_of, cost_of, free_choices, Rows, times_of, ways_of, with_decisions
+from dispatch_tools.model.true_plans import Problem
 from dispatch_tools.oracle.judging import verdict_on
 from tests.drawn import drawn_network, drawn_rows
 from tests.samples import network, TOP
@@ -327,6 +328,17 @@ class WithoutEnd(Random):
 
     def random(self) -> float:
         return 0.99
+
+
+class Workers(unittest.TestCase):
+    def test_two_workers_print_what_one_does(self) -> None:
+        runs = os.path.join(TOP, 'crates', 'dm_runs', 'data', 'runs')
+        texts: list[bytes] = []
+        for name in ('day_by_parts_by_one_worker', 'day_by_parts_by_two_workers'):
+            with open(os.path.join(runs, name, 'text'), 'rb') as text:
+                texts.append(text.read())
+        self.assertIn(b' parts 10 nodes 42\n', texts[0])
+        self.assertEqual(texts[0], texts[1])
 
 
 class Shares(unittest.TestCase):

@@ -16,9 +16,12 @@ from typing import Callable, Iterator, Optional, Sequence
 from dispatch_tools.commands import from_sol, to_mps
 from dispatch_tools.formats.solution import decisions_of, read_solution
 from dispatch_tools.model.decide import in_turn
-from dispatch_tools.model.messages import Decision, Drop, First
+from dispatch_tools.model.messages import Cancel, Decision, Drop, First, Lock, Message
 from dispatch_tools.model.programme import lp_text, mps_text, Posed, Programme, programme_of, Window
-from dispatch_tools.model.railway import admit, cost_of, free_choices, sound_times, times_of, ways_of, with_decisions
+from dispatch_tools.model.network import Network
+from dispatch_tools.model.railway import (
+    admit, cost_of, free_choices, refusal_at_once, Rows, rows_after, sound_times, times_of, ways_of, with_decisions,
+)
 from tests.drawn import drawn_network, drawn_rows
 from tests.folders import InFolder
 from tests.patience import PATIENCE
@@ -271,6 +274,15 @@ def has_scipy(python: str) -> bool:
     return os.access(python, os.X_OK) and subprocess.run(words, capture_output=True, check=False).returncode == 0
 
 
+def cut_short(draws: Random, net: Network, rows: Rows) -> Rows:
+    """The rows where an event is cancelled besides, and a choice that is still free is locked."""
+    messages: list[Message] = [Cancel(draws.choice(net.events).id), *(Lock(choice) for choice in free_choices(net, rows)[:1])]
+    for message in messages:
+        if refusal_at_once(net, rows, message) is None:
+            rows = rows_after(net, rows, message)
+    return rows
+
+
 class Solvers(InFolder):
     """The least objective by real solvers, where they are there."""
 
@@ -285,10 +297,13 @@ class Solvers(InFolder):
     def agree(self, program: str, command: Command, forms: Sequence[str] = ('mps', 'lp')) -> None:
         if shutil.which(program) is None:
             self.skipTest(f'{program} is not there')
-        for number in range(4):
+        settled = 0
+        for number in range(8):
             draws = Random(number)
             net = drawn_network(draws)
-            problem = Posed(net, drawn_rows(draws, net, 5), 20)
+            rows = drawn_rows(draws, net, 5)
+            problem = Posed(net, cut_short(draws, net, rows) if number >= 4 else rows, 20)
+            settled += len(free_choices(net, rows)) - len(free_choices(net, problem.rows))
             programme = programme_of(problem)
             least = min(cost for _, cost in all_costs(problem) if cost is not None)
             for form in forms:
@@ -298,6 +313,7 @@ class Solvers(InFolder):
                 choices = decisions_of(name, solution, free_choices(net, problem.rows))
                 after = with_decisions(net, problem.rows, choices)
                 self.assertEqual(cost_of(net, after, sound_times(net, after), 20), least)
+        self.assertGreater(settled, 4)
 
     def test_cbc(self) -> None:
         self.agree('cbc', lambda name, form, out: ['cbc', name, '-solve', '-solu', out])

@@ -1,7 +1,6 @@
 """GTFS-Realtime both ways: the wire format beside an independent decoder, what a run writes, and what of a message is new."""
 from __future__ import annotations
 
-import argparse
 import contextlib
 import io
 import os
@@ -20,7 +19,7 @@ from dispatch_tools.formats.protobuf import BadMessage, decode, encode, Message,
 from dispatch_tools.formats.realtime import beginning
 from dispatch_tools.commands import gtfs_rt_out as gtfs_rt_out_command
 from dispatch_tools.live import gtfs_rt_out
-from dispatch_tools.model.messages import DelayEvent, Drop, Message as Entered, Now, Pass
+from dispatch_tools.model.messages import Cancel, DelayActivity, DelayEvent, Drop, Message as Entered, Now, Pass, Restore
 from dispatch_tools.model.railway import admit, cost_of, Rows, rows_after, sound_times
 from tests.folders import read
 from tests.patience import PATIENCE
@@ -73,13 +72,18 @@ class Realtime(InNetwork):
         self.feed = os.path.join(self.folder, 'feed')
         self.count = 0
 
-    def heard(self, now: int, *entities: Message, options: Sequence[str] = ('--replay',)) -> tuple[str, list[str]]:
-        """What is said, and the lines of the feed, after a message."""
+    def named(self, now: int, *entities: Message) -> str:
+        """The name of a file with a message."""
         self.count += 1
         name = os.path.join(self.folder, f'm{self.count}')
         entity = [{'id': str(number), **one} for number, one in enumerate(entities)]
         with open(name, 'wb') as file:
             file.write(encode({'header': {'gtfs_realtime_version': '2.0', 'timestamp': MIDNIGHT + now}, 'entity': entity}))
+        return name
+
+    def heard(self, now: int, *entities: Message, options: Sequence[str] = ('--replay',)) -> tuple[str, list[str]]:
+        """What is said, and the lines of the feed, after a message."""
+        name = self.named(now, *entities)
         self.last = name
         status, said = self.call(gtfs_rt_in, self.net, self.feed, name, *options)
         self.assertEqual(status, 0, said)
@@ -129,15 +133,96 @@ class In(Realtime):
         self.assertEqual(lines, ['now 28700'])
 
     def test_what_cannot_be_said_is_told_by_name(self) -> None:
-        skipped = {'stop_sequence': 2, 'schedule_relationship': 1}
-        said, lines = self.heard(
-            28000, self.update('r1', skipped), self.update('g1', schedule_relationship=3), self.update('x9', call(1, departure=28800)),
-            self.update('r1', call(7, arrival=28800)), {'is_deleted': 1, **self.update('x8')})
+        said, lines = self.heard(28000, self.update('x9', call(1, departure=28800)), self.update('r1', call(7, arrival=28800)),
+                                 {'is_deleted': 1, **self.update('x8')})
         self.assertEqual(lines, ['now 28000'])
-        for line in ('calls that are skipped, which nothing can be said of: r1, call 2', 'trips that are cancelled, which nothing can be said of: g1 20261224',
-                     'trips that the network has not: x9 20261224', 'calls that the network has not: r1, call 7'):
+        for line in ('trips that the network has not: x9 20261224', 'calls that the network has not: r1, call 7'):
             self.assertIn(f'gtfs_rt_in: {line}\n', said)
         self.assertNotIn('x8', said)
+
+    def gone(self, trip: str, relation: int = 3) -> Message:
+        return {'trip_update': {'trip': {'trip_id': trip, 'schedule_relationship': relation}}}
+
+    def test_a_cancelled_trip_is_cancelled_until_a_message_has_it_no_more(self) -> None:
+        _, lines = self.heard(28000, self.gone('r1'))
+        self.assertEqual(lines, ['cancel 1', 'cancel 2', 'cancel 3', 'cancel 4', 'now 28000'])
+        self.assertEqual(self.heard(28010, self.gone('r1', 7))[1][5:], ['now 28010'])
+        _, lines = self.heard(28020, self.update('r1', call(1, departure=28800)))
+        self.assertEqual(lines[6:], ['restore 1', 'restore 2', 'restore 3', 'restore 4', 'now 28020'])
+        self.assertEqual(self.heard(28030, self.gone('r1'))[1][-2:], ['cancel 4', 'now 28030'])
+        self.assertEqual(self.heard(28040, self.update('g1', call(1, departure=29700)))[1][-3:], ['restore 3', 'restore 4', 'now 28040'])
+
+    def test_what_a_dispatcher_has_cancelled_stays_so(self) -> None:
+        store = os.path.join(self.folder, 'text')
+        with open(store, 'w', encoding='ascii') as file:
+            file.writelines(f'{line}\n' for line in lines_of_run(read_network(self.net), [Cancel(5), Cancel(6)]))
+        _, lines = self.heard(28000, self.update('g1', call(1, departure=29700)), options=('--replay', f'--text={store}'))
+        self.assertEqual(lines, ['now 28000'])
+
+    def test_what_has_passed_is_not_cancelled(self) -> None:
+        self.heard(29000, self.update('r1', call(1, departure=28800)))
+        self.assertEqual(self.heard(29010, self.gone('r1'))[1][2:], ['cancel 2', 'cancel 3', 'cancel 4', 'now 29010'])
+
+    SKIP_B = {'stop_sequence': 2, 'schedule_relationship': 1}
+
+    def test_the_changes_at_a_skipped_call_are_dropped(self) -> None:
+        said, lines = self.heard(28000, self.update('r1', self.SKIP_B))
+        change, = (one.id for one in read_network(self.net).activities if one.kind == 'change')
+        self.assertEqual(lines, [f'drop {change}', 'now 28000'])
+        self.assertIn('calls that are skipped, whose changes are dropped: r1, call 2', said)
+        self.assertEqual(self.heard(28010, self.update('r1', self.SKIP_B))[1][2:], ['now 28010'])
+
+    def test_a_skipped_call_is_past_where_a_later_one_is(self) -> None:
+        passing = self.update('r1', call(1, departure=28800), self.SKIP_B, call(3, arrival=30600))
+        self.assertEqual(self.heard(30000, passing)[1][1:], ['pass 1 28800', 'now 30000'])
+        self.assertEqual(self.heard(30700, passing)[1][3:], ['pass 4 30600', 'pass 2 29400', 'pass 3 29400', 'now 30700'])
+
+    def test_calls_through_which_trains_run_stand_in_a_file(self) -> None:
+        name = os.path.join(self.folder, 'Skipped.csv')
+        def shown(now: int, *entities: Message) -> list[str]:
+            self.heard(now, *entities, options=('--replay', f'--skipped={name}'))
+            return read(name).splitlines()[1:]
+        self.assertEqual(shown(28000, self.update('r1', self.SKIP_B)), ['1;2'])
+        self.assertEqual(shown(28010, self.update('r1', self.SKIP_B), self.gone('g1')), ['1;2'])
+        self.assertEqual(shown(28020, self.update('r1', call(2, arrival=29400))), [])
+        self.assertEqual(shown(28030, self.update('r1', self.SKIP_B)), ['1;2'])
+        self.assertEqual(shown(28040, self.gone('g1')), [])
+
+    def test_a_train_that_skips_its_last_calls_ends_early_and_one_that_skips_its_first_begins_late(self) -> None:
+        last = self.update('r1', call(2, arrival=29400, departure=29500), {'stop_sequence': 3, 'schedule_relationship': 1})
+        said, lines = self.heard(28000, last)
+        self.assertEqual(lines, ['cancel 3', 'cancel 4', 'now 28000'])
+        self.assertIn('trains that skip their first or last calls, which are cancelled: r1', said)
+        self.assertEqual(self.heard(28010, self.update('r1', call(3, arrival=30600)))[1][3:], ['restore 3', 'restore 4', 'now 28010'])
+        first = self.update('r1', {'stop_sequence': 1, 'schedule_relationship': 1}, call(2, departure=29400))
+        self.assertEqual(self.heard(28020, first)[1][6:], ['cancel 1', 'cancel 2', 'now 28020'])
+        whole = self.update('r1', *({'stop_sequence': place, 'schedule_relationship': 1} for place in (1, 2, 3)))
+        self.assertEqual(self.heard(28030, whole)[1][9:], ['cancel 3', 'cancel 4', 'now 28030'])
+        # What it does not do has not passed, whatever is told of it.
+        self.heard(28040, self.update('r1', call(1, departure=28800)))
+        late = self.heard(30700, self.update('r1', call(2, arrival=29400, departure=29500), {'stop_sequence': 3, 'schedule_relationship': 1}))[1]
+        self.assertEqual(late[17:], ['cancel 3', 'cancel 4', 'pass 2 29400', 'now 30700'])
+
+    def test_an_added_trip_runs_as_the_reserve_train_that_fits(self) -> None:
+        name = os.path.join(self.net, 'Cancelled.csv')
+        with open(name, 'w', encoding='ascii') as file:
+            file.write('5\n6\n')
+        def added(at: int, route: str, *stops: str) -> Message:
+            calls = [{'stop_id': stop, 'departure' if place == 0 else 'arrival': {'time': MIDNIGHT + at + 1000 * place}} for place, stop in enumerate(stops)]
+            return {'trip_update': {'trip': {'trip_id': 'extra', 'route_id': route, 'schedule_relationship': 1}, 'stop_time_update': calls}}
+        options = ('--replay', '--cancelled=Cancelled.csv')
+        for one in added(29700 + 901, '', 'B', 'C'), added(29700, 'X', 'B', 'A'):
+            said, lines = self.heard(28000 + self.count, one, options=options)
+            self.assertIn('trips that are added, for which no reserve train fits: extra', said)
+        _, lines = self.heard(28010, added(29760, '', 'B', 'C'), options=options)
+        self.assertEqual(lines[2:], ['restore 5', 'restore 6', 'delay event 5 60', 'now 28010'])
+        _, lines = self.heard(28020, added(29820, '', 'B', 'C'), options=options)
+        self.assertEqual(lines[6:], ['delay event 5 120', 'now 28020'])
+        # A process that goes on knows which train runs for which trip, however late it is, and cancels it with the trip.
+        gone = {'trip_update': {'trip': {'trip_id': 'extra', 'schedule_relationship': 3}}}
+        named = [self.named(28030, added(29700, '', 'B', 'C')), self.named(28040, added(31700, '', 'B', 'C')), self.named(28050, gone)]
+        self.assertEqual(self.call(gtfs_rt_in, self.net, self.feed, *named, *options)[0], 0)
+        self.assertEqual(read(self.feed).splitlines()[8:], ['delay event 5 0', 'now 28030', 'delay event 5 2000', 'now 28040', 'cancel 5', 'cancel 6', 'now 28050'])
 
     def test_times_that_fall_say_nothing(self) -> None:
         said, lines = self.heard(28000, self.update('r1', call(1, departure=29100), call(2, arrival=29000)))
@@ -195,6 +280,18 @@ class Out(Written):
         self.assertEqual([call['schedule_relationship'] for call in other['stop_time_update']], [2, 2])
         self.assertNotIn('departure', other['stop_time_update'][0])
 
+    def test_cancelled_train_and_train_that_ends_early(self) -> None:
+        message = decode(self.written(Cancel(3), Cancel(4), Cancel(5), Cancel(6), DelayEvent(1, 60)))
+        early, gone = (one['trip_update'] for one in message['entity'])
+        self.assertEqual(gone['trip'], {'trip_id': 'g1', 'start_date': DATE, 'schedule_relationship': 3})
+        self.assertNotIn('stop_time_update', gone)
+        self.assertEqual(early['stop_time_update'][1:], [
+            {'stop_sequence': 2, 'stop_id': 'B', 'schedule_relationship': 0, 'arrival': {'delay': 60, 'time': MIDNIGHT + 29460}},
+            {'stop_sequence': 3, 'stop_id': 'C', 'schedule_relationship': 1},
+        ])
+        again = decode(self.written_again(Cancel(5), Cancel(6), Restore(5), Restore(6)))
+        self.assertEqual([one['trip_update']['trip']['schedule_relationship'] for one in again['entity']], [0, 0])
+
     def test_trains_of_frequencies_are_told_by_their_times_alone(self) -> None:
         shutil.rmtree(self.net)
         frequencies = ['trip_id,start_time,end_time,headway_secs', 'r1,08:00:00,08:10:00,300']
@@ -208,14 +305,32 @@ class Out(Written):
         self.assertEqual(self.call(gtfs_rt_in, self.net, self.feed, '--replay', os.path.join(self.folder, 'out.pb')), (0, ''))
         self.assertEqual(read(self.feed).splitlines(), ['delay event 1 60', 'now 28000'])
 
+    def alerts(self, data: bytes) -> list[Message]:
+        return [one['alert'] for one in decode(data)['entity'] if 'alert' in one]
+
+    @staticmethod
+    def said(alert: Message) -> tuple[str, str]:
+        return alert['header_text']['translation'][0]['text'], alert['description_text']['translation'][0]['text']
+
     def test_dropped_changes_are_alerts(self) -> None:
+        # r1 arrives at B at 29400, its passengers need 180 seconds, and g1 leaves at 29700: with 121 seconds of delay they miss it.
         change = next(one for one in read_network(self.net).activities if one.kind == 'change')
-        alert, = (one['alert'] for one in decode(self.written(Drop(change.id), Now(28000)))['entity'] if 'alert' in one)
+        alert, = self.alerts(self.written(Drop(change.id), DelayEvent(1, 121), Now(28000)))
         self.assertEqual([(one['trip']['trip_id'], one['stop_id']) for one in alert['informed_entity']], [('r1', 'B'), ('g1', 'B')])
-        self.assertEqual(alert['header_text']['translation'][0]['text'], 'Red 08:00: no connection to Green 08:15 at Boll')
+        self.assertEqual(self.said(alert), ('Red 08:00: no connection to Green 08:15 at Boll', 'Green 08:15 does not wait at Boll for Red 08:00.'))
         self.assertEqual(alert['active_period'], [{'end': MIDNIGHT + 29700}])
-        gone = decode(self.written_again(Drop(change.id), Pass(change.head, 29700), Now(29700)))
-        self.assertEqual([one for one in gone['entity'] if 'alert' in one], [])
+        self.assertEqual(self.alerts(self.written_again(Drop(change.id), Pass(change.head, 29700), Now(29700))), [])
+
+    def test_a_dropped_change_that_is_met_all_the_same_is_said_as_such(self) -> None:
+        change = next(one for one in read_network(self.net).activities if one.kind == 'change')
+        met = ('Red 08:00: connection to Green 08:15 at Boll as things stand', 'Green 08:15 does not wait, but leaves Boll late enough.')
+        self.assertEqual(self.said(*self.alerts(self.written(Drop(change.id), DelayEvent(1, 120)))), met)
+        late = DelayActivity(change.id, 1)
+        self.assertNotEqual(self.said(*self.alerts(self.written_again(Drop(change.id), late, DelayEvent(1, 120)))), met)
+
+    def test_a_cancelled_train_has_no_alert_of_a_change(self) -> None:
+        change = next(one for one in read_network(self.net).activities if one.kind == 'change')
+        self.assertEqual(self.alerts(self.written(Drop(change.id), DelayEvent(1, 600), Cancel(5), Cancel(6))), [])
 
     def test_what_comes_out_goes_in_as_the_same_delay(self) -> None:
         data = self.written(DelayEvent(1, 60), Now(28000))
@@ -254,7 +369,7 @@ class Again(Written):
     def test_what_is_told_again_is_as_a_new_process_tells_it(self) -> None:
         self.written(DelayEvent(1, 60), Now(28000))
         text, out = os.path.join(self.folder, 'run', 'text'), os.path.join(self.folder, 'out.pb')
-        writer = gtfs_rt_out.Writer(argparse.Namespace(net=self.net, source=text, out=out, zone=None, now=None))
+        writer = gtfs_rt_out.Writer(gtfs_rt_out_command.words_of([self.net, text, out]))
         writer.write()
         late: Entered = DelayEvent(1, 120)
         days: list[list[Entered]] = [
@@ -269,7 +384,7 @@ class Again(Written):
     def test_is_written_anew_where_the_text_is_another_one(self) -> None:
         self.written(DelayEvent(1, 60), Now(28000))
         text, out = os.path.join(self.folder, 'run', 'text'), os.path.join(self.folder, 'out.pb')
-        writer = gtfs_rt_out.Writer(argparse.Namespace(net=self.net, source=text, out=out, zone=None, now=None))
+        writer = gtfs_rt_out.Writer(gtfs_rt_out_command.words_of([self.net, text, out]))
         seen = writer.write_again(None)
         os.remove(out)
         self.assertEqual(writer.write_again(seen), seen)
@@ -285,7 +400,7 @@ class Again(Written):
         self.written(DelayEvent(1, 60), Now(28000))
         text, folder = os.path.join(self.folder, 'run', 'text'), os.path.join(self.folder, 'public')
         out = os.path.join(folder, 'out.pb')
-        writer = gtfs_rt_out.Writer(argparse.Namespace(net=self.net, source=text, out=out, zone=None, now=None))
+        writer = gtfs_rt_out.Writer(gtfs_rt_out_command.words_of([self.net, text, out]))
         with open(folder, 'wb'):
             pass
         with contextlib.redirect_stderr(io.StringIO()) as said:

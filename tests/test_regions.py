@@ -268,6 +268,11 @@ class Lines(unittest.TestCase):
         out, said = self.relayed(b'1; 950, 2; 1000, 3; 1001\n1; 950, 2; 900, 3; 1001\n1; 900, 2; 900, 3; 1001\n')
         self.assertEqual((out, said), ('delay event 9 30\ndelay event 10 1\ndelay event 9 10\ndelay event 9 0\n', ''))
 
+    def test_nothing_waits_for_a_cancelled_event_of_a_neighbour(self) -> None:
+        out, said = self.relayed(b'1; 950, 2; 1000\n2; cancelled\n1; cancelled\n2; 1000\n1; cancelled, 2; 990\n')
+        self.assertEqual((out, said), (
+            'delay event 9 30\ndelay event 9 10\ndelay event 9 0\ndelay event 9 30\ndelay event 9 20\n', ''))
+
     def test_lines_of_another_form_are_skipped_and_counted(self) -> None:
         bad = [b'', b'x', b'1;900', b'1; 2; 3', b'1; 950,2; 5', '\u00b2; 950'.encode('latin-1'), b'1; ' + b'9' * 5000, b'\xff', b'1; 950\r']
         out, said = self.relayed(b'\n'.join([*bad, b'1; 950', b'1; ' + b'9' * 5_000_000, b'2; 99999999999', b'2; 1000', b'']))
@@ -355,6 +360,8 @@ class Lines(unittest.TestCase):
         out, said = self.run_tool(b'1; 950\n2; 7\n\n1; 960\n3; 8', 'board')
         self.assertEqual(out, '1; 960, 2; 7\n')
         self.assertEqual(said, 'board: line 3 is skipped: it is no line `event; time`\nboard: lines skipped: 1\n')
+        out, said = self.run_tool(b'1; 950\n2; 7\n1; cancelled\n3; canceled\n', 'board')
+        self.assertEqual((out, said.count('is skipped')), ('1; cancelled, 2; 7\n', 1))
 
     def test_whole_boards_are_written_again(self) -> None:
         words = [*words_of('board'), '--again=1']

@@ -15,7 +15,7 @@ from dispatch_tools.commands import gtfs_rt_in as gtfs_rt_in_command
 from dispatch_tools.dev.feeds import write_feed
 from dispatch_tools.formats.files import BadFile
 from dispatch_tools.formats.protobuf import BadMessage, decode, encode, Message, MOST_FIELDS, MOST_PARTS, read_message, Reading
-from dispatch_tools.live import gtfs_rt_in
+from dispatch_tools.live import trips
 from dispatch_tools.live.feed_file import append
 from tests.folders import read
 from tests.patience import PATIENCE
@@ -247,13 +247,13 @@ class TooMuch(unittest.TestCase):
         self.assertEqual(read_message(b'\x78\x00' * 10, 'FeedMessage', 0, 20, Reading(fields=10)), {})
 
     def test_few_lines_of_a_kind_are_shown(self) -> None:
-        said = gtfs_rt_in.Said()
+        said = trips.Said()
         with contextlib.redirect_stderr(io.StringIO()) as told:
-            for number in range(3 * gtfs_rt_in.SHOWN):
+            for number in range(3 * trips.SHOWN):
                 said.tell('trips that the network has not', f'trip {number // 2}')
         lines = told.getvalue().splitlines()
-        self.assertEqual((len(lines), said.counts.total()), (gtfs_rt_in.SHOWN + 1, 3 * gtfs_rt_in.SHOWN))
-        self.assertEqual(lines[-1], f'gtfs_rt_in: trips that the network has not: more than {gtfs_rt_in.SHOWN}, and no more are shown')
+        self.assertEqual((len(lines), said.counts.total()), (trips.SHOWN + 1, 3 * trips.SHOWN))
+        self.assertEqual(lines[-1], f'gtfs_rt_in: trips that the network has not: more than {trips.SHOWN}, and no more are shown')
 
 
 if __name__ == '__main__':

@@ -66,7 +66,7 @@ class Reports(InFolder):
 
 
 class Engines(InFolder):
-    """A study by a stand-in for Dask, whose workers are this process; the real one is tried as docs/STUDIES.md says."""
+    """A study by a stand-in for Dask, whose workers are this process; the real one is tried as the help of `study` says."""
 
     def test_outcomes_of_a_cluster_are_those_of_processes(self) -> None:
         asked: list[tuple[str, int]] = []

@@ -26,8 +26,8 @@ from typing import Callable, Sequence
 
 from dispatch_tools.bench.desk_page import choose, Desk, fill, has, press, text, until, visit, Wrong
 from dispatch_tools.bench.desk_steps import (
-    closes_the_day, hands_over, looks, names_trains, one_unit, previews, restarts, SCHEMES, sees_alerts, shows_clocks, shows_conflicts, shows_some_alone,
-    SIZES, slips, takes_back_with_care,
+    cancels_a_train, carries_a_plan, closes_the_day, corrects_a_colleague, hands_over, holds_a_choice, looks, names_trains, one_unit, previews,
+    restarts, SCHEMES, sees_alerts, shows_clocks, shows_conflicts, shows_some_alone, SIZES, slips, takes_back_with_care,
 )
 from dispatch_tools.dev.browser import Browser, CHROMIUM, MISSING
 from dispatch_tools.dev.hostile_names import HOSTILE
@@ -125,7 +125,7 @@ def plans(browser: Browser, desk: Desk) -> None:
 def tries(browser: Browser, desk: Desk) -> None:
     """A window with a choice held, and the waiting rules; nothing of them is entered."""
     entries = browser.value(text('#entries'))
-    press(browser, 'Hold in what-if: ')
+    press(browser, 'Leave alone in what-if: ')
     fill(browser, 'begin', '6:00')
     fill(browser, 'end', '6:30')
     press(browser, 'Plan this window')
@@ -277,8 +277,9 @@ def pictures(browser: Browser, folder: str, trains: int) -> None:
 
 
 WORK: list[Callable[[Browser, Desk], None]] = [
-    reports_a_delay, takes_it_back, shows_conflicts, names_trains, shows_some_alone, shows_clocks, drops_a_change, turns_a_pair, reports_what_passed,
-    slips, takes_back_with_care, sees_alerts, looks, plans, hands_over, tries, one_unit, is_killed, closes_the_day, keys,
+    reports_a_delay, takes_it_back, shows_conflicts, names_trains, shows_some_alone, shows_clocks, cancels_a_train, holds_a_choice,
+    carries_a_plan, drops_a_change, turns_a_pair, reports_what_passed,
+    slips, takes_back_with_care, corrects_a_colleague, sees_alerts, looks, plans, hands_over, tries, one_unit, is_killed, closes_the_day, keys,
 ]
 
 

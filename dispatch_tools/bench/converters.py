@@ -8,7 +8,6 @@ the seconds of their parts, as with --every: what a converter reads once, its fi
 """
 from __future__ import annotations
 
-import argparse
 import contextlib
 import io
 import os
@@ -19,13 +18,16 @@ import zipfile
 from typing import Callable, Sequence, TypeVar
 
 from dispatch_tools.bench.measured import measured, Measured
+from dispatch_tools.commands.gtfs_rt_out import words_of as asked
 from dispatch_tools.dev.feeds import DATE, large_feed, write_feed
 from dispatch_tools.formats.giv import read_network
 from dispatch_tools.formats.protobuf import decode, encode, Message
 from dispatch_tools.formats.realtime import read_named
 from dispatch_tools.here import words_of
-from dispatch_tools.live.gtfs_rt_in import Known, Listener, Said
+from dispatch_tools.live.gtfs_rt_in import Listener
 from dispatch_tools.live.gtfs_rt_out import Writer
+from dispatch_tools.live.known import Known
+from dispatch_tools.live.trips import Said
 from dispatch_tools.words import command_line, whole_between
 
 Made = TypeVar('Made')
@@ -92,7 +94,7 @@ def parts_of_in(net: str, feed: str, message: Message) -> None:
 
 
 def parts_of_out(net: str, text: str, out: str) -> None:
-    writer = took('it reads the names', lambda: Writer(argparse.Namespace(net=net, source=text, out=out, zone=None, now=None)))
+    writer = took('it reads the names', lambda: Writer(asked([net, text, out])))
     took('it writes the first message', writer.write)
     took('it writes it again', writer.write)
 

@@ -95,6 +95,18 @@ def takes_back_with_care(browser: Browser, desk: Desk) -> None:
     until(browser, has('#told', 'taken back by line') + ' && ' + has('#told', 'now: Train 41 leaves Stop 23: not late by itself'), 'what stands now')
 
 
+def corrects_a_colleague(browser: Browser, desk: Desk) -> None:
+    """What is reported anew holds, whoever has said something before."""
+    desk.tell('delay event 41 480')
+    until(browser, has('#journal tbody tr', '8 min late'), 'a colleague has reported a delay')
+    fill(browser, 'event', '41')
+    fill(browser, 'minutes', '3')
+    press(browser, 'Is late')
+    until(browser, has('#journal tbody tr', '3 min late') + ' && ' + has('[data-beside=tell]', '3 min late: entered as'), 'the correction is the last word')
+    press(browser, 'Not late by itself')
+    until(browser, has('#journal tbody tr', 'not late by itself'), 'the delay is taken away')
+
+
 def sees_alerts(browser: Browser, desk: Desk) -> None:
     """An alert is seen at all desks by name, and is there again when it is worse by five minutes."""
     desk.tell('delay event 81 360')
@@ -234,6 +246,79 @@ def previews(browser: Browser, desk: Desk) -> None:
     until(browser, f'{drawn} === 1', 'the plan is not shown')
     browser.value("document.getElementById('preview').click()")
     until(browser, f'{drawn} > 1', 'the plan is shown again')
+
+
+def cancels_a_train(browser: Browser, desk: Desk) -> None:
+    """A train is cancelled from a stop on after a question, is shown struck out everywhere, and runs again."""
+    choose(browser, 'trains', '2')
+    until(browser, has('#train caption', 'Train 41'), 'the train is shown')
+    fill(browser, 'event', '45')
+    press(browser, 'Ends there')
+    until(browser, f'{ASKED} && {has("#question", "is cancelled from ")} && {has("#question", "passengers leave the train there")}', 'it is asked')
+    press(browser, 'Leave it')
+    until(browser, f'!{ASKED}', 'nothing is asked any more')
+    if any(line.startswith('cancel') for line in own_lines(desk)):
+        raise Wrong('what was left stands in the feed')
+    fill(browser, 'event', '45')
+    press(browser, 'Ends there')
+    until(browser, ASKED, 'it is asked again')
+    press(browser, 'Do it all the same')
+    gone = "document.querySelectorAll('#train tbody tr.gone').length"
+    until(browser, f'{gone} > 10 && {has("#late tr.gone", "Train 41")} && {has("#late tr.gone", f"By {NAME}")}', 'it is struck out')
+    until(browser, "!!document.querySelector('#view .train[data-t=\"2\"] .gone')", 'its path is struck out')
+    until(browser, has('#choices .gone', 'cancelled'), 'its changes are struck out')
+    if not browser.value(has('#board', 'Train 41')):
+        choose(browser, 'stops', '26')
+    until(browser, has('#board tr.gone', 'Train 41'), 'the board strikes it out')
+    at_each_look(browser, desk, 'cancelled', in_sight(browser, '#view', '#train', '#late'))
+    press(browser, 'Undo: Train 41 is cancelled')
+    until(browser, f'{gone} === 0 && !{has("#late", "cancelled")}', 'it runs again')
+    until(browser, has('[data-beside=tell]', 'taken back'), 'the answer beside the button says that it was taken back')
+    for button, part in ('Begins there', 'up to'), ('Runs again', ''), ('Cancel the train', ''), ('Runs again', ''):
+        before = len(own_lines(desk))
+        fill(browser, 'event', '45')
+        press(browser, button)
+        if button != 'Runs again':
+            until(browser, f'{ASKED} && {has("#question", f"Train 41 is cancelled {part}".strip())}', 'it is asked')
+            press(browser, 'Do it all the same')
+        until(browser, f'{gone} > 0 === {str(button != "Runs again").lower()} && {has("[data-beside=tell]", "entered as")}', f'{button}: it is shown')
+        words = {line.split()[0] for line in own_lines(desk)[before:]}
+        if words != {'restore' if button == 'Runs again' else 'cancel'}:
+            raise Wrong(f'{button} writes {words}')
+
+
+def holds_a_choice(browser: Browser, desk: Desk) -> None:
+    """A choice is held: it is locked, nobody turns it, and the page says who holds it, until it is let go."""
+    choose(browser, 'trains', '2')
+    until(browser, has('#train caption', 'Train 41'), 'the train is shown')
+    press(browser, 'Hold: Train 41 ')
+    until(browser, has('#locks ul', f'by {NAME} (feed 2)') + ' && ' + has('#choices', ', held'), 'it is held')
+    lock = next(line.split()[1:] for line in reversed(own_lines(desk)) if line.startswith('lock '))
+    desk.tell(f'drop {lock[0]}' if len(lock) == 1 else f'first {lock[1]} {lock[0]}', f'first {lock[0]} {lock[-1]}')
+    at_each_look(browser, desk, 'held', in_sight(browser, '#locks', '#choices'))
+    with open(desk.server.reply(0), encoding='ascii') as file:
+        until_so(lambda: 'locked' in file.read(), 'a colleague is told that it is locked')
+    press(browser, 'Let go: ')
+    until(browser, has('#locks ul', 'None.') + f' && !{has("#choices", ", held")}', 'it is let go')
+
+
+def carries_a_plan(browser: Browser, desk: Desk) -> None:
+    """Of a plan that has become old, what is still free is entered as one, after what is no longer free was shown."""
+    desk.tell('delay event 41 600', 'delay event 61 900', 'delay event 101 300')
+    until(browser, has('#late', 'Train 61'), 'others report delays')
+    press(browser, 'Ask for a plan')
+    until(browser, has('#planned', 'instead of') + ' && ' + has('#planned', 'Nothing was entered since'), 'what the plan would change')
+    choice = browser.value("[...document.querySelectorAll('#planned div[aria-label=Choices] tbody tr .num')].map(one => one.textContent.trim().split('; ')[0])")[0].split()
+    desk.tell(f'lock {" ".join(choice[1:])}')
+    until(browser, has('#planned', 'is old'), 'the plan became old')
+    press(browser, 'Enter what is still free')
+    until(browser, f'{ASKED} && {has("#question", "No longer free: ")} && {has("#question", "Still free: ")}', 'what is no longer free')
+    press(browser, 'Do it all the same')
+    until(browser, has('#planned', 'Adopted as entry') + ' && ' + has('#planned', 'what was still free'), 'what is still free is entered')
+    at_each_look(browser, desk, 'carried', in_sight(browser, '#planned'))
+    press(browser, 'Undo: adopt what is still free of the plan')
+    until(browser, has('#told', 'taken back by line') + ' && ' + has('#planned', 'Taken back by line'), 'it is taken back')
+    desk.tell(f'unlock {" ".join(choice[1:])}', 'delay event 41 0', 'delay event 61 0', 'delay event 101 0')
 
 
 def closes_the_day(browser: Browser, desk: Desk) -> None:

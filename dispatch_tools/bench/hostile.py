@@ -37,7 +37,7 @@ FAKETIME = Path('/usr/lib/x86_64-linux-gnu/faketime/libfaketime.so.1')
 USAGE = b'usage: serve DIR STORE FEED.. | text DIR STORE FEED..\n'
 
 # The lines of the first feed that are answered.
-DUE = (2, 4, 5, 6, 7, 8, 9, 10)
+DUE = (2, *range(4, 15))
 
 
 # ---- feeds
@@ -59,7 +59,7 @@ def feed_cut(day: Day) -> None:
 
 def feed_cut_within_a_line(day: Day) -> None:
     day.feeds[0].write_bytes(FEEDS[0][:-1])
-    refused(day, b'refused feed 1 line 10\n')
+    refused(day, b'refused feed 1 line %d\n' % DUE[-1])
 
 
 def feed_empty(day: Day) -> None:

@@ -7,7 +7,7 @@ import subprocess
 import time
 from collections.abc import Callable
 
-from dispatch_tools.bench.hostile_day import Day, expect, goes_on, PATIENCE, refused
+from dispatch_tools.bench.hostile_day import Day, expect, FEEDS, goes_on, PATIENCE, refused
 from dispatch_tools.bench.kill import Wrong
 
 # So many bytes, and answers to so many lines without a form, are more than four fifths of a journal.
@@ -109,7 +109,7 @@ def journal_short_of_room(day: Day) -> None:
 
 def journal_filled(day: Day) -> None:
     """The same with a journal that is filled by answers."""
-    day.append(0, b'x\n' * (MUCH - 10))
+    day.append(0, b'x\n' * (MUCH - FEEDS[0].count(b'\n')))
     day.options = ['--batch=1000000']
     for word in (b'plan', b'solve'):
         plan_waits(day, word, lambda: day.reply(0).endswith(b'\n%d malformed\n' % MUCH))

@@ -10,9 +10,11 @@ from dispatch_tools.bench.kill import part_of, Wrong
 from dispatch_tools.live.serving import command_of
 PATIENCE = 120
 
-# What the feeds hold: lines that are answered, and lines that are not.
+# What the feeds hold: lines that are answered, and lines that are not. When the plan is carried over, one of its choices is
+# locked, and of another one a train is cancelled.
 FEEDS = (
-    b'# the first feed\ndelay event 1 60\n\ncost\ntime 2\nsolve 30\nadopt\nread\nno line\ndelay event 21 120\n',
+    b'# the first feed\ndelay event 1 900\n\ncost\ntime 2\nsolve 30\nadopt\nread\nno line\ndelay event 21 120\n'
+    b'lock 621\ncancel 165\ncarry\nrestore 165\n',
     b'cost\n   \ndelay event 41 30\r\n# a word\ndelay event 41 0\npass 1 22000\n',
     b'read\n',
 )

@@ -24,7 +24,7 @@ import time
 from collections.abc import Iterator, Sequence
 from pathlib import Path
 
-from dispatch_tools.days.generated import Draws, FEED, mixed, write_day
+from dispatch_tools.days.generated import activities, departure, Draws, FEED, mixed, write_day
 from dispatch_tools.formats.runtext import due_items, read_run, Run
 from dispatch_tools.live.serving import command_of
 from dispatch_tools.model.messages import Adopt, Message
@@ -33,7 +33,9 @@ from dispatch_tools.words import add_program, command_line
 LIVES = 500
 FEEDS = 3
 PLANS = 12
-ODD = ['\n', '   \n', '# a word\n', 'delay\n', 'time  7\r\n', 'adopt\n', 'x' * 1500 + '\n', 'plan 0\n', 'solve 0\n', 'delay event 1 1 1\n']
+ODD = [
+    '\n', '   \n', '# a word\n', 'delay\n', 'time  7\r\n', 'adopt\n', 'carry\n', 'x' * 1500 + '\n', 'plan 0\n', 'solve 0\n', 'delay event 1 1 1\n',
+]
 
 
 class Wrong(Exception):
@@ -41,16 +43,34 @@ class Wrong(Exception):
 
 
 def lines_of(number: int, trains: int) -> Iterator[str]:
-    """The lines of a feed, without end: those of a generated day, some plans of both kinds, and some that are odd."""
-    draws, plans = random.Random(number), 0
+    """The lines of a feed, without end: those of a generated day, lines that cancel events and lock choices, some plans of both
+    kinds, which are adopted at once or carried over behind other lines, and some that are odd."""
+    draws, plans, taken = random.Random(number), 0, taken_away(random.Random(number + 2000), trains)
     for line in mixed(Draws(number), trains):
         yield line
+        if draws.random() < 0.1:
+            yield next(taken)
         if draws.random() < 0.05:
             yield draws.choice(ODD)
         if plans < PLANS and draws.random() < 0.004:
             plans += 1
             yield f'{draws.choice(["plan", "solve"])} {draws.choice([1, 30, 300])}\n'
-            yield 'adopt\n'
+            yield 'adopt\n' if draws.random() < 0.5 else next(taken) + 'carry\n'
+
+
+def taken_away(draws: random.Random, trains: int) -> Iterator[str]:
+    """Lines that cancel events and lock choices, and later restore and unlock many of them."""
+    last, taken = sum(1 for _ in activities(trains)), list[str]()
+    while True:
+        train, leg = draws.randrange(trains), draws.randrange(10)
+        if taken and draws.random() < 0.4:
+            yield taken.pop(draws.randrange(len(taken)))
+        else:
+            done, undone = draws.choice([('cancel', 'restore'), ('lock', 'unlock')])
+            event, pair = departure(train, leg) + draws.randrange(2), f'{departure(train, leg)} {departure(train + 8, leg)}'
+            what = event if done == 'cancel' else draws.choice([last - draws.randrange(trains - 1), pair])
+            taken.append(f'{undone} {what}\n')
+            yield f'{done} {what}\n'
 
 
 class Source(threading.Thread):

@@ -21,8 +21,14 @@ by which a passenger arrives late, on average, and the seconds of processor of t
 their intervals of 95 %, and two pictures, if Debian's python3-matplotlib is installed. `check` judges each text.
 
 A study that was broken off goes on where it was, if the words are the same. It uses all processors, or as many as --jobs says.
---engine=dask gives the days to a cluster of Dask at --scheduler (Debian's python3-distributed), whose workers have DISPATCHER and
-NET under the same paths. docs/STUDIES.md says how one is started.
+--engine=dask gives the days to a cluster of Dask at --scheduler (Debian's python3-distributed). Each worker needs the repository,
+DISPATCHER and NET under the same paths as where the study is started. Start one for each processor, in the folder of your policies:
+
+    dask-scheduler --host HOST --port 8786 --no-dashboard
+    PYTHONPATH=REPOSITORY dask-worker tcp://HOST:8786 --nthreads 1 --no-nanny --no-dashboard
+    /usr/bin/python3 REPOSITORY/dispatch-tools study DISPATCHER NET FOLDER --days=100 --engine=dask --scheduler=HOST:8786
+
+Anybody who reaches a scheduler can run code on its workers: keep its port within a network that you trust.
 """
 from __future__ import annotations
 

@@ -2,7 +2,8 @@
 
 DM_SPEED is the built program of dm_speed. Each row makes COUNT changes of a kind (1,000,000). It has the nanoseconds of processor
 time for each, less those of a day without changes. `pass` passes and recalls the last event of a day. `apart` does so with one
-event of a pair between whose events 20,000 others stand.
+event of a pair between whose events 20,000 others stand. `cancel` cancels or restores all twenty events of a train that is ten
+minutes late.
 """
 from __future__ import annotations
 
@@ -14,7 +15,7 @@ from dispatch_tools.words import command_line, whole_path
 
 REPEATS = 3
 
-KINDS = ['still', 'event', 'train', 'order', 'choice', 'pass', 'apart', 'decision']
+KINDS = ['still', 'event', 'train', 'order', 'choice', 'pass', 'apart', 'decision', 'cancel']
 
 
 def timed(words: list[str]) -> float:

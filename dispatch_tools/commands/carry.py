@@ -1,8 +1,8 @@
 """Prints the lines of a feed that lead to where a day stands: dispatch-tools carry NET TEXT [--to=NEXT]
 
 TEXT is the text of a run over the network NET, or what `dispatcher text` prints of a store. The lines say what holds behind its
-last entry: delays, choices, what has passed, and the clock. What was corrected since is left out, and so are questions and plans.
-So a day whose journal is full goes on in a new store: let the lines be answered before any source says more.
+last entry: delays, choices, locks, what has passed or is cancelled, and the clock. What was corrected since is left out, and so are
+questions and plans. So a day whose journal is full goes on in a new store: let the lines be answered before any source says more.
 
 With --to the lines are for NEXT, the network of the next day, in which the trains that run past midnight stand again. An event of
 NET is found there by its trip (both have Events.csv and Day.csv, as dispatch-tools from_gtfs writes them with --day-before), or
@@ -20,10 +20,10 @@ from typing import Sequence
 
 from dispatch_tools.days.carry import differs, lines_of_the_day, read_days, rows_of_next_day, without_cycles
 from dispatch_tools.formats.files import BadFile, speak_utf8
-from dispatch_tools.formats.giv import read_delays, read_network
+from dispatch_tools.formats.giv import read_network, start_rows
 from dispatch_tools.model.railway import Rows
 from dispatch_tools.pictures.scene import read_text, rows_of
-from dispatch_tools.words import add_run, command_line, whole_between, whole_path
+from dispatch_tools.words import add_run, command_line, start_options, whole_between, whole_path
 
 
 def main(argv: Sequence[str] | None = None) -> int:
@@ -33,14 +33,14 @@ def main(argv: Sequence[str] | None = None) -> int:
     words.add_argument('--shift', metavar='S', type=whole_between(1, 999_999_999), help='seconds from midnight to midnight (86400)')
     words.add_argument('--check', metavar='DISPATCHER', type=whole_path, help='the built program, which has to find the same times')
     given = words.parse_args(argv)
-    if given.check and (given.to or given.event_delays or given.activity_delays):
+    if given.check and (given.to or start_options(given)):
         words.error('--check goes with NET and TEXT alone')
     if given.shift is not None and not given.to:
         words.error('--shift goes with --to')
     speak_utf8()
     try:
         network = read_network(given.net)
-        start = Rows(network, read_delays(given.net, given.event_delays), read_delays(given.net, given.activity_delays))
+        start = start_rows(network, given.net, given.event_delays, given.activity_delays, given.cancelled)
         run = read_text(given.text, network)
         if given.to:
             days = read_days(given.net, network, given.to, given.shift)

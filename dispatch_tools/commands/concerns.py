@@ -38,7 +38,7 @@ def main(argv: Sequence[str] | None = None) -> int:
     given = words.parse_args(argv)
     speak_utf8()
     try:
-        scene = read_scene(given.net, given.text, given.event_delays, given.activity_delays)
+        scene = read_scene(given.net, given.text, given.event_delays, given.activity_delays, given.cancelled)
         naming = Naming(scene.network, scene.trains, scene.names, scene.labels)
         title = ''
         for number in given.changes:

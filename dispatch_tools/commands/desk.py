@@ -33,10 +33,9 @@ from dispatch_tools.desk.rights import hosts_of, is_loopback, others_read, read_
 from dispatch_tools.desk.room import Room, Settings
 from dispatch_tools.desk.server import PageServer
 from dispatch_tools.formats.files import BadFile, speak_utf8
-from dispatch_tools.formats.giv import read_delays, read_network
+from dispatch_tools.formats.giv import read_network, start_rows
 from dispatch_tools.formats.names import read_labels, read_stops, read_trips
-from dispatch_tools.model.railway import Rows
-from dispatch_tools.words import add_delays, add_network, command_line, whole_between
+from dispatch_tools.words import add_network, add_start, command_line, start_options, whole_between
 
 TOP = os.path.dirname(os.path.dirname(os.path.abspath(__file__)))
 
@@ -62,17 +61,16 @@ def arguments(argv: Sequence[str] | None) -> argparse.ArgumentParser:
     for name, minutes, what in alerts:
         words.add_argument(f'--{name}', type=whole_between(1, 1_440), default=minutes, metavar='MINUTES',
                            help=f'an alert says that {what} so many minutes or more ({minutes})')
-    add_delays(words)
+    add_start(words)
     return words
 
 
 def room_of(given: argparse.Namespace, folder: str, name: str) -> Room:
     """The room that the words ask for; BadFile if a file is not good."""
     network = read_network(given.net)
-    start = Rows(network, read_delays(given.net, given.event_delays), read_delays(given.net, given.activity_delays))
+    start = start_rows(network, given.net, given.event_delays, given.activity_delays, given.cancelled)
     names = Names(read_stops(given.net), read_labels(given.net), read_trips(given.net), [name for name in given.feeds.split(',') if name])
-    options = [f'--{name}={value}' for name, value in
-               (('event-delays', given.event_delays), ('activity-delays', given.activity_delays)) if value]
+    options = start_options(given)
     marks = Marks(60 * given.late, 60 * given.waits, 60 * given.silent)
     settings = Settings(given.store, marks, found_program(given.program, TOP), given.net, folder, options, given.token is not None, name,
                         shlex.split(given.start))

@@ -41,7 +41,7 @@ def main(argv: Sequence[str] | None = None) -> int:
     given = arguments(argv).parse_args(argv)
     speak_utf8()
     try:
-        scene = read_scene(given.net, given.text, given.event_delays, given.activity_delays)
+        scene = read_scene(given.net, given.text, given.event_delays, given.activity_delays, given.cancelled)
         together = None if given.part is None else part_of(scene, given.part)
         line = chosen_line(scene, given.line, together)
     except BadFile as fault:

@@ -20,7 +20,7 @@ from typing import Sequence
 
 from dispatch_tools.formats.files import BadFile
 from dispatch_tools.pictures.figures import make_all, progress
-from dispatch_tools.words import add_delays, add_network, command_line
+from dispatch_tools.words import add_network, add_start, command_line
 
 
 def main(argv: Sequence[str] | None = None) -> int:
@@ -29,7 +29,7 @@ def main(argv: Sequence[str] | None = None) -> int:
     words.add_argument('text', metavar='TEXT', help='the text of a run over it')
     words.add_argument('folder', metavar='FOLDER', help='folder for the figures')
     words.add_argument('--dispatcher', default='dispatcher', metavar='PROGRAM', help='the built program (dispatcher in the path)')
-    add_delays(words)
+    add_start(words)
     given = words.parse_args(argv)
     try:
         make_all(given)

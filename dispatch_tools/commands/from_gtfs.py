@@ -27,6 +27,10 @@ A service day runs past midnight, and its times count on: 25:10:00. A trip of fr
 with a name such as TRIP@06:30:00. With --day-before the network also has the trains of the service day before that run past
 midnight, from their first stop after midnight on. They have names such as TRIP@20261127.
 
+With --reserve-trains some trains are in the network and cancelled at the start: Cancelled.csv has their events, for --cancelled of the
+program, and `dispatch-tools cancel NET TRAIN --restore` lets one run. Nobody changes to or from them, they have no passengers but those
+of --passengers, and the other trains keep their turnarounds and headways as if there were none.
+
 Standard error says how many there are of everything, and what was left out. The status is 0. It is 2, and no file is written, if
 the words or the timetable are not good, or if the network would be too large.
 """

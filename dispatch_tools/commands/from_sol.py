@@ -17,7 +17,7 @@ from typing import Iterable, Iterator, Sequence
 
 from dispatch_tools.days.to_mps import add_rows_words, add_window_words, read_rows, window_of
 from dispatch_tools.formats.files import BadFile
-from dispatch_tools.formats.giv import read_delays
+from dispatch_tools.formats.giv import start_rows
 from dispatch_tools.formats.runtext import Entry
 from dispatch_tools.formats.solution import decisions_of, read_solution
 from dispatch_tools.model.decide import in_turn
@@ -47,7 +47,7 @@ def lines_of_solution(given: argparse.Namespace, words: argparse.ArgumentParser)
     except ValueError as error:
         raise BadFile(given.solution, None, 'its choices have a cycle: it is of another problem') from error
     if given.whole:
-        start = Rows(network, read_delays(given.net, given.event_delays), read_delays(given.net, given.activity_delays))
+        start = start_rows(network, given.net, given.event_delays, given.activity_delays, given.cancelled)
         lines = [*said_again(network, start, journal), *lines, 'cost']
     return lines
 

@@ -1,4 +1,4 @@
-"""Reports what looks wrong in a network and in feeds, though the server accepts it: dispatch-tools lint NET [FEED ..]
+"""Reports what looks wrong in a network and in feeds, though the server accepts it: dispatch-tools lint NET [FEED ..] [--cancelled=NAME]
 
 NET is the folder of a network, and each FEED a file of lines. The script prints a line for each thing that it finds, with the
 file and the line. It looks for
@@ -9,6 +9,7 @@ file and the line. It looks for
     headways in one direction only, changes that nobody can make, and changes longer than a day
     stops of Stops.csv without events
     feed lines that are malformed, that name ids which are not in the network, or that are refused whatever has happened
+    trains with a gap: events are cancelled, and the train runs on behind them, or leaves and never arrives
 
 Of each kind it prints at most 20 lines, and then how many more there are. The status is 0 if it finds nothing, 1 if it finds
 something, and 2 if NET is no network or a FEED cannot be read.
@@ -27,10 +28,11 @@ def main(argv: Sequence[str] | None = None) -> int:
     words = command_line(__doc__)
     add_network(words)
     words.add_argument('feeds', metavar='FEED', nargs='*', help='feed, a file of lines')
+    words.add_argument('--cancelled', metavar='NAME', help='file in NET with events that are cancelled at the start, if any')
     given = words.parse_args(argv)
     speak_utf8()
     try:
-        count = tell(list(oddities(read_files(given.net), given.feeds)))
+        count = tell(list(oddities(read_files(given.net), given.feeds, given.cancelled)))
     except BadFile as fault:
         print(f'lint: {fault}', file=sys.stderr)
         return 2

@@ -1,6 +1,6 @@
 """Writes the disposition timetable of a run in the form of GTFS:
 
-    dispatch-tools to_gtfs NET TEXT DIR [--feed FEED]
+    dispatch-tools to_gtfs NET TEXT DIR [--feed FEED] [--cancelled NAME]
 
 NET is a network that from_gtfs made, with Events.csv and Trains.csv. TEXT is the text of a run over it. DIR gets
 
@@ -16,6 +16,8 @@ of such a call are the same.
 Times of GTFS do not decrease within a trip. If a run shows that a train has passed a stop before it leaves an earlier one, it has
 left the earlier one by then. The script then writes the time of the later stop for the earlier one, and names the trip on
 standard error.
+
+What is cancelled is left out, and named there. --cancelled is the file of NET with the events that were cancelled at the start.
 
 The status is 0. It is 2, and no file is written, if a file is not good.
 """
@@ -36,9 +38,10 @@ def main(argv: Sequence[str] | None = None) -> int:
     words.add_argument('folder', metavar='DIR', help='folder for the two files')
     stays = 'timetable that the network was made of; it says how long trains stand at their ends'
     words.add_argument('--feed', metavar='FEED', help=stays)
+    words.add_argument('--cancelled', metavar='NAME', help='file in NET with events that are cancelled at the start, if any')
     read = words.parse_args(argv)
     try:
-        texts, said = texts_of(read.net, read.text, read.feed)
+        texts, said = texts_of(read.net, read.text, read.feed, read.cancelled)
         write_all(read.folder, texts)
     except BadFile as error:
         print(f'to_gtfs: {error}', file=sys.stderr)

@@ -30,7 +30,7 @@ def main(argv: Sequence[str] | None = None) -> int:
     given = words.parse_args(argv)
     speak_utf8()
     try:
-        scene = read_scene(given.net, given.text, given.event_delays, given.activity_delays)
+        scene = read_scene(given.net, given.text, given.event_delays, given.activity_delays, given.cancelled)
     except BadFile as fault:
         print(f'view: {fault}', file=sys.stderr)
         return 2

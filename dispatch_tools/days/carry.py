@@ -14,8 +14,10 @@ from dispatch_tools.formats.names import name_of_trip, named_trip, read_day_name
 from dispatch_tools.formats.runtext import Run
 from dispatch_tools.live.serving import Server
 from dispatch_tools.model.decide import in_turn
-from dispatch_tools.model.messages import Adopt, Decision, DelayActivity, DelayEvent, Drop, First, Keep, Message, Now, Pass
-from dispatch_tools.model.network import Network
+from dispatch_tools.model.messages import (
+    Adopt, Cancel, Decision, DelayActivity, DelayEvent, Drop, First, Keep, Lock, Message, Now, Pass, Restore,
+)
+from dispatch_tools.model.network import Change, Choice, Network
 from dispatch_tools.model.railway import active_activities, apply, LARGEST_DELAY, refusal_at_once, Rows, sound_times, times_of
 from dispatch_tools.pictures.scene import rows_of
 
@@ -58,6 +60,24 @@ def clock_of(rows: Rows) -> list[Message]:
     return [Now(rows.clock)] if rows.clock else []
 
 
+def restores_between(network: Network, start: Rows, target: Rows) -> Iterator[Message]:
+    """Events that were cancelled and are not any more."""
+    for event, now, then in zip(network.events, start.cancelled, target.cancelled):
+        if now and not then:
+            yield Restore(event.id)
+
+
+def locks_of(start: Rows, target: Rows) -> Iterator[Message]:
+    for choice in sorted(target.locked - start.locked, key=lambda choice: (len(choice.numbers), choice.numbers)):
+        yield Lock(choice)
+
+
+def cancels_of(network: Network, start: Rows, target: Rows) -> Iterator[Message]:
+    for event, now, then in zip(network.events, start.cancelled, target.cancelled):
+        if then and not now:
+            yield Cancel(event.id)
+
+
 def with_delays(network: Network, start: Rows, delays: Iterable[Message]) -> Rows:
     rows = start.copy()
     for message in delays:
@@ -66,21 +86,25 @@ def with_delays(network: Network, start: Rows, delays: Iterable[Message]) -> Row
 
 
 def straight(network: Network, start: Rows, target: Rows) -> Optional[list[Message]]:
-    """The messages that lead to rows: delays, choices, passes and the clock; None if the choices close a cycle where nothing has
-    passed yet."""
-    delays = list(delays_between(network, start, target))
+    """The messages that lead to rows: delays, choices, locks, passes, cancelled events and the clock; None if the choices close a cycle
+    where nothing has passed or is cancelled yet, or are of events that are cancelled from the start."""
+    delays = [*delays_between(network, start, target), *restores_between(network, start, target)]
     rows, choices = with_delays(network, start, delays), decisions_between(network, start, target)
     decided = rows.copy()
     for choice in choices:
         decided.decide(network, choice)
-    if times_of(network, decided) is None:
+    if times_of(network, rows) is None or times_of(network, decided) is None:
         return None
-    return delays + in_turn(network, rows, choices) + passes_of(network, target) + clock_of(target)
+    try:
+        turned = in_turn(network, rows, choices)
+    except ValueError:
+        return None
+    return [*delays, *turned, *locks_of(start, target), *passes_of(network, target), *cancels_of(network, start, target), *clock_of(target)]
 
 
 def as_it_went(network: Network, start: Rows, target: Rows, journal: Iterable[Message]) -> list[Message]:
-    """The messages that lead to the rows after a journal: the delays as they are at last, the choices, passes and recalls as they
-    came, and the clock. Delays and the clock close no cycle, so none is closed on the way."""
+    """The messages that lead to the rows after a journal: the delays as they are at last, the clock, and between them all others as they
+    came. Delays and the clock close no cycle, so none is closed on the way."""
     delays = list(delays_between(network, start, target))
     rows, messages = with_delays(network, start, delays), list(delays)
     for message in journal:
@@ -97,7 +121,9 @@ def as_it_went(network: Network, start: Rows, target: Rows, journal: Iterable[Me
 def messages_to(network: Network, start: Rows, target: Rows, run: Run) -> list[Message]:
     """The messages that lead to the rows after all entries of a run."""
     found = straight(network, start, target)
-    return as_it_went(network, start, target, [entry.message for entry in run.journal]) if found is None else found
+    if found is not None and leads_to(network, start, target, found):
+        return found
+    return as_it_went(network, start, target, [entry.message for entry in run.journal])
 
 
 def leads_to(network: Network, start: Rows, target: Rows, messages: Iterable[Message]) -> bool:
@@ -228,6 +254,7 @@ def rows_of_next_day(days: Days, rows: Rows, start: Rows) -> Rows:
     for one, other in days.events.items():
         passed = rows.passed[one]
         target.passed[other] = None if passed is None else max(0, passed - days.shift)
+        target.cancelled[other] = rows.cancelled[one]
     for one, other in days.activities.items():
         target.activity_delays[other] = max(rows.activity_delays[one], start.activity_delays[other])
         target.kept[other] = rows.kept[one]
@@ -236,8 +263,19 @@ def rows_of_next_day(days: Days, rows: Rows, start: Rows) -> Rows:
             there = days.after.pair_of(days.events[pair[0]], days.events[pair[1]])
             if there is not None:
                 target.first[there] = days.events[first]
+    target.locked = {same for choice in rows.locked if (same := choice_of_next_day(days, choice)) is not None}
     target.clock = max(0, rows.clock - days.shift)
     return target
+
+
+def choice_of_next_day(days: Days, choice: Choice) -> Optional[Choice]:
+    """The choice of the next day's network that one of the day before is, or None."""
+    if isinstance(choice, Change):
+        activity = days.activities.get(days.before.activity_place[choice.activity])
+        return None if activity is None else days.after.choice_of_activity(activity)
+    ends = [days.events.get(days.before.event_place[event]) for event in choice.numbers]
+    pair = None if ends[0] is None or ends[1] is None else days.after.pair_of(ends[0], ends[1])
+    return None if pair is None else days.after.pair_choice(pair)
 
 
 def without_cycles(network: Network, start: Rows, target: Rows) -> tuple[list[Message], list[Decision]]:

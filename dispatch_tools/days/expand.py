@@ -10,15 +10,20 @@ from bisect import bisect_left
 from collections import Counter, defaultdict
 from dataclasses import dataclass, replace
 from itertools import islice
-from typing import Callable, Iterable, Iterator, NamedTuple, Optional
+from typing import Callable, Iterable, Iterator, NamedTuple, Optional, Sequence
 
-from dispatch_tools.days.trains import give_moments, Headways, Limits, Moment, Notes, Passengers, PROGRAM, Refused, Rules, Train
+from dispatch_tools.days.trains import (
+    give_moments, Headways, Limits, Moment, neighbours, Notes, Passengers, PROGRAM, Refused, Rules, Train, with_reserve,
+)
 from dispatch_tools.formats.gtfs import Transfer, Transfers
 from dispatch_tools.model.network import Activity, Event
 
 # So many pairs of trains may be looked at that rows of transfers.txt for two trips join, each of which frequencies may repeat.
 MOST_PAIRED = 1_000_000
 
+
+# What the origin of a guaranteed connection begins with.
+GUARANTEED = 'guaranteed: '
 
 # ---- Activities
 
@@ -62,7 +67,7 @@ def turnarounds(trains: list[Train], linked: list[Transfer], passengers: Passeng
         elif train.trip.block:
             blocks[train.trip.block].append(train)
     for block in blocks.values():
-        for before, after in zip(block, block[1:]):
+        for before, after in with_reserve(block, lambda train: train.is_reserve, neighbours):
             if after.name in before.linked or after.begins < 0:
                 continue
             if after.begins < before.ends:
@@ -135,7 +140,7 @@ class Changing:
     def link(self, arrival: Moment, departure: Moment, least: int, row: Optional[Transfer], is_guaranteed: bool = False) -> Link:
         weight = self.passengers.changing(arrival, departure, self.rules, is_guaranteed)
         origin = '--change' if row is None else f'transfers.txt, line {row.line}'
-        return Link('change', arrival, departure, least, weight, f'guaranteed: {origin}' if is_guaranteed else origin)
+        return Link('change', arrival, departure, least, weight, f'{GUARANTEED}{origin}' if is_guaranteed else origin)
 
     def stations_from(self, station: str) -> list[str]:
         return [station, *sorted(self.transfers.walks.get(station, ()))]
@@ -279,7 +284,7 @@ def headways(trains: list[Train], stations: dict[str, str], rule: Headways, note
 
 
 def headways_of(leg: list[Moment], headway: int, is_said: bool, notes: Notes) -> Iterator[Link]:
-    for first, second in zip(leg, leg[1:]):
+    for first, second in with_reserve(leg, lambda moment: moment.train.is_reserve, neighbours):
         if first.train is second.train or first.train.shares_vehicle(second.train):
             notes.left_out['headways between two trips of one vehicle'] += 1
         elif first.event.time == second.event.time:
@@ -304,7 +309,7 @@ def meetings(trains: list[Train], single: dict[frozenset[str], int], notes: Note
                 tracks[ends, train.trip.route.kind].append(Drive(departure, arrival.event.time - departure.event.time))
     for (ends, _), drives in tracks.items():
         drives.sort(key=lambda drive: drive.departure.event.time)
-        for first, second in opposed(drives):
+        for first, second in with_reserve(drives, lambda drive: drive.departure.train.is_reserve, opposed):
             yield from meeting(first, second, single[ends], notes)
     for ends in single.keys() - {ends for ends, _ in tracks}:
         notes.left_out['stretches of --single-track on which no train runs'] += 1
@@ -316,7 +321,7 @@ class Drive(NamedTuple):
     takes: int
 
 
-def opposed(drives: list[Drive]) -> Iterator[tuple[Drive, Drive]]:
+def opposed(drives: Sequence[Drive]) -> Iterator[tuple[Drive, Drive]]:
     """Of drives in the order of time, each with the last one before it that leads the other way, and with the first one behind it."""
     latest: dict[str, Drive] = {}
     waiting: list[Drive] = []
@@ -438,7 +443,7 @@ def expand(
         return islice(made, limits.activities + 1)
 
     links = [*runs(trains, rules), *turnarounds(trains, transfers.linked, passengers, rules, notes)]
-    links += some(changes(trains, stations, passengers, transfers, rules, notes))
+    links += some(changes([train for train in trains if not train.is_reserve], stations, passengers, transfers, rules, notes))
     if rules.headways is not None:
         links += some(headways(trains, stations, rules.headways, notes))
     links += some(meetings(trains, rules.single, notes))

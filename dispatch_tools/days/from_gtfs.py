@@ -9,15 +9,16 @@ from datetime import date, timedelta
 from fractions import Fraction
 from typing import Iterator, Optional
 
-from dispatch_tools.days.expand import expand, Expanded, Link
-from dispatch_tools.days.trains import Headways, Limits, Notes, Passengers, Reach, Refused, Rules, Window, trains_of
+from dispatch_tools.days.expand import expand, Expanded, GUARANTEED, Link
+from dispatch_tools.days.trains import Headways, Limits, mark_reserve, Notes, Passengers, Reach, Refused, Rules, trains_of, Window
 from dispatch_tools.formats.giv import decimal, network_files
 from dispatch_tools.formats.gtfs import (
     Day, read_day, read_routes, read_services, read_stops, read_transfers, read_zone, Route, Stops, TYPES,
 )
 from dispatch_tools.formats.gtfs_rows import clock, date_of, Feed, read_rows, Row, told_as
 from dispatch_tools.formats.names import ChangeName, DayName, EventName, in_print, StopName, TrainName
-from dispatch_tools.model.network import KINDS
+from dispatch_tools.model.messages import Lock
+from dispatch_tools.model.network import Change, KINDS
 from dispatch_tools.words import time_of_day, whole_between
 
 LONGEST_BOUND = 1_000_000
@@ -29,6 +30,12 @@ LONGEST_LINE = 1000
 
 # The columns of Changes.csv.
 CHANGES = ('id', 'from trip', 'to trip', 'stop', 'bound', 'weight', 'came from', 'to stop')
+
+# The file of the events of reserve trains.
+CANCELLED = 'Cancelled.csv'
+
+# The lines that lock guaranteed connections.
+LOCKED = 'Locked.txt'
 
 # Later than all times of a day.
 EVER = 10 ** 9
@@ -85,6 +92,10 @@ def add_choices(words: argparse.ArgumentParser) -> None:
     words.add_argument('--changing', metavar='SHARE', type=share, default='10%', help=taking)
     guaranteed = 'passengers who take a guaranteed connection (as for other changes)'
     words.add_argument('--guaranteed', metavar='NUMBER', type=passengers_given, help=guaranteed)
+    locks = 'also write Locked.txt: the lines that lock guaranteed connections, for a feed; else a plan may drop one'
+    words.add_argument('--lock-guaranteed', action='store_true', help=locks)
+    reserve = 'file trip_id: reserve trains, which stand in the network and in Cancelled.csv, for --cancelled'
+    words.add_argument('--reserve-trains', metavar='FILE', help=reserve)
 
 
 def add_rules(words: argparse.ArgumentParser) -> None:
@@ -181,6 +192,14 @@ def stretch_of(row: Row, feed: Feed, stops: Stops) -> tuple[str, str]:
     return stops.stations[row['from_stop_id']], stops.stations[row['to_stop_id']]
 
 
+def read_reserve(name: Optional[str]) -> set[str]:
+    """The trips and trains that a file names."""
+    if name is None:
+        return set()
+    with told_as(name), open(name, 'rb') as file:
+        return {row['trip_id'] for row in read_rows(name, file, ['trip_id'])}
+
+
 def read_single_track(name: Optional[str], feed: Feed, stops: Stops) -> dict[frozenset[str], int]:
     """The seconds of a file by the two ends of a stretch."""
     single: dict[frozenset[str], int] = {}
@@ -219,6 +238,7 @@ class Made:
     expanded: Expanded
     notes: Notes
     day: Optional[DayName] = None
+    locks_guaranteed: bool = False
 
 
 def make(feed: Feed, words: argparse.Namespace, limits: Limits) -> Made:
@@ -234,6 +254,7 @@ def make(feed: Feed, words: argparse.Namespace, limits: Limits) -> Made:
     if not trains:
         running = len(services.running)
         raise Refused(f'{feed.name} has no train on {words.date} that is chosen: {running} services run then, and {services.span()}')
+    mark_reserve(trains, read_reserve(words.reserve_trains), notes)
     passengers = read_passengers(words.passengers, feed, stops)
     headways = None if words.no_headways else read_headways(words.headways, feed, stops, words.headway)
     single = read_single_track(words.single_track, feed, stops)
@@ -242,7 +263,7 @@ def make(feed: Feed, words: argparse.Namespace, limits: Limits) -> Made:
     notes.left_out.take(transfers.left_out)
     notes.left_out['numbers of passengers of which no arrival is there'] += passengers.unused
     notes.besides['times between two stops with times, spread evenly'] += day.timed_between
-    return Made(stops, expanded, notes, DayName(str(words.date), read_zone(feed)))
+    return Made(stops, expanded, notes, DayName(str(words.date), read_zone(feed)), words.lock_guaranteed)
 
 
 def day_before(feed: Feed, stops: Stops, routes: dict[str, Route], chosen: set[str], day: date) -> Day:
@@ -261,7 +282,7 @@ def texts_of(made: Made) -> dict[str, str]:
     trains = [
         TrainName(
             train.moments[0].event.id, train.label, train.name, train.trip.route.name, train.trip.direction, train.trip.headsign,
-            train.trip.block,
+            train.trip.block, train.trip.route.id,
         )
         for train in expanded.trains
     ]
@@ -273,14 +294,22 @@ def texts_of(made: Made) -> dict[str, str]:
         for train in expanded.trains for one in train.moments
     ]
     days = {} if made.day is None else {'Day.csv': in_print(DayName._fields, [made.day])}
+    reserve = [[moment.event.id] for train in expanded.trains if train.is_reserve for moment in train.moments]
     return {
         **network_files(expanded.events, expanded.activities),
         **days,
+        **({CANCELLED: in_print(['event'], reserve)} if reserve else {}),
+        **({LOCKED: ''.join(guaranteed_locks(expanded))} if made.locks_guaranteed else {}),
         'Stops.csv': in_print(['id', *StopName._fields[1:]], stops),
         'Events.csv': in_print(EventName._fields, events),
         'Trains.csv': in_print(['first event', *TrainName._fields[1:]], trains),
         'Changes.csv': in_print(CHANGES, (change_name(*one) for one in expanded.changes)),
     }
+
+
+def guaranteed_locks(expanded: Expanded) -> Iterator[str]:
+    """The lines of a feed that lock the guaranteed connections."""
+    return (f'{Lock(Change(number))}\n' for number, link in expanded.changes if link.origin.startswith(GUARANTEED))
 
 
 def change_name(number: int, link: Link) -> ChangeName:
@@ -298,6 +327,9 @@ def summary(made: Made, words: argparse.Namespace) -> Iterator[str]:
     yield f'{words.date}: trains {len(expanded.trains)} ({repeated} by frequencies), routes {len(routes)}'
     kinds = Counter(activity.kind for activity in expanded.activities)
     counts = ', '.join(f'{kind}s {kinds[kind]}' for kind in KINDS)
+    reserve = sum(train.is_reserve for train in expanded.trains)
+    if reserve:
+        yield f'reserve trains {reserve}, which are cancelled at the start with --cancelled={CANCELLED}'
     yield f'stations {len(expanded.stations)}, events {len(expanded.events)}, activities {len(expanded.activities)}: {counts}'
     names = {number: made.stops.names[station] for station, number in expanded.stations.items()}
     yield from stations_with_changes(names, expanded.changes_at)

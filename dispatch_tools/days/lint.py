@@ -5,13 +5,17 @@ import os
 from collections import Counter
 from typing import Iterable, Iterator, NamedTuple, Optional
 
+from dispatch_tools.days.cancel import gaps
 from dispatch_tools.formats.files import BadFile, in_one_line, text_of
-from dispatch_tools.formats.giv import ACTIVITIES, activity_row, decimal, event_row, EVENTS, rows_of_file
+from dispatch_tools.formats.giv import ACTIVITIES, activity_row, decimal, event_row, EVENTS, rows_of_file, whole
 from dispatch_tools.formats.names import numbered
 from dispatch_tools.formats.runtext import due_items
-from dispatch_tools.model.messages import AskPlan, AskSolve, AskTime, DelayActivity, DelayEvent, Drop, First, Keep, Now, Pass, Recall, Said
-from dispatch_tools.model.network import Activity, Event, Network
+from dispatch_tools.model.messages import (
+    AskPlan, AskSolve, AskTime, Cancel, DelayActivity, DelayEvent, Drop, First, Keep, Lock, Now, Pass, Recall, Restore, Said, Unlock,
+)
+from dispatch_tools.model.network import Activity, Change, Event, Network
 from dispatch_tools.model.railway import LARGEST_DELAY, LARGEST_PASSED
+from dispatch_tools.pictures.scene import trains_of
 
 DAY = 86_400
 
@@ -176,13 +180,15 @@ def guess(line: str) -> str:
 
 def ids_of(network: Network, said: Said) -> Optional[str]:
     """What a line names that the network has not, in words."""
+    if isinstance(said, (Lock, Unlock)):
+        return ids_of(network, Keep(said.choice.activity) if isinstance(said.choice, Change) else First(*said.choice.numbers))
     if isinstance(said, (DelayActivity, Keep, Drop)):
         place = network.activity_place.get(said.activity)
         if place is None:
             return f'there is no activity {said.activity}'
         if not isinstance(said, DelayActivity) and network.activities[place].kind != 'change':
             return f'activity {said.activity} is no change'
-    elif isinstance(said, (DelayEvent, Pass, Recall, AskTime, First)):
+    elif isinstance(said, (DelayEvent, Pass, Recall, AskTime, Cancel, Restore, First)):
         for event in (said.event, said.other) if isinstance(said, First) else (said.event,):
             if event not in network.event_place:
                 return f'there is no event {event}'
@@ -202,10 +208,30 @@ def range_of(said: Said) -> Optional[str]:
     return None
 
 
+def gap_oddities(network: Network, name: str, lines: dict[int, int]) -> Iterator[Oddity]:
+    """Trains with a gap, where these events, by place with the line that says so, are cancelled."""
+    flags = [place in lines for place in range(len(network.events))]
+    for gap in gaps(network, trains_of(network), flags) if lines else ():
+        line = lines.get(gap.at, max(lines.values()))
+        yield Oddity('gap', name, line, f'event {network.events[gap.at].id} of train {network.events[gap.first].id}: {gap.what}')
+
+
+def start_oddities(network: Network, folder: str, cancelled: Optional[str]) -> Iterator[Oddity]:
+    """What is odd in a file of events that are cancelled at the start."""
+    lines: dict[int, int] = {}
+    for line, event in rows_of_file(folder, cancelled, whole) if cancelled else ():
+        if event in network.event_place:
+            lines[network.event_place[event]] = line
+        else:
+            yield Oddity('refused', os.path.join(folder, cancelled or ''), line, f'there is no event {event}')
+    yield from gap_oddities(network, os.path.join(folder, cancelled or ''), lines)
+
+
 def feed_oddities(network: Network, name: str) -> Iterator[Oddity]:
-    """The lines of a feed that are malformed or will be refused."""
+    """The lines of a feed that are malformed or will be refused, and trains that have a gap behind the last line."""
     text = text_of(name)
     lines = text.split('\n')
+    cancelled: dict[int, int] = {}
     for number, said in due_items(text):
         if said is None:
             yield Oddity('malformed', name, number, f'malformed{guess(lines[number - 1].removesuffix(chr(13)))}')
@@ -213,14 +239,20 @@ def feed_oddities(network: Network, name: str) -> Iterator[Oddity]:
         refused = range_of(said) or ids_of(network, said)
         if refused is not None:
             yield Oddity('refused', name, number, refused)
+        elif isinstance(said, Cancel):
+            cancelled[network.event_place[said.event]] = number
+        elif isinstance(said, (Restore, Pass)):
+            cancelled.pop(network.event_place[said.event], None)
+    yield from gap_oddities(network, name, cancelled)
 
 
 # ---- Words
 
 
-def oddities(files: Files, feeds: Iterable[str]) -> Iterator[Oddity]:
+def oddities(files: Files, feeds: Iterable[str], cancelled: Optional[str] = None) -> Iterator[Oddity]:
     for find in (swapped_columns, schedule_oddities, jumps, kind_oddities, one_way_headways, long_changes, crowded_changes, empty_stops):
         yield from find(files)
+    yield from start_oddities(files.network, files.folder, cancelled)
     for feed in feeds:
         yield from feed_oddities(files.network, feed)
 

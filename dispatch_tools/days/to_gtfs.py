@@ -8,11 +8,12 @@ from dataclasses import dataclass
 from typing import Iterable, Optional, Sequence
 
 from dispatch_tools.formats.files import BadFile
-from dispatch_tools.formats.giv import read_network
+from dispatch_tools.formats.giv import read_cancelled, read_network
 from dispatch_tools.formats.gtfs_rows import clock, Feed
 from dispatch_tools.formats.names import EventName, named_trip, read_events, read_trains, TrainName, trip_in_feed
 from dispatch_tools.formats.lines import Bad
-from dispatch_tools.formats.runtext import read_run
+from dispatch_tools.formats.runtext import read_run, Run
+from dispatch_tools.model.messages import cancelled_after
 from dispatch_tools.model.network import Event
 
 STOP_TIMES = ('trip_id', 'arrival_time', 'departure_time', 'stop_id', 'stop_sequence')
@@ -25,6 +26,7 @@ class Happening:
     name: EventName
     scheduled: int
     time: int
+    is_cancelled: bool = False
 
     @property
     def delay(self) -> int:
@@ -41,11 +43,11 @@ class Stay:
     behind: int = 0
 
 
-def read_times(name: str, events: int) -> dict[int, int]:
-    """The times of a text over so many events, by id; BadFile if it is no whole text."""
+def read_text(name: str, events: int) -> Run:
+    """The run of a text over so many events; BadFile if it is no whole text."""
     try:
         with open(name, 'rb') as file:
-            return read_run(file.read(), events).times
+            return read_run(file.read(), events)
     except OSError as error:
         raise BadFile(name, None, error.strerror or 'cannot be read') from error
     except Bad as error:
@@ -53,17 +55,27 @@ def read_times(name: str, events: int) -> dict[int, int]:
         raise BadFile(name, line, f'this is no text of a run over the network ({kind})') from error
 
 
-def happenings_by_train(net: str, text: str) -> dict[int, list[Happening]]:
+def happenings_by_train(net: str, text: str, cancelled: Optional[str] = None) -> dict[int, list[Happening]]:
     """What happens to each train, in the order of the timetable."""
     events: dict[int, Event] = {event.id: event for event in read_network(net).events}
-    times = read_times(text, len(events))
+    run = read_text(text, len(events))
+    times, off = run.times, cancelled_after((entry.message for entry in run.journal), read_cancelled(net, cancelled))
     trains: dict[int, list[Happening]] = {}
     for name in read_events(net):
         for ids, what in (events.keys(), 'the network'), (times.keys(), text):
             if name.event not in ids:
                 raise BadFile(os.path.join(net, 'Events.csv'), None, f'event {name.event} is not in {what}')
-        trains.setdefault(name.train, []).append(Happening(name, events[name.event].time, times[name.event]))
+        trains.setdefault(name.train, []).append(Happening(name, events[name.event].time, times[name.event], name.event in off))
     return trains
+
+
+def those_that_run(happenings: list[Happening]) -> tuple[list[Happening], Optional[str]]:
+    """What of a train is not cancelled, and what is to be said of it, if anything is."""
+    left = [one for one in happenings if not one.is_cancelled]
+    trip, gone = happenings[0].name.trip, len({one.name.sequence for one in happenings} - {one.name.sequence for one in left})
+    if len(left) == len(happenings):
+        return left, None
+    return left, f'trip {trip}: calls that are cancelled and left out: {gone}' if left else f'trip {trip}: it is cancelled, and left out'
 
 
 def never_falling(times: Sequence[int]) -> list[int]:
@@ -134,12 +146,21 @@ def in_print(columns: Iterable[str], rows: Iterable[Iterable[object]]) -> str:
     return text.getvalue()
 
 
-def texts_of(net: str, text: str, feed: Optional[str]) -> tuple[dict[str, str], list[str]]:
+def stay_of(stay: Stay, happenings: list[Happening]) -> Stay:
+    """How long a train stands at the ends that it has: it stands at no other stop as at its first and its last."""
+    return Stay(0 if happenings[0].is_cancelled else stay.before, 0 if happenings[-1].is_cancelled else stay.behind)
+
+
+def texts_of(net: str, text: str, feed: Optional[str], cancelled: Optional[str] = None) -> tuple[dict[str, str], list[str]]:
     """The files of a run, by name, and what is to be said of its times."""
-    trains = happenings_by_train(net, text)
+    whole = happenings_by_train(net, text, cancelled)
+    left = {train: those_that_run(happenings) for train, happenings in whole.items()}
+    trains = {train: running for train, (running, _) in left.items() if running}
+    said = [line for _, line in left.values() if line]
     names = [train for train in read_trains(net) if train.event in trains]
-    said = [line for train in names if (line := without_falls(trains[train.event]))]
+    said += [line for train in names if (line := without_falls(trains[train.event]))]
     stays = stays_of(feed, {train.trip for train in names})
-    calls = (call for train in names for call in calls_of(trains[train.event], stays.get(train.trip, Stay())))
+    calls = (call for train in names for call in calls_of(
+        trains[train.event], stay_of(stays.get(train.trip, Stay()), whole[train.event])))
     delays = (delays_of(train, trains[train.event]) for train in names)
     return {'stop_times.txt': in_print(STOP_TIMES, calls), 'delays.csv': in_print(DELAYS, delays)}, said

@@ -5,13 +5,13 @@ import argparse
 from typing import Optional
 
 from dispatch_tools.formats.files import BadFile
-from dispatch_tools.formats.giv import read_delays, read_network
+from dispatch_tools.formats.giv import read_network, start_rows
 from dispatch_tools.formats.runtext import Entry
 from dispatch_tools.model.network import Network
 from dispatch_tools.model.programme import Window
 from dispatch_tools.model.railway import Rows
 from dispatch_tools.pictures.scene import read_text, rows_of
-from dispatch_tools.words import add_delays, add_network, whole_between
+from dispatch_tools.words import add_network, add_start, whole_between
 
 LATEST = 1_000_000_000
 
@@ -21,13 +21,13 @@ def add_rows_words(words: argparse.ArgumentParser) -> None:
     add_network(words)
     words.add_argument('text', metavar='TEXT', help='the text of a run over it')
     words.add_argument('--at', type=whole_between(0, 1_000_000), metavar='N', help='number of entries (all)')
-    add_delays(words)
+    add_start(words)
 
 
 def read_rows(given: argparse.Namespace) -> tuple[Network, Rows, list[Entry], int]:
     """The network, the rows and the entries that words name, and the penalty; BadFile if there are none."""
     network = read_network(given.net)
-    start = Rows(network, read_delays(given.net, given.event_delays), read_delays(given.net, given.activity_delays))
+    start = start_rows(network, given.net, given.event_delays, given.activity_delays, given.cancelled)
     run = read_text(given.text, network)
     if given.at is not None and given.at > len(run.journal):
         raise BadFile(given.text, None, f'it has {len(run.journal)} entries')

@@ -6,13 +6,15 @@ from dataclasses import dataclass, field, replace
 from fractions import Fraction
 from functools import cached_property
 from itertools import chain
-from typing import Iterator, Optional
+from typing import Callable, Iterable, Iterator, Optional, Sequence, TypeVar
 
 from dispatch_tools.formats.gtfs import Call, Day, End, Told, Trip
 from dispatch_tools.formats.gtfs_rows import clock
 from dispatch_tools.formats.names import name_of_trip, named_trip
 from dispatch_tools.model.cuts import Calls, in_words, stations_that_part
 from dispatch_tools.model.network import Event
+
+Item = TypeVar('Item')
 
 ONE_PASSENGER = 1000
 
@@ -94,7 +96,8 @@ class Notes:
 
 @dataclass
 class Train:
-    """A trip that runs once, so many seconds after the times of its calls; it repeats where a frequency made it, at exact times or not."""
+    """A trip that runs once, so many seconds after the times of its calls; it repeats where a frequency made it, at exact times or not. A
+    reserve train is cancelled at the start."""
     name: str
     trip: Trip
     shift: int
@@ -102,6 +105,7 @@ class Train:
     is_exact: bool = True
     moments: list[Moment] = field(default_factory=list)
     linked: set[str] = field(default_factory=set)
+    is_reserve: bool = False
 
     @property
     def begins(self) -> int:
@@ -198,6 +202,28 @@ def trains_of(
     return trains
 
 
+def mark_reserve(trains: Iterable[Train], named: set[str], notes: Notes) -> None:
+    """Marks the reserve trains, which are named by themselves or by their trips."""
+    found: set[str] = set()
+    for train in trains:
+        names = {train.name, train.trip.id} & named
+        train.is_reserve = bool(names)
+        found |= names
+    notes.left_out['reserve trains that do not run on the day, or are not chosen'] += len(named - found)
+
+
+def with_reserve(ordered: Sequence[Item], is_reserve: Callable[[Item], bool], pairs: Callable[[Sequence[Item]], Iterable[tuple[Item, Item]]],
+                 ) -> Iterator[tuple[Item, Item]]:
+    """The pairs of what is no reserve, as if there were none; and those with a reserve, as if it were none."""
+    yield from pairs([one for one in ordered if not is_reserve(one)])
+    if any(map(is_reserve, ordered)):
+        yield from ((one, other) for one, other in pairs(ordered) if is_reserve(one) or is_reserve(other))
+
+
+def neighbours(ordered: Sequence[Item]) -> Iterator[tuple[Item, Item]]:
+    return zip(ordered, ordered[1:])
+
+
 def all_trains(day: Day, notes: Notes) -> Iterator[Train]:
     for trip in day.trips.values():
         frequencies = day.frequencies.get(trip.id)
@@ -242,7 +268,7 @@ class Passengers:
             notes.besides['arrivals where nobody may leave the train, which count as none'] += 1
             return 0
         if self.numbers is None:
-            return ONE_PASSENGER
+            return 0 if train.is_reserve else ONE_PASSENGER
         for key in (train.name, call.stop), (train.trip.id, call.stop):
             if key in self.numbers and call.stop in left:
                 notes.besides['arrivals at a stop where the trip has its number of passengers already, which count as none'] += 1

@@ -10,7 +10,7 @@ from typing import NamedTuple, Optional, Sequence
 
 from dispatch_tools.days.playing import Program
 from dispatch_tools.formats.files import BadFile
-from dispatch_tools.formats.lines import Bad, NUMBER, Text
+from dispatch_tools.formats.lines import Bad, fits, NUMBER, Text
 from dispatch_tools.formats.plan_text import read_solved, read_solved_head
 from dispatch_tools.formats.runtext import Entry, read_message, read_time
 from dispatch_tools.model.messages import Adopt, Decision
@@ -69,7 +69,10 @@ class Asking:
             count, = text.read('entries', NUMBER)
             text.words()
             times = dict(read_time(text) for _ in self.network.events)
-            cost, = text.read('cost', NUMBER)
+            words = text.words()
+            while words[0] == 'cancelled':
+                words = text.words()
+            cost, = text.sure(fits(words, ['cost', NUMBER]))
             return Followed(count, [times[event.id] for event in self.network.events], cost)
         except (Bad, KeyError) as bad:
             raise BadFile(self.program.name, None, 'it answers `follow` in another form') from bad

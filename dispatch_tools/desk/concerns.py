@@ -54,7 +54,7 @@ def state_of(network: Network, rows: Rows, penalty: int) -> Optional[State]:
 
 
 def lateness(network: Network, state: State, place: int) -> int:
-    return max(0, state.times[place] - network.events[place].time)
+    return 0 if state.rows.cancelled[place] else max(0, state.times[place] - network.events[place].time)
 
 
 def arrivals_moved(network: Network, train: Iterable[int], before: State, after: State) -> list[Arrival]:
@@ -69,10 +69,16 @@ def arrivals_moved(network: Network, train: Iterable[int], before: State, after:
 
 
 def is_missed(network: Network, state: State, place: int) -> bool:
-    """Whether a change costs its penalty: it is dropped, or its departure has passed too early."""
+    """Whether a change costs its penalty: it is dropped, its departure has passed too early, or a train of it is cancelled there."""
+    if has_cancelled_end(network, state.rows, place):
+        return True
     if state.rows.passed[network.heads[place]] is not None:
         return not is_met(network, state.rows, state.times, place)
     return not state.rows.kept[place]
+
+
+def has_cancelled_end(network: Network, rows: Rows, place: int) -> bool:
+    return rows.cancelled[network.tails[place]] or rows.cancelled[network.heads[place]]
 
 
 def compare(scene: Scene, before: State, after: State) -> Compared:
@@ -125,8 +131,12 @@ def lines_of(naming: Naming, compared: Compared, words: tuple[str, str]) -> Iter
 
 
 def met_all_the_same(naming: Naming, dropped: State, place: int) -> list[str]:
-    """What is said of a change for which there is time where it is dropped, too."""
-    if not is_met(naming.network, dropped.rows, dropped.times, place):
+    """What is said of a change for which there is time where it is dropped, too, or of which a train is cancelled."""
+    network = naming.network
+    gone = [end for end in (network.tails[place], network.heads[place]) if dropped.rows.cancelled[end]]
+    if gone:
+        return [f'{naming.event(end)}: this is cancelled, so nobody changes there' for end in gone]
+    if not is_met(network, dropped.rows, dropped.times, place):
         return []
     return [f'{naming.activity(naming.network.activities[place].id)}: there is time to change all the same, but nobody waits']
 

@@ -13,10 +13,10 @@ from dispatch_tools.desk.undoing import reversal, Subject, subjects_of
 from dispatch_tools.formats.journal import Answered, Head
 from dispatch_tools.formats.lines import Bad
 from dispatch_tools.formats.runtext import Item, PLANNED, Run
-from dispatch_tools.model.messages import Adopt, AdoptLast, Message
+from dispatch_tools.model.messages import Adopt, AdoptLast, CarryOver, Message
 from dispatch_tools.model.network import Network
 from dispatch_tools.model.parts import PlanByParts
-from dispatch_tools.model.railway import decisions_of, is_met, Plan, refusal_at_once, Rows
+from dispatch_tools.model.railway import decisions_of, is_missed, Plan, refusal_at_once, Rows
 from dispatch_tools.pictures.scene import changes_of, Scene, trains_of
 
 # If more entries come at once, all times are worked out anew, and not entry by entry.
@@ -54,6 +54,13 @@ class Told(NamedTuple):
     item: Item
     entry: Optional[int]
     back: Optional[list[Message]]
+
+
+class Adoption(NamedTuple):
+    """How the last plan was adopted: the line that did, how many of its choices it entered, and whether only what was still free."""
+    line: int
+    choices: int
+    carried: bool
 
 
 class Reported(NamedTuple):
@@ -101,6 +108,7 @@ class Day:
         self.plan: Optional[Plan | PlanByParts] = None
         self.plan_line = 0
         self.adopted = 0
+        self.adoption: Optional[Adoption] = None
         self.lateness = [self.lateness_of(train) for train in self.trains]
         self.waits: dict[int, int] = {}
         self.missed: set[int] = set()
@@ -146,7 +154,7 @@ class Day:
             self.report(Reported(number, feed, entry.line, entry.message, self.clock))
         if feed == self.feed:
             self.told.append(Told(item, number, back))
-            self.take_plan(item, number)
+            self.take_plan(item, number, len(decisions_of(entry.message)) if entry else 0)
         return touched
 
     def report(self, reported: Reported) -> None:
@@ -158,12 +166,12 @@ class Day:
         if isinstance(reported.message, Adopt) and reported.feed != self.feed:
             self.adoptions.append(reported)
 
-    def take_plan(self, item: Item, number: Optional[int]) -> None:
-        """The last plan of the desk's own feed, of either kind, the line that asked for it, and whether it was adopted."""
+    def take_plan(self, item: Item, number: Optional[int], choices: int) -> None:
+        """The last plan of the desk's own feed, of either kind, the line that asked for it, and whether, and how, it was adopted."""
         if item.answer is not None and item.answer.kind in PLANNED:
-            self.plan, self.plan_line, self.adopted = item.answer.value, item.line, 0
-        elif isinstance(item.said, AdoptLast) and number is not None:
-            self.adopted = number
+            self.plan, self.plan_line, self.adopted, self.adoption = item.answer.value, item.line, 0, None
+        elif isinstance(item.said, (AdoptLast, CarryOver)) and number is not None:
+            self.adopted, self.adoption = number, Adoption(item.line, choices, isinstance(item.said, CarryOver))
 
     def look_at(self, touched: set[int]) -> None:
         """Works out anew what depends on events: how late their trains are, and the changes at them."""
@@ -177,7 +185,7 @@ class Day:
 
     def lateness_of(self, train: list[int]) -> Lateness:
         rows, times, events = self.reckoning.rows, self.reckoning.times, self.network.events
-        ahead = [place for place in train if rows.passed[place] is None]
+        ahead = [place for place in train if rows.passed[place] is None and not rows.cancelled[place]]
         if not ahead:
             return Lateness(0, train[-1], None)
         worst = max(ahead, key=lambda place: times[place] - events[place].time)
@@ -191,9 +199,9 @@ class Day:
             self.waits.pop(change, None)
             self.missed.discard(change)
             if rows.passed[head] is not None:
-                if rows.kept[change] and not is_met(network, rows, times, change):
+                if rows.kept[change] and is_missed(network, rows, times, change):
                     self.missed.add(change)
-            elif rows.kept[change]:
+            elif rows.kept[change] and not (rows.cancelled[tail] or rows.cancelled[head]):
                 ready = times[tail] + network.activities[change].lower + rows.activity_delays[change]
                 if ready == times[head] and (wait := ready - self.reckoning.least(head, change)) > 0:
                     self.waits[change] = wait

@@ -2,7 +2,7 @@
 from __future__ import annotations
 
 from dataclasses import dataclass
-from typing import Any, Callable, Sequence
+from typing import Any, Callable, NamedTuple, Sequence
 
 from dispatch_tools.desk.asking import Followed
 from dispatch_tools.desk.concerns import arrivals_moved, comes_to, minutes, people, State, state_of
@@ -125,3 +125,10 @@ def effect(alone: Alone, plan: Plan | PlanByParts, before: Followed, after: Foll
         'trains': [[*row[:3], duration(row[3]), duration(row[4]), signed(row[5])] for row in moved[:MOST]],
         'parts': part_rows(naming, parts)[:MOST], 'partCount': len(parts), 'agrees': after.cost == plan.cost,
     }
+
+
+class Effect(NamedTuple):
+    """What a plan would change: as the page's tables have it, and the times by place."""
+    plan: Plan | PlanByParts
+    found: dict[str, Any]
+    times: list[int]

@@ -11,7 +11,7 @@ from dispatch_tools.live.feed_file import append
 from dispatch_tools.model.messages import AskPlan, AskSolve, Said
 
 # What may be entered or asked on the page. The clock and other questions are for other feeds, and a plan is adopted by its line.
-TOLD = ('delay event', 'delay activity', 'pass', 'recall', 'keep', 'drop', 'first', 'plan', 'solve')
+TOLD = ('delay event', 'delay activity', 'pass', 'recall', 'keep', 'drop', 'first', 'unlock', 'plan', 'solve')
 
 
 def line_of(kind: object, numbers: object) -> Optional[str]:

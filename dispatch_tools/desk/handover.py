@@ -6,7 +6,8 @@ from typing import TYPE_CHECKING, Iterable, Iterator, Sequence
 from dispatch_tools.desk.day import Day, Reported
 from dispatch_tools.desk.naming import few
 from dispatch_tools.desk.notebook import wall_time
-from dispatch_tools.desk.screen import late_row, plan_row
+from dispatch_tools.desk.screen import cancelled_row, late_row, lock_row, plan_row
+from dispatch_tools.desk.steering import cancelled_trains, locks
 from dispatch_tools.formats.markup import escaped
 from dispatch_tools.model.messages import Adopt, DelayActivity, DelayEvent, Drop
 from dispatch_tools.pictures.scene import whole_time
@@ -35,7 +36,8 @@ def state(room: Room) -> str:
     cost = f' The day costs {cost_words(followed.cost)} at entry {followed.entries}.' if followed else ''
     if plan is None:
         return f'Entries: {len(room.day.entries)}.{cost} No plan was asked for here.'
-    is_what = f'adopted as entry {plan["adopted"]}' if plan['adopted'] else 'old' if plan['old'] else 'not adopted yet'
+    adopted = f'adopted as entry {plan["adopted"]}{"" if plan["undone"] is None else ", and taken back"}'
+    is_what = adopted if plan['adopted'] else 'old' if plan['old'] else 'not adopted yet'
     return f'Entries: {len(room.day.entries)}.{cost} The plan of entry {plan["entry"]} is {is_what}.'
 
 
@@ -46,6 +48,8 @@ def sections(room: Room) -> Iterator[str]:
                   [[row['severity'], row['clock'], row['words'], row['who'], row['at']] for row in standing.seen_rows])
     late = [late_row(day, number) for number in day.late_trains(60)[:MOST]]
     yield section('Late trains', ['Train', 'Next', 'Scheduled', 'Now', 'Late there', 'At the worst'], [[*row[1:6], row[7]] for row in late])
+    yield section('Cancelled trains', ['Train', 'Part', 'Whom it concerns', 'By'], [cancelled_row(room, number)[1:] for number in cancelled_trains(day)])
+    yield section('Choices that are held', ['What', 'By'], [lock_row(room, choice)[1:] for choice in locks(day.reckoning.rows)])
     yield section('Reports that hold', ['What'], [[words] for words in delays(day)])
     yield section('Changes that nobody waits for', ['What'], [[words] for words in dropped(day)])
     yield section('Decisions of the last hour', ['Entry', 'Clock', 'By', 'What'], [decided(room, one) for one in last_hour(day)])

@@ -5,10 +5,10 @@ from typing import Any, Optional
 
 from dispatch_tools.formats.runtext import Answer
 from dispatch_tools.model.messages import (
-    Adopt, AdoptLast, AskCost, AskEntries, AskPlan, AskSolve, AskTime, Decision, DelayActivity, DelayEvent, First, Keep, Message, Now, Pass,
-    Recall, Refusal, Said, Statement, STATEMENTS,
+    Adopt, AdoptLast, AskCost, AskEntries, AskPlan, AskSolve, AskTime, Cancel, CarryOver, Decision, DelayActivity, DelayEvent, First, Keep, Lock,
+    Message, Now, Pass, Recall, Refusal, Restore, Said, Statement, STATEMENTS, Unlock,
 )
-from dispatch_tools.model.network import Network
+from dispatch_tools.model.network import Change, Choice, Network, Pair
 from dispatch_tools.pictures.scene import clock_time, counted, duration
 from dispatch_tools.pictures.view import cost_words
 
@@ -89,6 +89,8 @@ class Naming:
             return 'what does the day cost?'
         if isinstance(said, AskEntries):
             return 'how far is the journal?'
+        if isinstance(said, CarryOver):
+            return 'adopt what is still free of the plan'
         return 'adopt the plan' if isinstance(said, AdoptLast) else 'a line that says nothing'
 
     def stated(self, said: Statement) -> str:
@@ -101,6 +103,10 @@ class Naming:
             return self.passed(said)
         if isinstance(said, Recall):
             return self.recalled(said)
+        if isinstance(said, (Cancel, Restore)):
+            return f'{self.event_of(said.event)}: {"cancelled" if isinstance(said, Cancel) else "not cancelled any more"}'
+        if isinstance(said, (Lock, Unlock)):
+            return f'{self.choice(said.choice)}: {"locked" if isinstance(said, Lock) else "not locked any more"}'
         return f'it is {clock_time(said.time, True)}' if isinstance(said, Now) else self.decision(said)
 
     def passed(self, said: Pass) -> str:
@@ -111,6 +117,13 @@ class Naming:
     def recalled(self, said: Recall) -> str:
         place = self.place(said.event)
         return f'event {said.event} has not passed' if place is None else f'{self.event(place, "has not left", "has not reached")} after all'
+
+    def choice(self, choice: Choice) -> str:
+        """A choice in words."""
+        if isinstance(choice, Change):
+            return self.activity(choice.activity)
+        one, other = self.place(choice.first), self.place(choice.second)
+        return str(choice) if one is None or other is None else f'{self.train(one)} and {self.train(other)} at {self.at(one)}'
 
     def decision(self, decision: Decision) -> str:
         """A decision in words."""
@@ -155,6 +168,11 @@ class Naming:
         kind, said = refusal.reason, refusal.numbers
         if kind == 'passed':
             return f'{self.event_of(said[0])} has passed at {clock_time(said[1], True)}'
+        if kind in ('cancelled', 'not-cancelled'):
+            return f'{self.event_of(said[0])}: this is {"cancelled" if kind == "cancelled" else "not cancelled"}'
+        if kind in ('locked', 'not-locked'):
+            choice: Choice = Change(said[0]) if len(said) == 1 else Pair(said[0], said[1])
+            return f'{self.choice(choice)}: this is {"locked" if kind == "locked" else "not locked"}'
         if kind == 'not-passed':
             return f'{self.event_of(said[0])} has not passed'
         if kind == 'back':

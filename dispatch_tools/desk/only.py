@@ -5,8 +5,10 @@ from typing import TYPE_CHECKING, Any, Iterable, NamedTuple, Optional
 
 from dispatch_tools.desk.alerts import LATE, limited, MISSED, WAITS
 from dispatch_tools.desk.day import Day, Reported, SHOWN
-from dispatch_tools.desk.screen import journal_row, late_row
-from dispatch_tools.model.messages import DelayActivity, DelayEvent, First, Message, Pass, Recall
+from dispatch_tools.desk.screen import cancelled_row, journal_row, late_row
+from dispatch_tools.desk.steering import cancelled_trains
+from dispatch_tools.model.messages import Cancel, DelayActivity, DelayEvent, First, Lock, Message, Pass, Recall, Restore, Unlock
+from dispatch_tools.model.network import Change
 from dispatch_tools.model.railway import decisions_of
 
 if TYPE_CHECKING:
@@ -34,10 +36,15 @@ def trains_of(room: Room, only: Only) -> set[int]:
 def places_of(day: Day, message: Message) -> list[int]:
     """The events that a message is about."""
     network = day.network
-    if isinstance(message, (DelayEvent, Pass, Recall)):
+    if isinstance(message, (DelayEvent, Pass, Recall, Cancel, Restore)):
         return [network.event_place[message.event]]
     activities = [message.activity] if isinstance(message, DelayActivity) else []
-    places = []
+    places: list[int] = []
+    if isinstance(message, (Lock, Unlock)):
+        if isinstance(message.choice, Change):
+            activities.append(message.choice.activity)
+        else:
+            places += map(network.event_place.__getitem__, message.choice.numbers)
     for decision in decisions_of(message):
         if isinstance(decision, First):
             places += [network.event_place[event] for event in (decision.event, decision.other)]
@@ -69,6 +76,7 @@ def screen_only(room: Room, only: Only) -> dict[str, Any]:
     journal = [one for one in reversed(day.last) if is_about(one)][:SHOWN]
     return {
         'late': [late_row(day, number) for number in late[:SHOWN]], 'lateCount': len(late), 'trains': len(trains),
+        'cancelled': [cancelled_row(room, number) for number in cancelled_trains(day) if number in trains][:SHOWN],
         'alerts': limited(filter(concerns, room.standing.open_rows)), 'seen': [*filter(concerns, room.standing.seen_rows)],
         'journal': [journal_row(room, one) for one in journal],
     }

@@ -10,7 +10,7 @@ from __future__ import annotations
 import heapq
 from typing import Iterable
 
-from dispatch_tools.model.messages import Decision, DelayActivity, DelayEvent, First, Message, Now, Pass, Recall
+from dispatch_tools.model.messages import Cancel, Decision, DelayActivity, DelayEvent, First, Message, Now, Pass, Recall, Restore
 from dispatch_tools.model.network import Network
 from dispatch_tools.model.railway import apply, decisions_of, floor_of, Rows, times_of
 
@@ -44,12 +44,12 @@ class Reckoning:
         """The time of an event beside the times of the others, with or without one activity that leads to it."""
         rows, network = self.rows, self.network
         time = floor_of(network, rows, place)
-        if rows.passed[place] is not None:
+        if rows.passed[place] is not None or rows.cancelled[place]:
             return time
         for activity in self.into[place]:
             tail, pair = network.tails[activity], network.pair_by_activity[activity]
             holds = rows.kept[activity] if pair is None else rows.passed[tail] is not None or rows.first[pair] == tail
-            if holds and activity != left_out:
+            if holds and activity != left_out and not rows.cancelled[tail]:
                 asked = self.times[tail] + network.activities[activity].lower + rows.activity_delays[activity]
                 time = max(time, asked)
         return time
@@ -82,7 +82,7 @@ class Reckoning:
             return [network.heads[network.activity_place[message.activity]]]
         if isinstance(message, DelayEvent):
             return [network.event_place[message.event]]
-        if isinstance(message, (Pass, Recall)):
+        if isinstance(message, (Pass, Recall, Cancel, Restore)):
             place = network.event_place[message.event]
             return [place, *(network.heads[activity] for activity in network.out_of[place])]
         return [place for decision in decisions_of(message) for place in self.decided(decision)]

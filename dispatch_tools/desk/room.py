@@ -14,22 +14,25 @@ from dispatch_tools.desk.concerns import State
 from dispatch_tools.desk.control import Control
 from dispatch_tools.desk.day import Day, Reported, Told
 from dispatch_tools.desk.doubts import doubts_of
-from dispatch_tools.desk.effects import Alone, effect
+from dispatch_tools.desk.effects import Alone, effect, Effect
 from dispatch_tools.desk.feed import Feed, line_of
 from dispatch_tools.desk.naming import few
 from dispatch_tools.desk.notebook import Action, Notebook, Seen, wall_time
 from dispatch_tools.desk.pictures import Asked, Picture, Pictures, Shown, Version
 from dispatch_tools.desk.reckoning import Cycle
 from dispatch_tools.desk.screen import screen_of
-from dispatch_tools.desk.undoing import standing, Subject, subjects_of, turned_back
+from dispatch_tools.desk.steering import (
+    AGAIN, BEGINS, ENDS, held_lines, is_cancelled_words, lines_for, open_at_end, part_of, PARTS, still_free, warnings,
+)
+from dispatch_tools.desk.undoing import standing, Subject, subjects_of
 from dispatch_tools.formats.files import BadFile
 from dispatch_tools.formats.journal import Answered, Blocks, journal_of, read_head, Rounds
 from dispatch_tools.formats.lines import Bad
 from dispatch_tools.model.decide import in_turn
 from dispatch_tools.formats.runtext import heard
-from dispatch_tools.model.messages import Decision, DECISIONS, Message
+from dispatch_tools.model.messages import Cancel, Decision, DECISIONS, Lock, Message
 from dispatch_tools.model.parts import PlanByParts
-from dispatch_tools.model.railway import decision_refusal, Plan, refusal_at_once
+from dispatch_tools.model.railway import apply, decision_refusal, Plan, refusal_at_once, Rows
 from dispatch_tools.pictures.diagram import Preview
 from dispatch_tools.pictures.scene import counted, lines_of, whole_time
 
@@ -62,13 +65,6 @@ class Undone(NamedTuple):
     left: list[str]
 
 
-class Effect(NamedTuple):
-    """What a plan would change: as the page's tables have it, and the times by place."""
-    plan: Plan | PlanByParts
-    found: dict[str, Any]
-    times: list[int]
-
-
 @dataclass
 class Settings:
     """How a desk was started."""
@@ -81,16 +77,6 @@ class Settings:
     tells: bool
     name: str = ''
     start: Sequence[str] = ()
-
-
-def open_at_end(day: Day) -> list[str]:
-    """What of a day is not over."""
-    ahead = sum(lateness.next is not None for lateness in day.lateness)
-    return [f'{counted(ahead, "train has", "trains have")} not arrived yet.'] if ahead else []
-
-
-def waiting_words(count: int) -> list[str]:
-    return [f'{counted(count, "line of this desk waits", "lines of this desk wait")} for the server.'] if count else []
 
 
 @dataclass
@@ -176,7 +162,7 @@ class Room:
         head = read_head(content)
         settings, day = self.settings, self.day
         with self.changed:
-            self.rounds = Rounds(head)
+            self.rounds = Rounds(head, day.network, day.start)
             day.begin(head)
             if settings.program is None:
                 self.asking = SecondReading(day.network, day.start, head.penalty)
@@ -305,8 +291,7 @@ class Room:
             if self.control.runs() is not True:
                 raise Refused('no server runs over this store')
             if type(agreed) is not int:
-                raise Doubted([*open_at_end(self.day), *waiting_words(len(self.pending)), 'The server ends. What is reported later waits for the next start.'],
-                              len(self.day.entries))
+                raise Doubted(open_at_end(self.day, len(self.pending)), len(self.day.entries))
             self.control.close()
             self.notebook.close(self.who())
         self.show()
@@ -394,13 +379,24 @@ class Room:
                     back.pop(subject, None)
                     back[subject] = one
         moved = [one for subject, one in back.items() if standing(subject, rows, network) != one]
-        free, left = self.still_free([one for one in moved if isinstance(one, DECISIONS)])
-        reports = [one for one in moved if not isinstance(one, DECISIONS)]
-        for one in reports:
-            refusal = refusal_at_once(network, rows, one)
+        # What is locked or cancelled binds choices: so these end before choices are made, and begin behind them.
+        reports = [one for one in moved if not isinstance(one, (*DECISIONS, Cancel, Lock))]
+        reported = self.rows_behind(rows, reports)
+        free, left = still_free(self.day.naming, reported, [one for one in moved if isinstance(one, DECISIONS)])
+        binding = [one for one in moved if isinstance(one, (Cancel, Lock))]
+        decided = self.turned(free, reported) if len(free) > 1 else free
+        self.rows_behind(self.rows_behind(reported, decided), binding)
+        return [*reports, *decided, *binding], left
+
+    def rows_behind(self, rows: Rows, messages: Sequence[Message]) -> Rows:
+        """The rows behind messages that take something back. Refused if one of them is refused at once."""
+        behind = rows.copy()
+        for one in messages:
+            refusal = refusal_at_once(self.day.network, behind, one)
             if refusal is not None:
                 raise Refused(f'it cannot be taken back: {self.day.naming.refusal(refusal)}')
-        return [*reports, *(self.turned(free) if len(free) > 1 else free)], left
+            apply(self.day.network, behind, one)
+        return behind
 
     def said_since(self, entry: int, back: list[Message]) -> list[Reported]:
         """What was said later than an entry of what some lines are about, the last of each."""
@@ -410,22 +406,10 @@ class Room:
     def since_words(self, one: Reported) -> str:
         return f'{self.reporter(one.feed, one.line)} has said since: {self.day.naming.said(one.message)} (entry {one.entry}).'
 
-    def still_free(self, decisions: Sequence[Decision]) -> tuple[list[Decision], list[str]]:
-        """The decisions that can still be made, and in words each other one that differs from the rows, with what refuses it."""
-        network, rows, naming = self.day.network, self.day.reckoning.rows, self.day.naming
-        free, others = [], []
-        for decision in decisions:
-            refusal = decision_refusal(network, rows, decision)
-            if refusal is None:
-                free.append(decision)
-            elif turned_back(decision, rows, network) is not None:
-                others.append(f'{naming.decision(decision)} ({naming.refusal(refusal)})')
-        return free, few(others)
-
-    def turned(self, decisions: Sequence[Decision]) -> list[Decision]:
+    def turned(self, decisions: Sequence[Decision], rows: Rows) -> list[Decision]:
         """The decisions that differ from the rows, in an order in which none closes a cycle."""
         try:
-            return in_turn(self.day.network, self.day.reckoning.rows, decisions)
+            return in_turn(self.day.network, rows, decisions)
         except ValueError as error:
             raise Refused('with what was entered since, they would close a cycle') from error
 
@@ -444,14 +428,46 @@ class Room:
             self.looked_at(line)
             return self.put(['adopt'])
 
-    def enter_choices(self, line: object) -> int:
-        """Enters one by one the choices of the plan that a line asked for, those that are still free and differ from the rows, in an
-        order in which none closes a cycle; the number of the first line. Refused if it is not the last plan."""
+    def carry(self, line: object, agreed: object = None) -> int:
+        """Enters what is still free of the plan that a line asked for; the number of the line that does. Refused if it is not the last plan,
+        and doubted if some of its choices are no longer free."""
         with self.changed:
-            lines = [*map(str, self.turned(self.still_free(self.looked_at(line).choices)[0]))]
+            plan = self.looked_at(line)
+            free, gone = still_free(self.day.naming, self.day.reckoning.rows, plan.choices)
+            if not free:
+                raise Refused('nothing of this plan is still free')
+            if gone and type(agreed) is not int:
+                words = [f'No longer free: {words}.' for words in gone]
+                raise Doubted([*words, f'Still free: {counted(len(free), "choice", "choices")} of {len(plan.choices)}.'], len(self.day.entries))
+            return self.put(['carry'])
+
+    def cancel(self, train: object, part: object, event: object, agreed: object = None) -> int:
+        """Cancels a train, or a part of it, or lets it run again; the number of the first line. Doubted before something is cancelled."""
+        with self.changed:
+            day = self.day
+            if type(train) is not int or not 0 <= train < len(day.trains) or part not in PARTS:
+                raise Refused('there is no such train, or no such part of one')
+            place = day.network.event_place.get(event) if type(event) is int else None
+            if part in (ENDS, BEGINS) and place not in day.trains[train]:
+                raise Refused('the train has no such event')
+            lines = lines_for(day, str(part), part_of(day.network, day.trains[train], str(part), -1 if place is None else place))
             if not lines:
-                raise Refused('nothing of this plan is left to enter')
-            return self.put(lines, f'{counted(len(lines), "choice", "choices")} of the plan of line {line}')
+                raise Refused('nothing of it is cancelled' if part == AGAIN else 'nothing of it is left to cancel')
+            if part != AGAIN and type(agreed) is not int:
+                raise Doubted(warnings(day, train, lines), len(day.entries))
+            return self.put([*map(str, lines)], is_cancelled_words(day, train, lines))
+
+    def hold(self, kind: object, numbers: object) -> int:
+        """Makes a choice and locks it; the number of the first line. Refused if it cannot be made or locked."""
+        decision = heard(line_of(kind, numbers) or '')
+        if not isinstance(decision, DECISIONS):
+            raise Refused('this is no choice')
+        with self.changed:
+            refusal = decision_refusal(self.day.network, self.day.reckoning.rows, decision)
+            if refusal is not None:
+                raise Refused(self.day.naming.refusal(refusal))
+            lines = held_lines(self.day.network, self.day.reckoning.rows, decision)
+            return self.put([*map(str, lines)], 'held')
 
     def put(self, lines: list[str], says: str = '', undoes: int = 0) -> int:
         """Appends lines to the feed, as one action if they are called so, and gives the number of the first."""

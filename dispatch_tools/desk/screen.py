@@ -8,14 +8,19 @@ from typing import TYPE_CHECKING, Any, Optional
 
 from dispatch_tools.desk.day import Day, Reported, SHOWN, Told
 from dispatch_tools.desk.naming import few, Naming, raw
-from dispatch_tools.desk.undoing import standing, subjects_of
+from dispatch_tools.desk.steering import cancelled_trains, cancelled_words, locks, subject_of_lock
+from dispatch_tools.desk.undoing import standing, Subject, subjects_of
 from dispatch_tools.formats.runtext import heard, Item
-from dispatch_tools.model.messages import First
-from dispatch_tools.pictures.scene import clock_time, conflicts_of, duration, whole_time
+from dispatch_tools.model.messages import Decision, Drop, First, Keep
+from dispatch_tools.model.network import Change, Choice
+from dispatch_tools.pictures.scene import clock_time, conflicts_of, counted, duration, whole_time
 from dispatch_tools.pictures.view import cost_words
 
 if TYPE_CHECKING:
     from dispatch_tools.desk.room import Room
+
+# Of an action so many lines are told in words.
+FEW_LINES = 3
 
 # At most so many bytes at the end of a board's file are read.
 BOARD_TAIL = 1 << 20
@@ -32,6 +37,7 @@ def screen_of(room: Room) -> dict[str, Any]:
         'confirmed': followed.entries if followed else None, 'second': room.settings.program is None,
         'cost': cost_words(followed.cost) if followed else '', 'who': room.who(),
         'late': [late_row(day, number) for number in late[:SHOWN]], 'lateCount': len(late), 'trains': len(day.trains),
+        'cancelled': [cancelled_row(room, number) for number in cancelled_trains(day)[:SHOWN]], 'locks': [lock_row(room, choice) for choice in locks(day.reckoning.rows)[:SHOWN]],
         'alerts': room.standing.rows, 'seen': room.standing.seen_rows,
         'journal': [journal_row(room, one) for one in islice(reversed(day.last), SHOWN)],
         'told': told_rows(room), 'plan': plan_row(room),
@@ -42,6 +48,31 @@ def screen_of(room: Room) -> dict[str, Any]:
 def journal_row(room: Room, one: Reported) -> list[Any]:
     """An entry: its number, who made it, and what it says, in words and as the feed has it."""
     return [one.entry, room.reporter(one.feed, one.line), room.day.naming.said(one.message), raw(one.message)]
+
+
+def by_whom(room: Room, subject: Subject) -> str:
+    """Who said a thing last, and in which entry."""
+    found = room.day.latest.get(subject)
+    return '' if found is None else f'{room.reporter(found.feed, found.line)}, entry {found.entry}'
+
+
+def cancelled_row(room: Room, number: int) -> list[Any]:
+    """A train that is cancelled: its number, its name, which part, whom it concerns, and who has said so."""
+    day = room.day
+    gone = next(place for place in day.trains[number] if day.reckoning.rows.cancelled[place])
+    return [number, day.naming.labels[number], *cancelled_words(day, number), by_whom(room, Subject('cancel', day.network.events[gone].id))]
+
+
+def lock_row(room: Room, choice: Choice) -> list[Any]:
+    """A choice that is locked: the numbers that a line names it by, how it was decided, in words, and who has locked it."""
+    network, rows, naming = room.day.network, room.day.reckoning.rows, room.day.naming
+    if isinstance(choice, Change):
+        decided: Decision = Keep(choice.activity) if rows.kept[network.activity_place[choice.activity]] else Drop(choice.activity)
+    else:
+        one, other = network.event_place[choice.first], network.event_place[choice.second]
+        is_first = rows.first[network.pair_at(one, other)] == one
+        decided = First(choice.first, choice.second) if is_first else First(choice.second, choice.first)
+    return [list(choice.numbers), naming.decision(decided), by_whom(room, subject_of_lock(choice))]
 
 
 def late_row(day: Day, number: int) -> list[Any]:
@@ -75,7 +106,8 @@ def told_row(room: Room, group: list[Told]) -> dict[str, Any]:
     and what stands now if they were taken back."""
     day, naming, first = room.day, room.day.naming, group[0].item.line
     action = room.notebook.actions.get(first)
-    says = naming.said(group[0].item.said) if len(group) == 1 else '; '.join(few([naming.said(told.item.said) for told in group]))
+    said = [naming.said(told.item.said) for told in group]
+    says = '; '.join(said) if len(said) <= FEW_LINES else counted(len(said), 'line', 'lines')
     waits = any(told.item.line in room.pending for told in group)
     refused = [told for told in group if not waits and not is_good(told)]
     answer = '' if waits else answer_words(naming, group, refused)
@@ -111,13 +143,16 @@ def stands_now(day: Day, group: list[Told]) -> list[str]:
 
 
 def plan_row(room: Room) -> Optional[dict[str, Any]]:
-    """The last plan of the desk's feed in short, and whether what it would change is known."""
+    """The last plan of the desk's feed in short, how many of its choices were carried over and which line has taken them back, and whether
+    what it would change is known."""
     plan, day = room.day.plan, room.day
     if plan is None:
         return None
+    adoption = day.adoption
     return {
         'line': day.plan_line, 'entry': plan.entry, 'mark': plan.mark, 'cost': cost_words(plan.cost), 'bound': cost_words(plan.bound), 'count': len(plan.choices),
         'old': not day.adopted and plan.entry < len(day.entries), 'adopted': day.adopted,
+        'carried': adoption.choices if adoption and adoption.carried else None, 'undone': room.notebook.undone.get(adoption.line) if adoption else None,
         'ready': room.effect is not None and room.effect.plan is plan, 'previewed': room.previewed() is not None,
     }
 
@@ -165,16 +200,25 @@ def train_of(day: Day, number: int) -> dict[str, Any]:
         'events': [event_row(day, place, naming.at(place)) for place in train],
         'legs': [[network.activities[leg].id, naming.activity(network.activities[leg].id),
                   duration(rows.activity_delays[leg]) if rows.activity_delays[leg] else ''] for leg in legs],
-        'changes': [[network.activities[change].id, naming.activity(network.activities[change].id), rows.kept[change],
-                     rows.passed[network.heads[change]] is not None, duration(day.waits[change]) if change in day.waits else ''] for change in changes],
-        'pairs': [pair_row(day, pair) for pair in pairs if all(rows.passed[place] is None for place in network.pairs[pair])],
+        'changes': [change_row(day, change) for change in changes],
+        'pairs': [pair_row(day, pair) for pair in pairs
+                  if all(rows.passed[place] is None and not rows.cancelled[place] for place in network.pairs[pair])],
         'times': [times[train[0]], times[train[-1]]],
     }
 
 
+def change_row(day: Day, change: int) -> list[Any]:
+    """A change: its id and words, whether it is kept, whether its train has left, how long that waits, whether an end is cancelled, and
+    whether it is locked."""
+    network, rows, number = day.network, day.reckoning.rows, day.network.activities[change].id
+    tail, head = network.tails[change], network.heads[change]
+    return [number, day.naming.activity(number), rows.kept[change], rows.passed[head] is not None,
+            duration(day.waits[change]) if change in day.waits else '', rows.cancelled[tail] or rows.cancelled[head], Change(number) in rows.locked]
+
+
 def pair_row(day: Day, pair: int) -> list[Any]:
-    """A pair: the event that goes first and the other one, by id, in words with what turning it would say, a headway between, and how
-    long the other one waits."""
+    """A pair: the event that goes first and the other one, by id, in words with what turning it would say, a headway between, how
+    long the other one waits, and whether their order is locked."""
     ends, rows = day.network.pairs[pair], day.reckoning.rows
     first = rows.first[pair]
     other = ends[0] if ends[1] == first else ends[1]
@@ -182,15 +226,18 @@ def pair_row(day: Day, pair: int) -> list[Any]:
     waits = conflicts_of(day.network, rows, day.reckoning.times, [pair], dict(zip(ends, map(day.reckoning.into.__getitem__, ends))))
     return [events[first].id, events[other].id, naming.decision(First(events[first].id, events[other].id)),
             naming.decision(First(events[other].id, events[first].id)),
-            day.network.activities[day.network.headways[ends][0]].id, duration(waits[0].wait) if waits else '']
+            day.network.activities[day.network.headways[ends][0]].id, duration(waits[0].wait) if waits else '',
+            day.network.pair_choice(pair) in rows.locked]
 
 
 def event_row(day: Day, place: int, where: str) -> list[Any]:
-    """An event: id, where, kind, scheduled, now, how late, whether it has passed, its own delay, and both times in seconds."""
+    """An event: id, where, kind, scheduled, now, how late, whether it has passed, its own delay, both times in seconds, and whether it is
+    cancelled."""
     event, time, rows = day.network.events[place], day.reckoning.times[place], day.reckoning.rows
-    late = max(0, time - event.time)
-    return [event.id, where, event.kind, clock_time(event.time, True), clock_time(time, True), duration(late) if late else '',
-            rows.passed[place] is not None, rows.event_delays[place], event.time, time]
+    is_cancelled = rows.cancelled[place]
+    late = 0 if is_cancelled else max(0, time - event.time)
+    return [event.id, where, event.kind, clock_time(event.time, True), '–' if is_cancelled else clock_time(time, True),
+            duration(late) if late else '', rows.passed[place] is not None, rows.event_delays[place], event.time, time, is_cancelled]
 
 
 def board_of(room: Room, stop: int) -> dict[str, Any]:

@@ -213,7 +213,7 @@ class Handler(BoundedHandler):
         refusal = self.server.rights.refusal_to_tell(self.headers)  # type: ignore[arg-type]
         if refusal is not None:
             raise Asks(403, refusal)
-        take = {'/tell': self.post_tell, '/undo': self.post_undo, '/see': self.post_see, '/enter': self.post_enter, '/adopt': self.post_adopt,
+        take = {'/tell': self.post_tell, '/undo': self.post_undo, '/see': self.post_see, '/carry': self.post_carry, '/cancel': self.post_cancel, '/hold': self.post_hold, '/adopt': self.post_adopt,
                 '/window': self.post_window, '/rules': self.post_rules, '/close': self.post_close, '/start': self.post_start,
                 '/token': self.post_token}.get(self.path)
         if take is None:
@@ -249,8 +249,14 @@ class Handler(BoundedHandler):
         self.server.room.see(asked.get('kind'), asked.get('key'))
         self.send_json({})
 
-    def post_enter(self, asked: dict[str, Any]) -> None:
-        self.send_json({'line': self.server.room.enter_choices(asked.get('plan'))})
+    def post_carry(self, asked: dict[str, Any]) -> None:
+        self.send_json({'line': self.server.room.carry(asked.get('plan'), asked.get('agreed'))})
+
+    def post_cancel(self, asked: dict[str, Any]) -> None:
+        self.send_json({'line': self.server.room.cancel(asked.get('train'), asked.get('part'), asked.get('event'), asked.get('agreed'))})
+
+    def post_hold(self, asked: dict[str, Any]) -> None:
+        self.send_json({'line': self.server.room.hold(asked.get('kind'), asked.get('numbers'))})
 
     def post_adopt(self, asked: dict[str, Any]) -> None:
         self.send_json({'line': self.server.room.adopt(asked.get('plan'))})

@@ -12,6 +12,7 @@ from typing import Callable, Generic, Iterable, Iterator, Mapping, Optional, Typ
 
 from dispatch_tools.formats.files import BadFile, text_of
 from dispatch_tools.model.network import Activity, Event, KINDS, Network
+from dispatch_tools.model.railway import Rows
 
 EVENTS = 'Events-expanded.giv'
 ACTIVITIES = 'Activities-expanded.giv'
@@ -150,6 +151,26 @@ def read_delays(folder: str, name: Optional[str]) -> list[tuple[int, int]]:
     """The ids and delays of a delay file, of which the last one of an id holds; none where there is no name."""
     rows = rows_of_file(folder, name, lambda number, delay: (whole(number), whole(delay))) if name else []
     return [row for _, row in rows]
+
+
+def read_cancelled(folder: str, name: Optional[str]) -> list[int]:
+    """The ids of the events of a file that are cancelled at the start; none where there is no name."""
+    return [event for _, event in rows_of_file(folder, name, whole)] if name else []
+
+
+def start_rows(network: Network, folder: str, event_delays: Optional[str] = None, activity_delays: Optional[str] = None,
+               cancelled: Optional[str] = None) -> Rows:
+    """The rows at the start of a day, by the names of files in a folder; BadFile if one is none, or names what the network has not."""
+    late, longer, gone = read_delays(folder, event_delays), read_delays(folder, activity_delays), read_cancelled(folder, cancelled)
+    named = [
+        (event_delays, 'event', [event for event, _ in late], network.event_place),
+        (activity_delays, 'activity', [activity for activity, _ in longer], network.activity_place), (cancelled, 'event', gone, network.event_place),
+    ]
+    for name, kind, ids, known in named:
+        unknown = next((number for number in ids if number not in known), None)
+        if name and unknown is not None:
+            raise BadFile(os.path.join(folder, name), None, f'there is no {kind} {unknown}')
+    return Rows(network, late, longer, gone)
 
 
 # ---- Records that are written

@@ -13,9 +13,10 @@ from typing import BinaryIO, NamedTuple, Optional, Sequence
 from dispatch_tools.formats.files import BadFile
 from dispatch_tools.formats.lines import Bad, NUMBER, Text
 from dispatch_tools.formats.runtext import Entry, Item, MOST_FEEDS, PLANNED, read_items
-from dispatch_tools.model.messages import Adopt, AdoptLast, STATEMENTS
+from dispatch_tools.model.messages import Adopt, AdoptLast, CarryOver, STATEMENTS
+from dispatch_tools.model.network import Network
 from dispatch_tools.model.parts import PlanByParts
-from dispatch_tools.model.railway import Plan
+from dispatch_tools.model.railway import apply, Plan, refusal_at_once, Rows, still_free
 
 # How the front of a block is spelled: an open gate, and the length of the content.
 HEAD = re.compile(rb'\+(0|[1-9][0-9]*)\n')
@@ -72,12 +73,19 @@ class Answered(NamedTuple):
     entry: Optional[Entry]
 
 
-class Rounds:
-    """The rounds of a journal, one after the other: what `adopt` enters is the plan, of either kind, that its feed was answered last."""
+def number_of_entry(item: Item) -> int:
+    """The entry that an answer names, or 0."""
+    return 0 if item.answer is None else item.answer.entry or 0
 
-    def __init__(self, head: Head) -> None:
-        self.head = head
+
+class Rounds:
+    """The rounds of a journal, one after the other: what `adopt` enters is the plan, of either kind, that its feed was answered last, and
+    `carry` what is free of it. For `carry` the network is wanted, and the rows at the start if some events are cancelled there."""
+
+    def __init__(self, head: Head, network: Optional[Network] = None, start: Optional[Rows] = None) -> None:
+        self.head, self.network = head, network
         self.plans: dict[int, Plan | PlanByParts] = {}
+        self.rows = None if network is None else start.copy() if start else Rows(network)
 
     def read(self, content: bytes) -> list[Answered]:
         """The items of the next round with their entries; Bad at the first line of another form."""
@@ -86,10 +94,24 @@ class Rounds:
             self.answered(text, feed, item) for feed in range(1, self.head.feeds + 1) for item in read_items(text, 2, feed)
         ]
         at_end(text)
+        return answered if self.network is None or self.rows is None else self.carried_over(self.network, self.rows, answered)
+
+    def carried_over(self, network: Network, rows: Rows, answered: list[Answered]) -> list[Answered]:
+        """The items with what each `carry` entered: those choices that were free in the rows before its entry."""
+        places = [place for place, one in enumerate(answered) if one.entry is not None]
+        for place in sorted(places, key=lambda place: number_of_entry(answered[place].item)):
+            one = answered[place]
+            assert one.entry is not None
+            entry = one.entry
+            if isinstance(one.item.said, CarryOver) and isinstance(entry.message, Adopt):
+                entry = entry._replace(message=still_free(network, rows, entry.message.decisions))
+                answered[place] = one._replace(entry=entry)
+            if refusal_at_once(network, rows, entry.message) is None:
+                apply(network, rows, entry.message)
         return answered
 
     def answered(self, text: Text, feed: int, item: Item) -> Answered:
-        """An item with its entry."""
+        """An item with its entry. That of a `carry` has all choices of the plan yet."""
         if item.answer is None or item.said is None:
             return Answered(feed, item, None)
         if item.answer.kind in PLANNED:
@@ -98,7 +120,7 @@ class Rounds:
             return Answered(feed, item, None)
         if isinstance(item.said, STATEMENTS):
             return Answered(feed, item, Entry(feed, item.line, item.said))
-        text.demand(isinstance(item.said, AdoptLast), 'form')
+        text.demand(isinstance(item.said, AdoptLast) or isinstance(item.said, CarryOver) and self.network is not None, 'form')
         plan = self.plans.get(feed)
         if plan is None:
             text.refuse()
@@ -146,9 +168,11 @@ class Blocks:
 
 
 class Journal:
-    """The journal of a store, read as it grows: its head, if it has one, the items of each feed, and the entries that they made."""
+    """The journal of a store, read as it grows: its head, if it has one, the items of each feed, and the entries that they made. For those
+    of `carry` the network is wanted, and the rows at the start if some events are cancelled there."""
 
-    def __init__(self, store: str) -> None:
+    def __init__(self, store: str, network: Optional[Network] = None, start: Optional[Rows] = None) -> None:
+        self.network, self.start = network, start
         self.name = journal_of(store)
         self.file = Blocks(self.name)
         self.rounds: Optional[Rounds] = None
@@ -165,12 +189,22 @@ class Journal:
         before = len(self.entries)
         while contents := self.contents():
             for content in contents:
-                self.blocks += 1
-                try:
-                    self.take(content)
-                except Bad as bad:
-                    raise BadFile(self.name, None, f'line {bad.args[0]} of block {self.blocks} has another form') from bad
+                self.take_block(content)
         return self.entries[before:]
+
+    def begin(self) -> Optional[Head]:
+        """Reads the head alone, and gives it where it has one; BadFile as for all of it."""
+        for content in self.contents()[:1]:
+            self.take_block(content)
+        return self.head
+
+    def take_block(self, content: bytes) -> None:
+        """Takes the content of the next block; BadFile if it has another form."""
+        self.blocks += 1
+        try:
+            self.take(content)
+        except Bad as bad:
+            raise BadFile(self.name, None, f'line {bad.args[0]} of block {self.blocks} has another form') from bad
 
     def contents(self) -> list[bytes]:
         try:
@@ -184,14 +218,14 @@ class Journal:
     def take(self, content: bytes) -> None:
         """Takes the content of the next block."""
         if self.rounds is None:
-            self.rounds = Rounds(read_head(content))
+            self.rounds = Rounds(read_head(content), self.network, self.start)
             self.logs = [[] for _ in range(self.rounds.head.feeds)]
             return
         entered: list[tuple[int, Entry]] = []
         for feed, item, entry in self.rounds.read(content):
             self.logs[feed - 1].append(item)
             if entry is not None and item.answer is not None:
-                entered.append((item.answer.entry or 0, entry))
+                entered.append((number_of_entry(item), entry))
         self.entries += [entry for _, entry in sorted(entered)]
 
 
@@ -202,10 +236,10 @@ def text_of(program: str, net: str, store: str, options: Sequence[str] = ()) -> 
     network is read are to be given again.
     """
     journal = Journal(store)
-    journal.read()
-    if journal.head is None:
+    head = journal.begin()
+    if head is None:
         raise BadFile(journal.name, None, 'it has no head yet: has the server begun?')
-    penalty, plans, feeds = journal.head
+    penalty, plans, feeds = head
     words = [program, 'text', net, store, *['feed'] * feeds, f'--penalty={penalty}', f'--plans={plans}', *options]
     try:
         done = subprocess.run(words, capture_output=True)

@@ -24,9 +24,17 @@ class Bad(Exception):
 
 @dataclass(frozen=True)
 class Form(Generic[Made]):
-    """The largest numbers that may stand behind the words of a kind, and what they make."""
+    """The largest numbers that may stand behind the words of a kind, how many are enough if not all are wanted, and what they make; None
+    if they are in no order in which they may stand."""
     largest: Sequence[int]
-    made: Callable[..., Made]
+    made: Callable[..., Optional[Made]]
+    enough: Optional[int] = None
+
+    def pattern(self, kind: str, count: int) -> list[Pattern]:
+        """What fits the form in so many words."""
+        words: list[Pattern] = [*kind.split()]
+        wanted = len(self.largest) if self.enough is None else max(self.enough, count - len(words))
+        return [*words, *self.largest[:wanted]]
 
 
 def forms(made: Callable[..., Value], largest: Mapping[str, Sequence[int]]) -> Mapping[str, Form[Value]]:
@@ -60,7 +68,9 @@ def fits(words: Sequence[str], pattern: Sequence[Pattern]) -> Optional[tuple[int
 def read_form(forms: Mapping[str, Form[Value]], words: Sequence[str]) -> Optional[Value]:
     """What the words make, or None if they are of none of these forms."""
     for kind, form in forms.items():
-        numbers = fits(words, [*kind.split(), *form.largest])
+        if not words or not kind.startswith(words[0]):
+            continue
+        numbers = fits(words, form.pattern(kind, len(words)))
         if numbers is not None:
             return form.made(*numbers)
     return None

@@ -39,7 +39,8 @@ class EventName(NamedTuple):
 
 
 class TrainName(NamedTuple):
-    """A train, by its first event: how it is called, the trip, its route, and what else the timetable says of it."""
+    """A train, by its first event: how it is called, the trip, its route by name, and what else the timetable says of it; older networks
+    have no id of the route."""
     event: int
     name: str
     trip: str
@@ -47,6 +48,7 @@ class TrainName(NamedTuple):
     direction: str
     headsign: str
     block: str
+    route_id: str = ''
 
 
 class ChangeName(NamedTuple):

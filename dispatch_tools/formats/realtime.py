@@ -12,6 +12,8 @@ from dispatch_tools.formats.names import EventName, named_trip, read_day_name, r
 
 # Of TripDescriptor and of StopTimeUpdate, schedule_relationship.
 SCHEDULED = 0
+ADDED = 1
+CANCELED = 3
 TRIPS_TAKEN = {0, 2}
 TRIPS_GONE = {3: 'cancelled', 7: 'deleted'}
 SKIPPED, NO_DATA = 1, 2

@@ -6,14 +6,15 @@ reads by the functions of this module.
 from __future__ import annotations
 
 import re
-from typing import Any, Mapping, NamedTuple, Optional, Sequence
+from typing import Any, Callable, Mapping, NamedTuple, Optional, Sequence
 
-from dispatch_tools.formats.lines import Bad, fits, Form, forms, ID, NUMBER, number_of, read_form, Text, VALUE
+from dispatch_tools.formats.lines import Bad, fits, Form, forms, ID, NUMBER, number_of, read_form, Text, Value, VALUE
 from dispatch_tools.formats.plan_text import DECISIONS, read_decisions, read_plan, read_plan_head, read_solved, read_solved_head
 from dispatch_tools.model.messages import (
-    Adopt, AdoptLast, AskCost, AskEntries, AskPlan, AskSolve, AskTime, DelayActivity, DelayEvent, Message, Nothing, Now, Pass, Recall, Refusal,
-    Said, Statement,
+    Adopt, AdoptLast, AskCost, AskEntries, AskPlan, AskSolve, AskTime, Cancel, CarryOver, DelayActivity, DelayEvent, Lock, Message, Nothing, Now,
+    Pass, Recall, Refusal, Restore, Said, Statement, Unlock,
 )
+from dispatch_tools.model.network import Change, Pair
 from dispatch_tools.model.parts import PlanByParts
 from dispatch_tools.model.railway import MOST_ENTRIES, Plan
 
@@ -42,19 +43,36 @@ def answer(kind: str, *numbers: int) -> Answer:
     return Answer(kind, None, *numbers)
 
 
+def of_choice(made: Callable[..., Value]) -> Form[Value]:
+    """The form of what is said of a change, or of a pair, whose smaller id stands first."""
+    def of_numbers(first: int, second: Optional[int] = None) -> Optional[Value]:
+        if second is None:
+            return made(Change(first))
+        return made(Pair(first, second)) if first <= second else None
+    return Form([ID, ID], of_numbers, 1)
+
+
+def choice_refusal(reason: str) -> Form[Refusal]:
+    return of_choice(lambda choice: Refusal(reason, choice.numbers))
+
+
 # What stands behind the words of each kind.
 STATEMENTS: Mapping[str, Form[Statement]] = {
     'delay event': Form([ID, VALUE], DelayEvent), 'delay activity': Form([ID, VALUE], DelayActivity), 'pass': Form([ID, VALUE], Pass),
-    'recall': Form([ID], Recall), 'now': Form([VALUE], Now), **DECISIONS,
+    'recall': Form([ID], Recall), 'now': Form([VALUE], Now), 'cancel': Form([ID], Cancel), 'restore': Form([ID], Restore),
+    'lock': of_choice(Lock), 'unlock': of_choice(Unlock), **DECISIONS,
 }
 LINES: Mapping[str, Form[Said]] = {
     **STATEMENTS, 'time': Form([ID], AskTime), 'cost': Form([], AskCost), 'read': Form([], AskEntries), 'plan': Form([VALUE], AskPlan),
-    'solve': Form([VALUE], AskSolve), 'adopt': Form([], AdoptLast),
+    'solve': Form([VALUE], AskSolve), 'adopt': Form([], AdoptLast), 'carry': Form([], CarryOver),
 }
-REASONS = forms(refusal, {
-    'range': [NUMBER], 'unknown-event': [ID], 'unknown-activity': [ID], 'unknown-change': [ID], 'unknown-pair': [ID, ID],
-    'passed': [ID, NUMBER], 'not-passed': [ID], 'back': [NUMBER], 'full': [],
-})
+REASONS: Mapping[str, Form[Refusal]] = {
+    **forms(refusal, {
+        'range': [NUMBER], 'unknown-event': [ID], 'unknown-activity': [ID], 'unknown-change': [ID], 'unknown-pair': [ID, ID],
+        'passed': [ID, NUMBER], 'not-passed': [ID], 'back': [NUMBER], 'full': [], 'cancelled': [ID], 'not-cancelled': [ID],
+    }),
+    'locked': choice_refusal('locked'), 'not-locked': choice_refusal('not-locked'),
+}
 ANSWERS = forms(answer, {'ok': [], 'read': [], 'old': [], 'time': [NUMBER], 'cost': [NUMBER]})
 ANSWERS_WITHOUT_ENTRY = forms(answer, {'noplan': [], 'plans': [], 'range': [NUMBER]})
 
@@ -129,7 +147,10 @@ def heard(line: str) -> Optional[Said]:
     words = [word for word in line.split(' ') if word]
     if not words or words[0].startswith('#'):
         return Nothing()
-    return read_form(LINES, [re.sub('^0+(?=[0-9])', '', word) if word.isdecimal() else word for word in words])
+    words = [re.sub('^0+(?=[0-9])', '', word) if word.isdecimal() else word for word in words]
+    if words[0] in (Lock.KIND, Unlock.KIND) and len(words) == 3:
+        words[1:] = sorted(words[1:], key=lambda word: (len(word), word))
+    return read_form(LINES, words)
 
 
 def due_items(feed: str) -> list[tuple[int, Optional[Said]]]:

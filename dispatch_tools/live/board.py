@@ -6,7 +6,7 @@ import select
 import subprocess
 import sys
 from io import BufferedIOBase
-from typing import Iterator, Optional
+from typing import Iterable, Iterator, Optional
 
 from dispatch_tools.formats.files import in_one_line
 
@@ -14,8 +14,14 @@ from dispatch_tools.formats.files import in_one_line
 NUMBER = b'[0-9]{1,20}'
 LONGEST_LINE = 8_000_000
 
-TIME = re.compile(b'(%b); (%b)' % (NUMBER, NUMBER))
-TIMES = re.compile(b'%b; %b(?:, %b; %b)*' % (NUMBER, NUMBER, NUMBER, NUMBER))
+# An event with its time, or with the word that it is cancelled.
+CANCELLED = b'cancelled'
+SHOWN = b'%b|%b' % (NUMBER, CANCELLED)
+TIME = re.compile(b'(%b); (%b)' % (NUMBER, SHOWN))
+TIMES = re.compile(b'%b; (?:%b)(?:, %b; (?:%b))*' % (NUMBER, SHOWN, NUMBER, SHOWN))
+
+# What a board shows of events: the time of each, or None where it is cancelled.
+Shown = list[tuple[int, Optional[int]]]
 
 # How many seconds a command has to send a line.
 TIMEOUT = 30
@@ -68,16 +74,21 @@ def unpacked(payload: Optional[bytes]) -> Optional[bytes]:
         return None
 
 
-def times_of(line: Optional[bytes]) -> Optional[list[tuple[int, int]]]:
-    """The events of a line with their times, or None if it is none of a board."""
+def times_of(line: Optional[bytes]) -> Optional[Shown]:
+    """The events of a line with what it shows of them, or None if it is none of a board."""
     if line is None or not TIMES.fullmatch(line):
         return None
-    return [(int(event), int(time)) for event, time in TIME.findall(line)]
+    return [(int(event), None if time == CANCELLED else int(time)) for event, time in TIME.findall(line)]
+
+
+def in_a_line(times: Iterable[tuple[int, Optional[int]]]) -> str:
+    """What a board shows, in one line."""
+    return ', '.join(f'{event}; {CANCELLED.decode() if time is None else time}' for event, time in times)
 
 
 def whole_boards(file: BufferedIOBase, skipped: Skipped, again: Optional[int] = None) -> Iterator[str]:
     """A line of all times whenever some have changed, or nothing has come for a while."""
-    times: dict[int, int] = {}
+    times: dict[int, Optional[int]] = {}
     number = 0
     for lines in whole_lines(file, again):
         before = dict(times)
@@ -88,7 +99,7 @@ def whole_boards(file: BufferedIOBase, skipped: Skipped, again: Optional[int] = 
             else:
                 times.update(heard)
         if times != before or again and times and not lines:
-            yield ', '.join(f'{event}; {time}' for event, time in times.items())
+            yield in_a_line(times.items())
 
 
 class Sender:

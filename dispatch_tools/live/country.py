@@ -8,7 +8,7 @@ from typing import Iterable, Iterator, NamedTuple, Optional, Sequence
 
 from dispatch_tools.days.split import Cut
 from dispatch_tools.formats.gtfs_rows import clock
-from dispatch_tools.live.board import NUMBER, Skipped, times_of, unpacked
+from dispatch_tools.live.board import NUMBER, Shown, Skipped, times_of, unpacked
 from dispatch_tools.live.health import CRITICAL, Found, JOURNAL, STATUS_WORDS, UNKNOWN, WARNING, WELL
 from dispatch_tools.live.relay import Relay
 from dispatch_tools.live.state import State, state_of
@@ -52,7 +52,7 @@ class Region:
             asked, told = self.relay.delay_of(event), self.relay.told.get(event, 0)
             if asked != told:
                 known = [cut for cut in cuts if cut.here in self.relay.times]
-                home = max(known, key=lambda cut: self.relay.times[cut.here] + cut.lower).home
+                home = max(known, key=lambda cut: (self.relay.times[cut.here] or 0) + cut.lower).home
                 yield event, home, self.scheduled[event] + asked, self.scheduled[event] + told
 
 
@@ -103,7 +103,7 @@ class Country:
         elif self.hear_state(number, region, state_of(unpacked(found[3]))) and found[1] == b'0':
             region.heard = now
 
-    def hear_board(self, number: int, region: Region, times: Optional[list[tuple[int, int]]]) -> bool:
+    def hear_board(self, number: int, region: Region, times: Optional[Shown]) -> bool:
         """Whether these are times of a region's board, which are taken up."""
         home = region.number
         if times is None:

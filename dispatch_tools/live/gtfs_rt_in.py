@@ -2,25 +2,20 @@
 from __future__ import annotations
 
 import hashlib
-import os
-import sys
 import time
-from bisect import bisect_left
-from collections import Counter, defaultdict
 from dataclasses import dataclass, field
-from typing import Iterable, Iterator, Optional, Sequence
+from typing import Iterable, Iterator, Optional
 
-from dispatch_tools.formats.files import BadFile, in_one_line, text_of
-from dispatch_tools.formats.journal import Journal
+from dispatch_tools.formats.files import BadFile
 from dispatch_tools.formats.names import EventName
 from dispatch_tools.formats.protobuf import BadMessage, decode, LONGEST_FILE, Message, Recent
-from dispatch_tools.formats.realtime import by_key, key_of, Named, NO_DATA, SKIPPED, STOPPED_AT, TRIPS_GONE, TRIPS_TAKEN
-from dispatch_tools.formats.runtext import due_items
+from dispatch_tools.formats.realtime import ADDED, Named, NO_DATA, SKIPPED, STOPPED_AT, TRIPS_GONE
 from dispatch_tools.live.feed_file import append
 from dispatch_tools.live.fetching import fetch, SCHEMES
-from dispatch_tools.live.gtfs_rt_out import read_text
+from dispatch_tools.live.known import own_after
+from dispatch_tools.live.trips import CallOf, Said, Trips, write_skipped
 from dispatch_tools.model.network import Network
-from dispatch_tools.model.messages import DelayEvent, Message as Entered, Pass, STATEMENTS
+from dispatch_tools.model.messages import Cancel, DelayEvent, Drop, Message as Entered, Pass, Restore
 from dispatch_tools.model.railway import (
     active_activities, apply, LARGEST_DELAY, LARGEST_PASSED, push, refusal_at_once, Rows, waits_and_spans,
 )
@@ -33,39 +28,6 @@ TIMEOUT = 30
 AHEAD = 120
 AFTER_THE_DAY = 6 * 3600
 
-# So many lines of a kind are printed.
-SHOWN = 1_000
-
-
-@dataclass
-class Said:
-    """What the script says to people: each line once, how often it found what, and what is wrong with a source now."""
-    counts: Counter[str] = field(default_factory=Counter)
-    lines: dict[str, set[str]] = field(default_factory=lambda: defaultdict(set))
-    faults: dict[str, str] = field(default_factory=dict)
-
-    def tell(self, what: str, which: str) -> None:
-        self.counts[what] += 1
-        lines = self.lines[what]
-        if which in lines or len(lines) > SHOWN:
-            return
-        lines.add(which)
-        self.say(f'{what}: {in_one_line(which)}' if len(lines) <= SHOWN else f'{what}: more than {SHOWN}, and no more are shown')
-
-    def say(self, line: str) -> None:
-        print(f'gtfs_rt_in: {line}', file=sys.stderr, flush=True)
-
-    def fault(self, source: str, what: str) -> None:
-        """Says what is wrong with a source or a feed, unless that was said last."""
-        self.counts['sources that cannot be read'] += 1
-        if self.faults.get(source) != what:
-            self.say(f'sources that cannot be read: {in_one_line(what)}')
-        self.faults[source] = what
-
-    def well(self, source: str) -> None:
-        if self.faults.pop(source, None) is not None:
-            self.say(f'{in_one_line(source)}: this can be read again')
-
 
 def seconds_before(time: str) -> int:
     """How many seconds before midnight a time lies; a sign stands before such a one."""
@@ -77,50 +39,37 @@ def seconds_before(time: str) -> int:
 
 @dataclass
 class Told:
-    """What a message says of events, by place: when they happen, and which have happened, at the latest at a time."""
+    """What a message says of events, by place: when they happen, which have happened, at the latest at a time, and which are cancelled, or
+    run; of which trains it says anything; the calls through which trains run, and the changes there, by place."""
     times: dict[int, int] = field(default_factory=dict)
     past: dict[int, int] = field(default_factory=dict)
+    gone: dict[int, bool] = field(default_factory=dict)
+    trains: set[int] = field(default_factory=set)
+    through: set[CallOf] = field(default_factory=set)
+    skipped: set[int] = field(default_factory=set)
 
 
 @dataclass
 class Listener:
-    """A network with what was reported of it, and until when."""
+    """A network with what was reported of it, and until when; the events, by place, that the feed itself has cancelled; those that are
+    cancelled at the start, which reserve trains have; and the calls through which trains run."""
     network: Network
     named: Named
     rows: Rows
     said: Said
     is_replay: bool = False
+    own: set[int] = field(default_factory=set)
+    reserve: set[int] = field(default_factory=set)
+    through: set[CallOf] = field(default_factory=set)
     latest: dict[str, int] = field(default_factory=dict)
     seen: set[bytes] = field(default_factory=set)
 
     def __post_init__(self) -> None:
-        self.trains = by_key(self.named)
+        self.trips = Trips(self.network, self.named, self.said, self.reserve)
         self.last = min(max((event.time for event in self.network.events), default=0) + AFTER_THE_DAY, LARGEST_PASSED)
         places = self.network.event_place
         self.event_names = {places[one.event]: one for events in self.named.events.values() for one in events if one.event in places}
         self.recent = Recent('StopTimeUpdate')
-        self.calls: dict[int, dict[object, list[EventName]]] = {train: {} for train in self.named.events}
-        self.stops: dict[int, dict[object, list[int]]] = {train: {} for train in self.named.events}
-        for train, events in self.named.events.items():
-            for one in events:
-                self.calls[train].setdefault(one.sequence, []).append(one)
-                self.stops[train].setdefault(one.stop, []).append(one.sequence)
-
-    # -- Trips and calls
-
-    def train_of(self, trip: Message) -> Optional[int]:
-        """The train of a TripDescriptor that runs; otherwise None, with a report that says why."""
-        key = key_of(trip, self.named.day)
-        relation = trip.get('schedule_relationship', 0)
-        train = self.trains.get(key, self.trains.get((*key[:2], '')))
-        what = ' '.join(part for part in key if part)
-        if train is None or relation not in TRIPS_TAKEN | set(TRIPS_GONE):
-            self.said.tell('trips that the network has not', what)
-            return None
-        if relation in TRIPS_GONE:
-            self.said.tell(f'trips that are {TRIPS_GONE[relation]}, which nothing can be said of', what)
-            return None
-        return train
 
     def is_new(self, kind: str, stamp: int, what: str) -> bool:
         """Whether nothing newer of this kind was reported."""
@@ -159,41 +108,70 @@ class Listener:
                            f'{name.trip}, call {name.sequence}, {name.kind} (event {name.event}) passed at {before}, and not {at}')
         return before is None
 
-    def events_at(self, train: int, sequence: object, stop: object, behind: int) -> list[EventName]:
-        """The events of a train at a call, by its place in the trip or else by the first such stop not before another place."""
-        if sequence is None:
-            places = self.stops[train].get(stop, [])
-            place = bisect_left(places, behind)
-            sequence = places[place] if place < len(places) else None
-        return self.calls[train].get(sequence, [])
-
     # -- Messages
 
     def take_update(self, update: Message, told: Told, now: int) -> None:
-        train = self.train_of(update.get('trip', {}))
+        relation = update.get('trip', {}).get('schedule_relationship', 0)
+        train = self.trips.reserve_for(update, told.trains) if relation == ADDED else self.trips.train_of(update.get('trip', {}))
         if train is None:
             return
         trip = self.named.trains[train].trip
         stamp = self.stamp_of(update, now, f'an update of {trip}')
         if stamp is None or not self.is_new(f'update of {trip}', stamp, f'an update of {trip}'):
             return
+        told.trains.add(train)
+        told.gone.update(dict.fromkeys(self.trips.places_of(train), relation in TRIPS_GONE))
+        if relation in TRIPS_GONE:
+            return
         if 'delay' in update and not update.get('stop_time_update'):
             self.take_delay(train, update['delay'], told, now)
+        skipped = self.take_calls(train, update, told)
+        if skipped:
+            self.take_skipped(train, skipped, told, now)
+
+    def take_calls(self, train: int, update: Message, told: Told) -> set[int]:
+        """Takes in the times of the calls of a train; the calls that it skips."""
+        trip, is_added = self.named.trains[train].trip, update['trip'].get('schedule_relationship') == ADDED
+        skipped = set()
         last, behind = None, 0
         for call in update.get('stop_time_update', ()):
-            events = self.events_at(train, call.get('stop_sequence'), call.get('stop_id'), behind)
+            events = self.trips.events_at(train, None if is_added else call.get('stop_sequence'), call.get('stop_id'), behind)
             where = f'{trip}, call {call.get("stop_sequence", call.get("stop_id", ""))}'
             if not events:
                 self.said.tell('calls that the network has not', where)
                 continue
             behind = events[0].sequence
-            relation = call.get('schedule_relationship', 0)
-            if relation == SKIPPED:
-                self.said.tell('calls that are skipped, which nothing can be said of', where)
-            if relation in (SKIPPED, NO_DATA):
+            how = call.get('schedule_relationship', 0)
+            if how == SKIPPED:
+                skipped.add(events[0].sequence)
+            if how in (SKIPPED, NO_DATA):
                 continue
             for name in events:
                 last = self.take_time(name, call.get(name.kind), last, told, where)
+        return skipped
+
+    def take_skipped(self, train: int, skipped: set[int], told: Told, now: int) -> None:
+        """A train that skips its first or last calls begins late or ends early. It runs through what else it skips, and has done so where
+        a later call is past; nobody changes there."""
+        trip = self.named.trains[train].trip
+        gone, through = self.trips.cut_off(train, skipped), self.trips.through(train, skipped)
+        told.gone.update(dict.fromkeys(gone, True))
+        for place in gone:
+            told.times.pop(place, None)
+        if gone:
+            self.said.tell('trains that skip their first or last calls, which are cancelled', trip)
+        for _, sequence in sorted(through):
+            self.said.tell('calls that are skipped, whose changes are dropped', f'{trip}, call {sequence}')
+        told.through |= through
+        told.skipped.update(self.trips.changes_at(name for name in self.named.events[train] if (train, name.sequence) in through))
+        behind = None
+        for name in reversed(self.named.events[train]):
+            place = self.trips.place_of(name)
+            at = self.rows.passed[place] if self.rows.passed[place] is not None else told.times.get(place)
+            if at is not None and at <= now:
+                behind = at
+            elif behind is not None and (train, name.sequence) in through:
+                told.past[place] = behind
 
     def take_time(self, name: EventName, said: Optional[Message], last: Optional[int], told: Told, where: str) -> Optional[int]:
         """Takes in the time of an event; gives the last time that is known of the train."""
@@ -219,7 +197,7 @@ class Listener:
         """Takes in the delay that a train has now: what it would have done by then has happened, and its next event has this delay."""
         for name in self.named.events[train]:
             place = self.network.event_place[name.event]
-            if self.rows.passed[place] is not None:
+            if self.rows.passed[place] is not None or self.rows.cancelled[place] and place not in self.own | self.reserve:
                 continue
             if self.network.events[place].time - seconds_before(name.time) + delay > now:
                 self.take_time(name, {'delay': delay}, None, told, f'{name.trip}, call {name.sequence}')
@@ -230,14 +208,14 @@ class Listener:
         if 'trip' not in vehicle:
             self.said.tell('vehicles without a trip', str(vehicle.get('vehicle', '')))
             return
-        train = self.train_of(vehicle['trip'])
-        if train is None:
+        train = self.trips.train_of(vehicle['trip'])
+        if train is None or vehicle['trip'].get('schedule_relationship', 0) in TRIPS_GONE:
             return
         trip = self.named.trains[train].trip
         stamp = self.stamp_of(vehicle, now, f'the vehicle of {trip}')
         if stamp is None or not self.is_new(f'vehicle of {trip}', stamp, f'the vehicle of {trip}'):
             return
-        at = self.events_at(train, vehicle.get('current_stop_sequence'), vehicle.get('stop_id'), 0)
+        at = self.trips.events_at(train, vehicle.get('current_stop_sequence'), vehicle.get('stop_id'), 0)
         if not at:
             self.said.tell('calls that the network has not', f'{trip}, its vehicle')
             return
@@ -271,13 +249,22 @@ class Listener:
             if parts and self.is_new(kind, stamp, source):
                 for part in parts:
                     take(part, told, now)
+                if kind == 'trip_update' and not message['header'].get('incrementality'):
+                    self.take_absent(told)
         return self.lines_of(told, now)
+
+    def take_absent(self, told: Told) -> None:
+        """A whole message that says nothing any more of a train that it had cancelled lets it run; a reserve train runs only for a trip."""
+        named = {place for train in told.trains for place in self.trips.places_of(train)}
+        told.gone.update(dict.fromkeys(self.own - named - self.reserve, False))
+        self.through = {call for call in self.through if call[0] in told.trains}
 
     # -- What is new
 
     def lines_of(self, told: Told, now: int) -> list[str]:
         """Source delays for what is reported late, or less late than it would be; then what is past; then the clock."""
-        lines: list[str] = []
+        lines = [*self.enter(self.runs_and_does_not(told)), *self.enter(self.dropped(told))]
+        self.through = {call for call in self.through if call[0] not in told.trains} | told.through
         clock_then = max(now, self.rows.clock)
         past = {place: at for place, at in told.times.items() if at <= now}
         for place in told.past:
@@ -285,16 +272,40 @@ class Listener:
         ahead = {place: at for place, at in told.times.items() if place not in past}
         for place, at in self.swept(past, ahead, clock_then, told):
             event = self.network.events[place]
-            message: Entered = DelayEvent(event.id, at) if place in ahead else Pass(event.id, at)
-            if refusal_at_once(self.network, self.rows, message) is not None:
-                self.said.tell('lines that the program would refuse', str(message))
-                continue
-            apply(self.network, self.rows, message)
-            lines.append(str(message))
+            lines += self.enter([DelayEvent(event.id, at) if place in ahead else Pass(event.id, at)])
         if clock_then > self.rows.clock:
             self.rows.clock = clock_then
             lines.append(f'now {clock_then}')
         return lines
+
+    def enter(self, messages: Iterable[Entered]) -> list[str]:
+        """The lines of messages that the program would not refuse; they hold from now on."""
+        lines = []
+        for message in messages:
+            if refusal_at_once(self.network, self.rows, message) is not None:
+                self.said.tell('lines that the program would refuse', str(message))
+                continue
+            apply(self.network, self.rows, message)
+            self.own = own_after(self.network, self.own, message)
+            lines.append(str(message))
+        return lines
+
+    def runs_and_does_not(self, told: Told) -> list[Entered]:
+        """What is cancelled and was not; and of what this feed has cancelled, or of reserve trains, what runs now."""
+        found: list[Entered] = []
+        for place, is_gone in sorted(told.gone.items()):
+            event, was_gone = self.network.events[place].id, self.rows.cancelled[place]
+            if is_gone and not was_gone and self.rows.passed[place] is None:
+                found.append(Cancel(event))
+            if was_gone and not is_gone and (place in self.own or place in self.reserve):
+                found.append(Restore(event))
+        return found
+
+    def dropped(self, told: Told) -> list[Entered]:
+        """The changes at calls that are skipped, which nobody can make."""
+        rows, network = self.rows, self.network
+        return [Drop(network.activities[place].id) for place in sorted(told.skipped) if rows.kept[place] and rows.passed[network.heads[place]] is None
+                and not (rows.cancelled[network.tails[place]] or rows.cancelled[network.heads[place]])]
 
     def swept(self, past: dict[int, int], ahead: dict[int, int], now: int, told: Told) -> Iterator[tuple[int, int]]:
         """By place: the times of events that are past, and the source delays that are other than before; in an order in which nothing
@@ -333,42 +344,6 @@ class Listener:
 # ---- Files and sources
 
 
-class Known:
-    """What is known of a network: the entries of a text, or those of a store as they come, and behind them the lines of a feed; of these
-    the ones that are refused say nothing, and of a store's feed the ones that it has answered stand in its entries."""
-
-    def __init__(self, network: Network, feed: str, source: Optional[str] = None, number: int = 1) -> None:
-        self.network, self.feed, self.number = network, feed, number
-        self.rows = Rows(network)
-        self.journal = Journal(source) if source and os.path.isdir(source) else None
-        if source and not self.journal:
-            self.enter(self.rows, [entry.message for entry in read_text(source, len(network.events)).journal])
-
-    def enter(self, rows: Rows, messages: Iterable[Entered]) -> None:
-        for message in messages:
-            if refusal_at_once(self.network, rows, message) is None:
-                apply(self.network, rows, message)
-
-    def answered(self) -> int:
-        """How many lines of the feed its store has answered."""
-        if self.journal is None:
-            return 0
-        self.enter(self.rows, [entry.message for entry in self.journal.read()])
-        if not 1 <= self.number <= len(self.journal.logs):
-            raise BadFile(self.journal.name, None, f'it is of {len(self.journal.logs)} feeds, and has no feed {self.number}')
-        log = self.journal.logs[self.number - 1]
-        return log[-1].line if log else 0
-
-    def now(self, unwritten: Sequence[str] = ()) -> Rows:
-        """The rows by all that is known now, and by lines that the feed has not yet."""
-        answered = self.answered()
-        rows = self.rows.copy()
-        behind = text_of(self.feed).split('\n')[answered:-1] if os.path.exists(self.feed) else []
-        lines = due_items(''.join(f'{line}\n' for line in [*behind, *unwritten]))
-        self.enter(rows, [said for _, said in lines if isinstance(said, STATEMENTS)])
-        return rows
-
-
 def read_source(source: str, may_leave: bool = False) -> bytes:
     """The bytes of a file or of what a URL gives."""
     if source.partition('://')[0].lower() in SCHEMES:
@@ -385,9 +360,11 @@ def read_source(source: str, may_leave: bool = False) -> bytes:
 
 @dataclass
 class Writer:
-    """The feed, and the lines that it could not take yet."""
+    """The feed, and the lines that it could not take yet; the file of calls through which trains run, if any, and those that it has."""
     feed: str
+    through: Optional[str] = None
     unwritten: list[str] = field(default_factory=list)
+    written: Optional[set[CallOf]] = None
 
     def write(self, lines: list[str], said: Said) -> bool:
         """Appends lines, behind those of before; whether it could."""
@@ -404,6 +381,21 @@ class Writer:
         self.unwritten = []
         return True
 
+    def write_through(self, calls: set[CallOf], said: Said) -> bool:
+        """Writes the file of skipped calls where they are others than it has; whether it could."""
+        if self.through is None or calls == self.written:
+            return True
+        try:
+            write_skipped(self.through, calls)
+        except BadFile as error:
+            if said.faults.get(self.through) != str(error):
+                said.say(f'files of skipped calls that cannot be written: {error}')
+            said.faults[self.through] = str(error)
+            return False
+        said.faults.pop(self.through, None)
+        self.written = set(calls)
+        return True
+
 
 def listen(listener: Listener, writer: Writer, source: str, may_leave: bool = False) -> bool:
     """Takes what a source gives now; whether it could be read, and the feed be written."""
@@ -413,4 +405,5 @@ def listen(listener: Listener, writer: Writer, source: str, may_leave: bool = Fa
         listener.said.fault(source, str(error) if isinstance(error, BadFile) else f'{source}: this is no message ({error})')
         return False
     listener.said.well(source)
-    return writer.write(lines, listener.said)
+    is_written = writer.write(lines, listener.said)
+    return writer.write_through(listener.through, listener.said) and is_written

@@ -6,22 +6,24 @@ import os
 import sys
 import threading
 import time
-from typing import Iterator, NamedTuple, Optional
+from typing import Iterable, Iterator, NamedTuple, Optional
 
 from dispatch_tools.days.find import all_changes, Found
 from dispatch_tools.days.to_gtfs import never_falling
 from dispatch_tools.formats.files import BadFile, in_one_line, write_all
-from dispatch_tools.formats.giv import read_network
+from dispatch_tools.formats.giv import read_cancelled, read_delays, read_network
 from dispatch_tools.formats.gtfs_rows import seconds_of
 from dispatch_tools.formats.journal import journal_of, text_of
 from dispatch_tools.formats.names import EventName
 from dispatch_tools.formats.protobuf import encode, Message
-from dispatch_tools.formats.realtime import descriptor, Named, NO_DATA, read_named, SCHEDULED
+from dispatch_tools.formats.realtime import CANCELED, descriptor, Named, NO_DATA, read_named, SCHEDULED, SKIPPED
 from dispatch_tools.formats.lines import Bad
 from dispatch_tools.formats.runtext import read_run, Run
 from dispatch_tools.live.http_server import BoundedHandler, BoundedServer
+from dispatch_tools.live.trips import CallOf, read_skipped
 from dispatch_tools.model.railway import decisions_of
-from dispatch_tools.model.messages import DelayActivity, DelayEvent, Drop, Keep, Message as Entered, Now, Pass, Recall
+from dispatch_tools.model.messages import cancelled_after, DelayActivity, DelayEvent, Drop, Keep, Message as Entered, Now, Pass, Recall
+from dispatch_tools.words import start_options
 
 VERSION, FULL_DATASET = '2.0', 0
 UNKNOWN_CAUSE, OTHER_EFFECT = 1, 7
@@ -29,8 +31,8 @@ UNKNOWN_CAUSE, OTHER_EFFECT = 1, 7
 # How many seconds a source is left alone that is handed out.
 USUAL = 10
 
-# When a file was written last, and its length.
-State = tuple[int, int]
+# When a file was written last, its length, and when the file of skipped calls was.
+State = tuple[int, int, int]
 
 
 def read_text(name: str, events: int) -> Run:
@@ -95,6 +97,17 @@ class Call(NamedTuple):
     events: list[tuple[str, int]]
 
 
+class Held(NamedTuple):
+    """The events of a change, and the seconds that passengers need."""
+    arrival: int
+    departure: int
+    needs: int
+
+    def is_met(self, times: dict[int, int]) -> bool:
+        """Whether passengers catch the train all the same, where it does not wait."""
+        return times[self.departure] >= times[self.arrival] + self.needs
+
+
 class Train(NamedTuple):
     """What does not change of a train: its events, their scheduled times, its calls, and its descriptor."""
     events: list[int]
@@ -104,9 +117,12 @@ class Train(NamedTuple):
 
 
 class Body(NamedTuple):
-    """What a message says of a train, but for its own time: for which times, whether they are known, and in bytes."""
+    """What a message says of a train, but for its own time: for which times, which of its events are cancelled, whether the times are
+    known, through which of its calls it runs, and in bytes."""
     times: list[int]
+    gone: list[bool]
     is_known: bool
+    through: list[int]
     data: bytes
 
 
@@ -130,12 +146,34 @@ def trains_of(net: str, named: Named) -> dict[int, Train]:
     return trains
 
 
-def call_message(call: Call, train: Train, times: list[int], begin: int, is_known: bool) -> Message:
-    """The StopTimeUpdate of a call; without delays where a frequency made the train, for it may have no times to be late against."""
+def held_changes(net: str, run: Run, named: Iterable[int], delays: Optional[str]) -> dict[int, Held]:
+    """The changes with these numbers, by number, with what they take after all entries. Only for them the network is read."""
+    network = read_network(net)
+    late = dict(read_delays(net, delays))
+    late.update((message.activity, message.seconds) for message in messages_of(run) if isinstance(message, DelayActivity))
+    return {
+        change: Held(activity.tail, activity.head, activity.lower + late.get(change, 0))
+        for change in named for activity in [network.activities[network.activity_place[change]]]
+    }
+
+
+def times_of_the_rest(times: list[int], gone: list[bool]) -> list[int]:
+    """The times of a train that never fall over the events that are not cancelled."""
+    rest = iter(never_falling([time for time, is_gone in zip(times, gone) if not is_gone]))
+    return [time if is_gone else next(rest) for time, is_gone in zip(times, gone)]
+
+
+def call_message(call: Call, train: Train, times: list[int], gone: list[bool], begin: int, is_known: bool) -> Message:
+    """The StopTimeUpdate of a call; without delays where a frequency made the train, for it may have no times to be late against. A call
+    whose events are cancelled is skipped."""
+    if all(gone[place] for _, place in call.events):
+        return {'stop_sequence': call.sequence, 'stop_id': call.stop, 'schedule_relationship': SKIPPED}
     message: Message = {
         'stop_sequence': call.sequence, 'stop_id': call.stop, 'schedule_relationship': SCHEDULED if is_known else NO_DATA,
     }
     for kind, place in call.events if is_known else ():
+        if gone[place]:
+            continue
         delay = {} if 'start_time' in train.trip else {'delay': times[place] - train.scheduled[place]}
         message[kind] = {**delay, 'time': begin + times[place]}
     return message
@@ -145,17 +183,27 @@ def in_english(text: str) -> Message:
     return {'translation': [{'text': text, 'language': 'en'}]}
 
 
-def alert(found: Found, named: Named, leaves: int) -> Message:
+def why_not(found: Found, through: set[CallOf], is_met: bool) -> tuple[str, str]:
+    """The header and the text of the alert for a change that is dropped."""
+    name, next_name, station = found.train.name, found.next_train.name, found.station
+    for train, event in (found.train, found.arrival), (found.next_train, found.departure):
+        if (train.event, event.sequence) in through:
+            return f'{name}: no connection to {next_name} at {station}', f'{train.name} does not stop at {station}.'
+    if is_met:
+        return f'{name}: connection to {next_name} at {station} as things stand', f'{next_name} does not wait, but leaves {station} late enough.'
+    return f'{name}: no connection to {next_name} at {station}', f'{next_name} does not wait at {station} for {name}.'
+
+
+def alert(found: Found, named: Named, leaves: int, said: tuple[str, str]) -> Message:
     """The alert for passengers of a change that is dropped, until the train has left."""
     trips = [
         {'trip': descriptor(train, named.day), 'stop_id': stop}
         for train, stop in ((found.train, found.change.stop), (found.next_train, found.change.next_stop))
     ]
-    head = f'{found.train.name}: no connection to {found.next_train.name} at {found.station}'
-    text = f'{found.next_train.name} does not wait at {found.station} for {found.train.name}.'
+    header, text = map(in_english, said)
     return {
         'active_period': [{'end': named.begin + leaves}], 'informed_entity': trips, 'cause': UNKNOWN_CAUSE, 'effect': OTHER_EFFECT,
-        'header_text': in_english(head), 'description_text': in_english(text),
+        'header_text': header, 'description_text': text,
     }
 
 
@@ -164,10 +212,12 @@ class Writer:
 
     def __init__(self, read: argparse.Namespace) -> None:
         self.read = read
+        self.off_at_start = read_cancelled(read.net, read.cancelled)
         self.named = read_named(read.net, read.zone)
         self.trains = trains_of(read.net, self.named)
         self.events = {event for train in self.trains.values() for event in train.events}
         self.bodies: dict[int, Body] = {}
+        self.through: set[CallOf] = set()
         self.fault = ''
 
     def run(self) -> Run:
@@ -176,42 +226,58 @@ class Writer:
         if not os.path.isdir(source):
             run = read_text(source, len(self.events))
         else:
-            delays = [('event', self.read.event_delays), ('activity', self.read.activity_delays)]
-            options = [f'--{kind}-delays={name}' for kind, name in delays if name]
-            run = run_in(source, text_of(self.read.dispatcher, self.read.net, source, options), len(self.events))
+            run = run_in(source, text_of(self.read.dispatcher, self.read.net, source, start_options(self.read)), len(self.events))
         if not self.events <= run.times.keys():
             missing = min(self.events - run.times.keys())
             raise BadFile(os.path.join(self.read.net, 'Events.csv'), None, f'event {missing} is not of the text')
         return run
 
-    def body(self, number: int, train: Train, told: set[int], run: Run) -> bytes:
-        """What the message says of a train, if so much was reported of events."""
+    def cancelled(self, run: Run) -> set[int]:
+        return cancelled_after(messages_of(run), self.off_at_start)
+
+    def body(self, number: int, train: Train, told: set[int], off: set[int], run: Run) -> bytes:
+        """What the message says of a train, if so much was reported of events, and these are cancelled."""
         shown = [run.times[event] for event in train.events]
         is_known = shown != train.scheduled or not told.isdisjoint(train.events)
-        times = never_falling(shown)
+        gone = [event in off for event in train.events]
+        times = times_of_the_rest(shown, gone)
+        through = [call.sequence for call in train.calls if (number, call.sequence) in self.through]
         before = self.bodies.get(number)
-        if before is not None and (before.times, before.is_known) == (times, is_known):
+        if before is not None and before[:-1] == (times, gone, is_known, through):
             return before.data
-        calls = [call_message(call, train, times, self.named.begin, is_known) for call in train.calls]
-        data = encode({'trip': train.trip, 'stop_time_update': calls}, 'TripUpdate')
-        self.bodies[number] = Body(times, is_known, data)
+        if all(gone):
+            data = encode({'trip': {**train.trip, 'schedule_relationship': CANCELED}}, 'TripUpdate')
+        else:
+            none = [True] * len(gone)
+            calls = [
+                call_message(call, train, times, none if call.sequence in through else gone, self.named.begin, is_known) for call in train.calls
+            ]
+            data = encode({'trip': train.trip, 'stop_time_update': calls}, 'TripUpdate')
+        self.bodies[number] = Body(times, gone, is_known, through, data)
         return data
 
     def updates(self, told: set[int], run: Run, now: int) -> Iterator[Message]:
         """A TripUpdate of each train."""
         stamp = encode({'timestamp': now}, 'TripUpdate')
+        off = self.cancelled(run)
         for number, train in self.trains.items():
-            yield {'id': f'trip-{number}', 'trip_update': self.body(number, train, told, run) + stamp}
+            yield {'id': f'trip-{number}', 'trip_update': self.body(number, train, told, off, run) + stamp}
 
     def alerts(self, run: Run) -> Iterator[Message]:
-        """An Alert of each change that is dropped and whose train has not left."""
-        gone, missed = passed(run), dropped(run)
-        for found in all_changes(self.read.net) if missed else ():
-            if found.change.change in missed and found.departure.event not in gone:
-                yield {'id': f'change-{found.change.change}', 'alert': alert(found, self.named, run.times[found.departure.event])}
+        """An Alert of each change that is dropped, whose trains run, and whose train has not left. It says where passengers reach it."""
+        missed, gone = dropped(run), passed(run)
+        if not missed:
+            return
+        held, off = held_changes(self.read.net, run, missed, self.read.activity_delays), self.cancelled(run)
+        for found in all_changes(self.read.net):
+            number, arrival, departure = found.change.change, found.arrival.event, found.departure.event
+            if number in missed and departure not in gone and off.isdisjoint((arrival, departure)):
+                said = why_not(found, self.through, held[number].is_met(run.times))
+                yield {'id': f'change-{number}', 'alert': alert(found, self.named, run.times[departure], said)}
 
     def message(self) -> Message:
         run, now = self.run(), self.read.now
+        self.through = read_skipped(self.read.skipped) if self.read.skipped else set()
         if now is None:
             clocks = [message.time for message in messages_of(run) if isinstance(message, Now)]
             now = self.named.begin + clocks[-1] if clocks else int(time.time())
@@ -223,10 +289,13 @@ class Writer:
         data = encode(self.message())
         write_all(os.path.dirname(self.read.out) or '.', {os.path.basename(self.read.out): data})
 
+    def state(self) -> Optional[State]:
+        return state_of(self.read.source, self.read.skipped)
+
     def write_again(self, seen: Optional[State]) -> Optional[State]:
         """Writes the message anew where the source is another one than was seen; what is seen now, which is the old state where the
         message could not be written. A fault is said once."""
-        now = state_of(self.read.source)
+        now = self.state()
         if now == seen:
             return seen
         try:
@@ -266,10 +335,11 @@ def serving(out: str, port: int) -> BoundedServer:
     return server
 
 
-def state_of(source: str) -> Optional[State]:
-    """By what one state of a text, or of a store's journal, differs from another."""
+def state_of(source: str, skipped: Optional[str] = None) -> Optional[State]:
+    """By what one state of a text, or of a store's journal, and of a file of skipped calls differs from another."""
     try:
         found = os.stat(journal_of(source) if os.path.isdir(source) else source)
+        more = os.stat(skipped).st_mtime_ns if skipped and os.path.exists(skipped) else 0
     except OSError:
         return None
-    return found.st_mtime_ns, found.st_size
+    return found.st_mtime_ns, found.st_size, more

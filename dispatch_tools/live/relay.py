@@ -10,7 +10,7 @@ from typing import Callable, Iterable, Iterator, Optional
 from dispatch_tools.days.split import Cut
 from dispatch_tools.formats.files import BadFile, text_of
 from dispatch_tools.formats.runtext import heard as heard_in_feed
-from dispatch_tools.live.board import NUMBER, Skipped, times_of, unpacked, whole_lines
+from dispatch_tools.live.board import NUMBER, Shown, Skipped, times_of, unpacked, whole_lines
 from dispatch_tools.live.feed_file import append
 from dispatch_tools.model.messages import DelayEvent
 from dispatch_tools.model.railway import LARGEST_DELAY
@@ -42,20 +42,22 @@ class Relay:
         for cut in cuts:
             self.behind[cut.here].append(cut)
             self.before[cut.there].append(cut)
-        self.times: dict[int, int] = {}
+        self.times: dict[int, Optional[int]] = {}
         self.told = {event: delay for event, delay in told if event in self.before}
         self.found = dict(self.told)
 
     def delay_of(self, there: int) -> int:
-        """By how much the known times make an event later than its schedule. Those not known may be why it was late."""
+        """By how much the known times make an event later than its schedule. Those not known may be why it was late; nothing waits for a
+        cancelled one."""
         cuts = self.before[there]
-        asked = [self.times[cut.here] + cut.lower - cut.scheduled for cut in cuts if cut.here in self.times]
-        return max([0, *asked] if len(asked) == len(cuts) else [self.found.get(there, 0), *asked])
+        known = [(self.times[cut.here], cut) for cut in cuts if cut.here in self.times]
+        asked = [time + cut.lower - cut.scheduled for time, cut in known if time is not None]
+        return max([0, *asked] if len(known) == len(cuts) else [self.found.get(there, 0), *asked])
 
-    def tell(self, times: Iterable[tuple[int, int]]) -> Iterator[tuple[int, int]]:
-        """The delays of the region's events that change when neighbours' events are at these times."""
+    def tell(self, times: Iterable[tuple[int, Optional[int]]]) -> Iterator[tuple[int, int]]:
+        """The delays of the region's events that change when neighbours' events are at these times, or cancelled."""
         # A line tells a whole board, of which most has not changed.
-        heard_of = {event: time for event, time in times if event in self.behind and self.times.get(event) != time}
+        heard_of = {event: time for event, time in times if event in self.behind and self.times.get(event, -1) != time}
         self.times.update(heard_of)
         for there in dict.fromkeys(cut.there for event in heard_of for cut in self.behind[event]):
             delay = self.delay_of(there)
@@ -67,8 +69,8 @@ class Relay:
 
 @dataclass
 class Heard:
-    """What a line says: times of events, and the region that says so, if the topic names it."""
-    times: list[tuple[int, int]]
+    """What a line shows of events, and the region that says so, if the topic names it."""
+    times: Shown
     region: Optional[int] = None
 
 
@@ -79,8 +81,8 @@ def heard_in(line: Optional[bytes], has_topic: bool) -> Optional[Heard]:
     return None if times is None or has_topic and not found else Heard(times, int(found[1]) if found else None)
 
 
-def believed(told: Relay, heard: Heard, number: int, skipped: Skipped) -> Iterator[tuple[int, int]]:
-    """The times of a line that its region may report."""
+def believed(told: Relay, heard: Heard, number: int, skipped: Skipped) -> Iterator[tuple[int, Optional[int]]]:
+    """What of a line its region may report."""
     for event, time in heard.times:
         cuts = told.behind.get(event, ())
         if heard.region is None or all(cut.home == heard.region for cut in cuts):

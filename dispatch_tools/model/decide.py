@@ -14,7 +14,7 @@ from typing import Sequence
 
 from dispatch_tools.model.messages import Decision, First, Keep
 from dispatch_tools.model.network import Network
-from dispatch_tools.model.railway import active_activities, Rows, with_decisions
+from dispatch_tools.model.railway import active_activities, cancelled_refusal, choice_of, Rows, with_decisions
 
 # Events stand so far apart, less a part drawn from their place, that no two pairs meet at once.
 APART = 1 << 40
@@ -42,10 +42,18 @@ def order_of(network: Network, rows: Rows) -> list[int]:
     return order
 
 
+def demand_open(network: Network, rows: Rows, decision: Decision, ends: tuple[int, int]) -> None:
+    """ValueError if the choice of a decision is locked or has a cancelled end."""
+    refusal = cancelled_refusal(network, rows, ends)
+    if refusal is not None or choice_of(decision) in rows.locked:
+        raise ValueError(f'refused {refusal}' if refusal else f'{choice_of(decision)} is locked')
+
+
 def in_turn(network: Network, rows: Rows, decisions: Sequence[Decision]) -> list[Decision]:
     """The decisions by which rows without a cycle differ, in an order in which none closes a cycle.
 
-    ValueError if all of them together close one, or if an event of a pair that is to be turned has passed."""
+    ValueError if all of them together close one, if an event of a pair that is to be turned has passed, or if a choice is locked or has a
+    cancelled end."""
     after = with_decisions(network, rows, decisions)
     drops: list[Decision] = []
     keeps: list[Decision] = []
@@ -53,13 +61,16 @@ def in_turn(network: Network, rows: Rows, decisions: Sequence[Decision]) -> list
     for decision in decisions:
         if not isinstance(decision, First):
             kept = isinstance(decision, Keep)
-            if rows.kept[network.activity_place[decision.activity]] != kept:
+            place = network.activity_place[decision.activity]
+            if rows.kept[place] != kept:
+                demand_open(network, rows, decision, (network.tails[place], network.heads[place]))
                 (keeps if kept else drops).append(decision)
         else:
             first, second = network.event_place[decision.event], network.event_place[decision.other]
             if rows.first[network.pair_at(first, second)] != first:
                 if rows.passed[first] is not None or rows.passed[second] is not None:
                     raise ValueError('an event of the pair has passed')
+                demand_open(network, rows, decision, (first, second))
                 turns.append((decision, first, second))
     if turns:
         before, then = order_of(network, with_decisions(network, rows, drops)), order_of(network, after)

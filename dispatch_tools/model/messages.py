@@ -6,7 +6,7 @@ words of a text.
 from __future__ import annotations
 
 from dataclasses import dataclass, fields
-from typing import ClassVar
+from typing import ClassVar, Iterable
 
 from dispatch_tools.model.network import Choice
 
@@ -105,9 +105,49 @@ class Now(Words):
     time: int
 
 
+@dataclass(frozen=True, slots=True)
+class Cancel(Words):
+    """An event does not take place: its train, or this part of it, is cancelled."""
+
+    KIND: ClassVar[str] = 'cancel'
+    event: int
+
+
+@dataclass(frozen=True, slots=True)
+class Restore(Words):
+    """An event takes place after all."""
+
+    KIND: ClassVar[str] = 'restore'
+    event: int
+
+
+@dataclass(frozen=True, slots=True)
+class OfChoice(Words):
+    """What is said of a choice, by the ids that name it."""
+
+    choice: Choice
+
+    def numbers(self) -> tuple[int, ...]:
+        return self.choice.numbers
+
+
+@dataclass(frozen=True, slots=True)
+class Lock(OfChoice):
+    """A choice stays as it is: no decision may change it, and no plan has it."""
+
+    KIND: ClassVar[str] = 'lock'
+
+
+@dataclass(frozen=True, slots=True)
+class Unlock(OfChoice):
+    """A choice may be decided again."""
+
+    KIND: ClassVar[str] = 'unlock'
+
+
 # What a line says that becomes an entry of the journal as it stands.
-Statement = Decision | DelayEvent | DelayActivity | Pass | Recall | Now
-STATEMENTS = (Keep, Drop, First, DelayEvent, DelayActivity, Pass, Recall, Now)
+Statement = Decision | DelayEvent | DelayActivity | Pass | Recall | Now | Cancel | Restore | Lock | Unlock
+STATEMENTS = (Keep, Drop, First, DelayEvent, DelayActivity, Pass, Recall, Now, Cancel, Restore, Lock, Unlock)
 
 
 @dataclass(frozen=True, slots=True)
@@ -122,6 +162,17 @@ class Adopt:
 
 # What an entry of the journal says.
 Message = Statement | Adopt
+
+
+def cancelled_after(messages: Iterable[Message], start: Iterable[int] = ()) -> set[int]:
+    """The events that are cancelled after messages which were accepted, and those that are at the start. To pass one ends that."""
+    found = set(start)
+    for message in messages:
+        if isinstance(message, Cancel):
+            found.add(message.event)
+        elif isinstance(message, (Restore, Pass)):
+            found.discard(message.event)
+    return found
 
 
 # ---- Lines
@@ -173,6 +224,13 @@ class AdoptLast(Words):
 
 
 @dataclass(frozen=True, slots=True)
+class CarryOver(Words):
+    """Adopts those choices of the last plan of the feed that are still free."""
+
+    KIND: ClassVar[str] = 'carry'
+
+
+@dataclass(frozen=True, slots=True)
 class Nothing(Words):
     """A line that is blank or a comment."""
 
@@ -181,7 +239,7 @@ class Nothing(Words):
 
 
 # What a line of a feed says.
-Said = Statement | AskTime | AskCost | AskEntries | AskPlan | AskSolve | AdoptLast | Nothing
+Said = Statement | AskTime | AskCost | AskEntries | AskPlan | AskSolve | AdoptLast | CarryOver | Nothing
 
 
 # ---- Refusals

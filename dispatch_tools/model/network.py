@@ -14,6 +14,10 @@ class Change:
     KIND: ClassVar[str] = 'change'
     activity: int
 
+    @property
+    def numbers(self) -> tuple[int, ...]:
+        return (self.activity,)
+
     def __str__(self) -> str:
         return f'change {self.activity}'
 
@@ -25,6 +29,10 @@ class Pair:
     KIND: ClassVar[str] = 'pair'
     first: int
     second: int
+
+    @property
+    def numbers(self) -> tuple[int, ...]:
+        return (self.first, self.second)
 
     def __str__(self) -> str:
         return f'pair {self.first} {self.second}'

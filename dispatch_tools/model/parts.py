@@ -10,7 +10,8 @@ from typing import Callable, Iterable, NamedTuple, Optional, Sequence
 
 from dispatch_tools.model.messages import CycleLeaf, Decision, Inner, PartLeaf, PartNode, Path
 from dispatch_tools.model.network import Change, Choice, Network, Pair
-from dispatch_tools.model.railway import are_true_choices, choice_of, Problem, Rows, ways_of
+from dispatch_tools.model.railway import choice_of, Rows, ways_of
+from dispatch_tools.model.true_plans import are_true_choices, Problem
 
 # The most ids that the shares of a plan may have together.
 MOST_IDS = 65_536

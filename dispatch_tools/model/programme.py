@@ -19,8 +19,9 @@ from typing import Callable, Iterable, NamedTuple, Optional
 
 from dispatch_tools.model.network import Change, Choice, Network
 from dispatch_tools.model.railway import (
-    active_activities, cost_charging, floor_of, free_choices, least_times, Problem, Rows, span_of,
+    active_activities, charged_activities, cost_charging, floor_of, free_choices, least_times, Rows, span_of,
 )
+from dispatch_tools.model.true_plans import Problem
 
 # How many events behind one are looked at for what its lateness costs, and how often times are narrowed.
 BEHIND = 64
@@ -84,7 +85,7 @@ class Posed(Problem):
     def __init__(self, network: Network, rows: Rows, penalty: int, window: Optional[Window] = None) -> None:
         super().__init__(network, rows, penalty, choices_in(network, rows, window))
         self.held = active_activities(network, rows)
-        self.charged = [not kept for kept in rows.kept]
+        self.charged = charged_activities(network, rows)
         self.changes: dict[int, Way] = {}
         self.pairs: dict[tuple[int, int], tuple[Way, Way]] = {}
         for choice in self.free:
@@ -322,6 +323,9 @@ class Maker:
     def add_events(self) -> None:
         for place, event in enumerate(self.network.events):
             cost = event.weight if event.kind == 'arrival' else 0
+            if self.rows.cancelled[place]:
+                self.constant += self.problem.penalty * cost
+                continue
             low, high = self.times.low[place] - event.time, self.times.high[place] - event.time
             if self.moves(place):
                 self.variables.append(Variable(f'late_{event.id}', low, high, False, cost))
@@ -373,14 +377,15 @@ class Maker:
                 self.hold(f'order_{ahead}_{behind}', way if known else back)
 
     def add_misses(self) -> None:
-        """What changes cost of which the head has passed, and dropped ones that may not be chosen."""
+        """What changes cost of which the head has passed, and those that may not be chosen where they are dropped or have a cancelled
+        end."""
         for place, activity in enumerate(self.network.activities):
             if activity.kind != 'change' or place in self.problem.changes:
                 continue
             way, cost = self.problem.way([place]), self.problem.penalty * activity.weight
             if self.rows.passed[way.head] is None:
-                self.constant += 0 if self.rows.kept[place] else cost
-            elif is_out(self.times, way):
+                self.constant += cost if self.problem.charged[place] else 0
+            elif self.rows.cancelled[way.tail] or is_out(self.times, way):
                 self.constant += cost
             elif cost and not is_sure(self.times, way):
                 self.variables.append(Variable(f'miss_{activity.id}', 0, 1, True, cost))

@@ -1,8 +1,7 @@
-"""Rows, refusals, least times, costs and true plans: a second reading of the rules.
+"""Rows, refusals, least times, costs and free choices: a second reading of the rules.
 
 It shares no code with the program, and keeps nothing from one question to the next. It works out times by a walk along an order
-of all events, costs from all events and activities, and each node of a plan's tree from its whole path. Its words are those of
-docs/MODEL.md. A place is a position from 0 in a list of the network. Times are in seconds, weights in thousandths of passengers,
+of all events, and costs from all events and activities. Its words are those of docs/MODEL.md. A place is a position from 0 in a list of the network. Times are in seconds, weights in thousandths of passengers,
 costs in thousandths of passenger seconds.
 
 It does not test limits, cycles, or headways without a bound. giv.py reads the files, in the standard order of columns.
@@ -12,8 +11,7 @@ from __future__ import annotations
 from typing import Iterable, NamedTuple, Optional, Sequence
 
 from dispatch_tools.model.messages import (
-    Adopt, BoundLeaf, CycleLeaf, Decision, DECISIONS, DelayActivity, DelayEvent, Drop, First, Inner, Keep, Message, Node, Now, OpenLeaf, Pass, Path,
-    Recall, Refusal,
+    Adopt, Cancel, Decision, DECISIONS, DelayActivity, DelayEvent, Drop, First, Keep, Lock, Message, Node, Now, Pass, Recall, Refusal, Restore, Unlock,
 )
 from dispatch_tools.model.network import Change, Choice, Network, Pair
 
@@ -23,28 +21,35 @@ LARGEST_PASSED = 2_000_000_000
 
 
 class Rows:
-    """A day so far: delays, passed times, kept changes and the first event of each pair, by place, and the clock."""
+    """A day so far: delays, passed times, cancelled events, kept changes and the first event of each pair, by place; the choices that are
+    locked; and the clock. At the start these events, by id, are cancelled."""
 
-    def __init__(self, network: Network, event_delays: Iterable[tuple[int, int]] = (),
-                 activity_delays: Iterable[tuple[int, int]] = ()) -> None:
+    def __init__(self, network: Network, event_delays: Iterable[tuple[int, int]] = (), activity_delays: Iterable[tuple[int, int]] = (),
+                 cancelled: Iterable[int] = ()) -> None:
         self.event_delays = [0] * len(network.events)
         self.activity_delays = [0] * len(network.activities)
         self.passed: list[Optional[int]] = [None] * len(network.events)
+        self.cancelled = [False] * len(network.events)
         self.kept = [True] * len(network.activities)
         self.first = [min(pair, key=lambda place: (network.events[place].time, place)) for pair in network.pairs]
+        self.locked: set[Choice] = set()
         self.clock = 0
         for event, delay in event_delays:
             self.event_delays[network.event_place[event]] = delay
         for activity, delay in activity_delays:
             self.activity_delays[network.activity_place[activity]] = delay
+        for event in cancelled:
+            self.cancelled[network.event_place[event]] = True
 
     def copy(self) -> Rows:
         other = object.__new__(Rows)
         other.event_delays = self.event_delays[:]
         other.activity_delays = self.activity_delays[:]
         other.passed = self.passed[:]
+        other.cancelled = self.cancelled[:]
         other.kept = self.kept[:]
         other.first = self.first[:]
+        other.locked = set(self.locked)
         other.clock = self.clock
         return other
 
@@ -61,7 +66,7 @@ class Rows:
 
 def is_active(network: Network, rows: Rows, place: int) -> bool:
     tail, head = network.tails[place], network.heads[place]
-    if rows.passed[head] is not None:
+    if rows.cancelled[tail] or rows.cancelled[head] or rows.passed[head] is not None:
         return False
     pair = network.pair_by_activity[place]
     if pair is not None:
@@ -71,9 +76,10 @@ def is_active(network: Network, rows: Rows, place: int) -> bool:
 
 def active_activities(network: Network, rows: Rows) -> list[bool]:
     """Whether each activity is active, as is_active says of one."""
-    passed, kept, first = rows.passed, rows.kept, rows.first
+    passed, kept, first, cancelled = rows.passed, rows.kept, rows.first, rows.cancelled
     return [
-        passed[head] is None and (kept[place] if pair is None else passed[tail] is not None or first[pair] == tail)
+        passed[head] is None and not (cancelled[tail] or cancelled[head])
+        and (kept[place] if pair is None else passed[tail] is not None or first[pair] == tail)
         for place, (tail, head, pair) in enumerate(zip(network.tails, network.heads, network.pair_by_activity))
     ]
 
@@ -139,23 +145,35 @@ def is_met(network: Network, rows: Rows, times: Sequence[int], place: int) -> bo
     return times[network.heads[place]] >= times[network.tails[place]] + span_of(network, rows, place)
 
 
+def charged_activities(network: Network, rows: Rows) -> list[bool]:
+    """Whether each activity, where it is a change whose head has not passed, is charged for: it is dropped, or has a cancelled end."""
+    cancelled = rows.cancelled
+    return [not kept or cancelled[tail] or cancelled[head] for kept, tail, head in zip(rows.kept, network.tails, network.heads)]
+
+
 def cost_charging(network: Network, rows: Rows, times: Sequence[int], penalty: int, charged: Sequence[bool]) -> int:
-    """What lateness at arrivals costs, and the penalty for charged changes and for those whose passed head comes too early."""
+    """What lateness at arrivals costs, and the penalty for cancelled arrivals, for charged changes, and for those whose passed head comes
+    too early, or whose tail is cancelled."""
     cost = 0
-    for event, time in zip(network.events, times):
+    for event, time, is_cancelled in zip(network.events, times, rows.cancelled):
         if event.kind == 'arrival':
-            cost += event.weight * max(0, time - event.time)
+            cost += event.weight * (penalty if is_cancelled else max(0, time - event.time))
     for place, activity in enumerate(network.activities):
         if activity.kind == 'change':
             has_passed = rows.passed[network.heads[place]] is not None
-            missed = not is_met(network, rows, times, place) if has_passed else charged[place]
+            missed = is_missed(network, rows, times, place) if has_passed else charged[place]
             cost += penalty * activity.weight * missed
     return cost
 
 
+def is_missed(network: Network, rows: Rows, times: Sequence[int], place: int) -> bool:
+    """Whether nobody makes a change whose head has passed."""
+    return rows.cancelled[network.tails[place]] or not is_met(network, rows, times, place)
+
+
 def cost_of(network: Network, rows: Rows, times: Sequence[int], penalty: int) -> int:
-    """What rows cost at these times: each dropped change is charged for."""
-    return cost_charging(network, rows, times, penalty, [not kept for kept in rows.kept])
+    """What rows cost at these times."""
+    return cost_charging(network, rows, times, penalty, charged_activities(network, rows))
 
 
 # ---- Refusals
@@ -170,23 +188,63 @@ def passed_refusal(network: Network, rows: Rows, places: Iterable[int]) -> Optio
     return None
 
 
-def decision_refusal(network: Network, rows: Rows, decision: Decision) -> Optional[Refusal]:
-    """The first refusal of a decision, or None."""
-    if not isinstance(decision, First):
-        if decision.activity not in network.activity_place:
-            return Refusal('unknown-activity', (decision.activity,))
-        place = network.activity_place[decision.activity]
-        if network.activities[place].kind != 'change':
-            return Refusal('unknown-change', (decision.activity,))
-        return passed_refusal(network, rows, [network.heads[place]])
-    ids = decision.event, decision.other
-    for event in ids:
+def cancelled_refusal(network: Network, rows: Rows, places: Iterable[int]) -> Optional[Refusal]:
+    """The refusal of the first of these events that is cancelled, or None."""
+    return next((Refusal('cancelled', (network.events[place].id,)) for place in places if rows.cancelled[place]), None)
+
+
+def unknown_choice(network: Network, choice: Choice, named: tuple[int, ...]) -> Optional[Refusal]:
+    """The refusal of a choice that the network has not, or None. The ids stand as they are named."""
+    if isinstance(choice, Change):
+        if choice.activity not in network.activity_place:
+            return Refusal('unknown-activity', named)
+        is_change = network.activities[network.activity_place[choice.activity]].kind == 'change'
+        return None if is_change else Refusal('unknown-change', named)
+    for event in named:
         if event not in network.event_place:
             return Refusal('unknown-event', (event,))
-    places = [network.event_place[event] for event in ids]
-    if network.pair_of(*places) is None:
-        return Refusal('unknown-pair', ids)
-    return passed_refusal(network, rows, places)
+    one, other = (network.event_place[event] for event in named)
+    return Refusal('unknown-pair', named) if network.pair_of(one, other) is None else None
+
+
+def choice_refusal(network: Network, rows: Rows, choice: Choice, named: tuple[int, ...]) -> Optional[Refusal]:
+    """The first refusal of a line that decides or locks a choice, or None. The ids stand as they are named."""
+    unknown = unknown_choice(network, choice, named)
+    if unknown is not None:
+        return unknown
+    if isinstance(choice, Change):
+        place = network.activity_place[choice.activity]
+        ends = [network.tails[place], network.heads[place]]
+        refusal = passed_refusal(network, rows, ends[1:])
+    else:
+        ends = [network.event_place[event] for event in named]
+        refusal = passed_refusal(network, rows, ends)
+    refusal = refusal or cancelled_refusal(network, rows, ends)
+    return Refusal('locked', choice.numbers) if refusal is None and choice in rows.locked else refusal
+
+
+def decision_refusal(network: Network, rows: Rows, decision: Decision) -> Optional[Refusal]:
+    """The first refusal of a decision, or None."""
+    return choice_refusal(network, rows, choice_of(decision), decision.numbers())
+
+
+def lock_refusal(network: Network, rows: Rows, message: Lock | Unlock) -> Optional[Refusal]:
+    """The first refusal of a lock, or of one that is taken away, or None."""
+    choice = message.choice
+    if isinstance(message, Lock):
+        return choice_refusal(network, rows, choice, choice.numbers)
+    unknown = unknown_choice(network, choice, choice.numbers)
+    return Refusal('not-locked', choice.numbers) if unknown is None and choice not in rows.locked else unknown
+
+
+def cancel_refusal(network: Network, rows: Rows, message: Cancel | Restore) -> Optional[Refusal]:
+    """The first refusal of a cancelled event, or of one that takes place again, or None."""
+    if message.event not in network.event_place:
+        return Refusal('unknown-event', (message.event,))
+    place = network.event_place[message.event]
+    if isinstance(message, Cancel):
+        return passed_refusal(network, rows, [place]) or cancelled_refusal(network, rows, [place])
+    return None if rows.cancelled[place] else Refusal('not-cancelled', (message.event,))
 
 
 def event_refusal(network: Network, rows: Rows, message: DelayEvent | Pass | Recall) -> Optional[Refusal]:
@@ -220,7 +278,7 @@ def clock_refusal(rows: Rows, message: Now) -> Optional[Refusal]:
 
 
 def refusal_at_once(network: Network, rows: Rows, message: Message) -> Optional[Refusal]:
-    """The first refusal by numbers, ids, passed events and the clock, or None."""
+    """The first refusal by numbers, ids, passed and cancelled events, locks and the clock, or None."""
     if isinstance(message, Adopt):
         refusals = [decision_refusal(network, rows, decision) for decision in message.decisions]
         return next((refusal for refusal in refusals if refusal is not None), None)
@@ -230,6 +288,10 @@ def refusal_at_once(network: Network, rows: Rows, message: Message) -> Optional[
         return activity_refusal(network, rows, message)
     if isinstance(message, Now):
         return clock_refusal(rows, message)
+    if isinstance(message, (Cancel, Restore)):
+        return cancel_refusal(network, rows, message)
+    if isinstance(message, (Lock, Unlock)):
+        return lock_refusal(network, rows, message)
     return event_refusal(network, rows, message)
 
 
@@ -240,11 +302,18 @@ def apply(network: Network, rows: Rows, message: Message) -> None:
     elif isinstance(message, DelayActivity):
         rows.activity_delays[network.activity_place[message.activity]] = message.seconds
     elif isinstance(message, Pass):
-        rows.passed[network.event_place[message.event]] = message.time
+        place = network.event_place[message.event]
+        rows.passed[place], rows.cancelled[place] = message.time, False
     elif isinstance(message, Recall):
         rows.passed[network.event_place[message.event]] = None
     elif isinstance(message, Now):
         rows.clock = message.time
+    elif isinstance(message, (Cancel, Restore)):
+        rows.cancelled[network.event_place[message.event]] = isinstance(message, Cancel)
+    elif isinstance(message, Lock):
+        rows.locked.add(message.choice)
+    elif isinstance(message, Unlock):
+        rows.locked.discard(message.choice)
     else:
         for decision in decisions_of(message):
             rows.decide(network, decision)
@@ -301,22 +370,25 @@ class Plan(NamedTuple):
     nodes: Optional[list[Node]]
 
 
-class Relaxed(NamedTuple):
-    cost: int
-    violated: set[Choice]
-
-
 def free_choices(network: Network, rows: Rows) -> list[Choice]:
-    """The changes whose heads have not passed, and then the pairs of which neither event has."""
+    """The changes whose heads have not passed, and then the pairs of which neither event has; without those that are locked or of which
+    an event is cancelled."""
+    passed, cancelled = rows.passed, rows.cancelled
     changes: list[Choice] = [
-        Change(activity.id) for place, activity in enumerate(network.activities)
-        if activity.kind == 'change' and rows.passed[network.heads[place]] is None
+        Change(activity.id) for activity, tail, head in zip(network.activities, network.tails, network.heads)
+        if activity.kind == 'change' and passed[head] is None and not (cancelled[tail] or cancelled[head])
     ]
     pairs = [
         network.pair_choice(place) for place, (first, second) in enumerate(network.pairs)
-        if rows.passed[first] is None and rows.passed[second] is None
+        if passed[first] is None and passed[second] is None and not (cancelled[first] or cancelled[second])
     ]
-    return changes + pairs
+    return [choice for choice in changes + pairs if choice not in rows.locked]
+
+
+def still_free(network: Network, rows: Rows, choices: Iterable[Decision]) -> Adopt:
+    """What `carry` enters of the choices of a plan: those that are free in the rows, in their order."""
+    free = set(free_choices(network, rows))
+    return Adopt(tuple(decision for decision in choices if choice_of(decision) in free))
 
 
 def choice_of(decision: Decision) -> Choice:
@@ -338,107 +410,3 @@ def with_decisions(network: Network, rows: Rows, decisions: Iterable[Decision]) 
     for decision in decisions:
         decided.decide(network, decision)
     return decided
-
-
-class Problem:
-    """What a plan is of: rows with what they cost at a penalty, and the free choices that it may make, which are all of them where none
-    are given; the others stay as the rows have them."""
-
-    def __init__(self, network: Network, rows: Rows, penalty: int, allowed: Optional[list[Choice]] = None) -> None:
-        self.network = network
-        self.rows = rows
-        self.penalty = penalty
-        self.free = free_choices(network, rows) if allowed is None else allowed
-        self.cost = cost_of(network, rows, sound_times(network, rows), penalty)
-
-    def is_violated(self, rows: Rows, times: Sequence[int], choice: Choice) -> bool:
-        """Whether times do not keep a choice: a change is not met, or in neither direction of a pair all headways are."""
-        network = self.network
-        if isinstance(choice, Change):
-            return not is_met(network, rows, times, network.activity_place[choice.activity])
-        one, other = network.event_place[choice.first], network.event_place[choice.second]
-        return not any(
-            all(is_met(network, rows, times, place) for place in network.headways[direction])
-            for direction in ((one, other), (other, one))
-        )
-
-    def relaxed(self, path: Path) -> Optional[Relaxed]:
-        """The relaxed problem of a path, in which what it leaves undecided binds and costs nothing; None if it has a cycle."""
-        network = self.network
-        undecided = set(self.free) - {choice_of(decision) for decision in path}
-        rows = with_decisions(network, self.rows, path)
-        held = active_activities(network, rows)
-        charged = [not kept for kept in rows.kept]
-        for place in range(len(network.activities)):
-            if network.choice_of_activity(place) in undecided:
-                held[place] = charged[place] = False
-        times = least_times(network, rows, held)
-        if times is None:
-            return None
-        cost = cost_charging(network, rows, times, self.penalty, charged)
-        return Relaxed(cost, {choice for choice in undecided if self.is_violated(rows, times, choice)})
-
-    def differs(self, decision: Decision) -> bool:
-        """Whether a decision of a free choice is not what the rows have."""
-        network, rows = self.network, self.rows
-        if not isinstance(decision, First):
-            return rows.kept[network.activity_place[decision.activity]] != isinstance(decision, Keep)
-        first = network.event_place[decision.event]
-        return rows.first[network.pair_at(first, network.event_place[decision.other])] != first
-
-
-def are_true_choices(problem: Problem, choices: Sequence[Decision], cost: int) -> bool:
-    """Whether the choices are free, stand in order, differ from the rows, have no cycle and cost so much."""
-    order = {choice: place for place, choice in enumerate(problem.free)}
-    last = -1
-    for decision in choices:
-        place = order.get(choice_of(decision), -1)
-        if place <= last or not problem.differs(decision):
-            return False
-        last = place
-    network = problem.network
-    rows = with_decisions(network, problem.rows, choices)
-    times = times_of(network, rows)
-    return times is not None and cost_of(network, rows, times, problem.penalty) == cost
-
-
-def is_true_node(problem: Problem, plan: Plan, path: Path, node: Node) -> bool:
-    """Whether a node says the truth of the relaxed problem of its path."""
-    relaxed = problem.relaxed(path)
-    if relaxed is None or isinstance(node, CycleLeaf):
-        return relaxed is None and isinstance(node, CycleLeaf)
-    if isinstance(node, Inner):
-        return node.choice in relaxed.violated and relaxed.cost < problem.cost
-    if relaxed.cost != node.cost:
-        return False
-    return node.cost >= plan.cost if isinstance(node, BoundLeaf) else node.cost < plan.cost and bool(relaxed.violated)
-
-
-def is_true_tree(problem: Problem, plan: Plan) -> bool:
-    """Whether the nodes are one whole tree, each of whose nodes says the truth."""
-    if plan.nodes is None:
-        return False
-    paths: list[Path] = [()]
-    for node in plan.nodes:
-        if not paths or not is_true_node(problem, plan, paths[-1], node):
-            return False
-        path = paths.pop()
-        if isinstance(node, Inner):
-            first, second = ways_of(node.choice)
-            paths += [path + (second,), path + (first,)]
-    return not paths
-
-
-def is_true_plan(network: Network, rows: Rows, penalty: int, budget: int, plan: Plan, allowed: Optional[list[Choice]] = None) -> bool:
-    """Whether a plan is true of rows at a penalty, for a budget of nodes, with these choices alone where some are given."""
-    problem = Problem(network, rows, penalty, allowed)
-    if plan.nodes is None or len(plan.nodes) > budget:
-        return False
-    if not are_true_choices(problem, plan.choices, plan.cost) or not is_true_tree(problem, plan):
-        return False
-    bounds = [node.cost for node in plan.nodes if isinstance(node, (BoundLeaf, OpenLeaf))]
-    if not bounds or min(bounds) != plan.bound:
-        return False
-    if any(isinstance(node, OpenLeaf) for node in plan.nodes):
-        return plan.mark == 'open' and len(plan.nodes) + 2 > budget
-    return plan.mark == 'optimal'

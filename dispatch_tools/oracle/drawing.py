@@ -29,7 +29,7 @@ ODD_SOLVES = ['solve', 'solve x', 'solve 18446744073709551616', 'solve  007']
 ODD_NUMBERS = [0, 1, 2 ** 32, 2 ** 64, 2 ** 128 - 1, 2 ** 128, 10 ** 40]
 WORDS = [
     b'keep', b'drop', b'ok', b'refused', b'first', b'bound', b'open', b'cycle', b'noplan', b'end', b'fault', b'long', b'optimal',
-    b'1', b'plans', b'adopt',
+    b'1', b'plans', b'adopt', b'carry', b'cancel', b'restore', b'lock', b'unlock', b'cancelled', b'locked',
 ]
 
 # What stands in a text, and what of the same form may stand there instead.
@@ -37,7 +37,9 @@ ALIKE = [
     (rb'keep', b'drop'), (rb'drop', b'keep'), (rb'first ([0-9]+) ([0-9]+)', rb'first \2 \1'), (rb'bound ([0-9]+)$', rb'open \1'),
     (rb'open ([0-9]+)$', rb'bound \1'), (rb'(bound|open) [0-9]+$', b'cycle'), (rb'cycle$', b'bound 0'), (rb'optimal', b'open'),
     (rb'plan open', b'plan optimal'), (rb'change', b'pair 1'), (rb'read$', b'old'), (rb'old$', b'ok'), (rb'[0-9]+ ok$', b'noplan'),
-    (rb'noplan$', b'plans'), (rb'refused .*$', b'ok'), (rb'-> ([0-9]+) .*$', rb'-> \1 refused full'),
+    (rb'noplan$', b'plans'), (rb'refused .*$', b'ok'), (rb'-> ([0-9]+) .*$', rb'-> \1 refused full'), (rb'adopt ->', b'carry ->'),
+    (rb'carry ->', b'adopt ->'), (rb'cancel ', b'restore '), (rb'restore ', b'cancel '), (rb'unlock ', b'lock '), (rb'\block ', b'unlock '),
+    (rb'(cancelled|locked) ', rb'not-\1 '), (rb'lock ([0-9]+) ([0-9]+)', rb'lock \2 \1'), (rb'adopt (keep|drop) [0-9]+', b'adopt'),
 ]
 
 # The same of plans by parts: a leaf, a bound, a rest, an id, a mark, a count, or a choice of a tree.
@@ -113,11 +115,11 @@ def write_network(draws: random.Random, network: Network, folder: str) -> None:
 
 
 class Lines:
-    """Draws lines that name what a network has, and now and then what it does not have; a plain feed asks for no plan by parts."""
+    """Draws lines that name what a network has, and now and then what it does not have; plain ones cancel, restore, lock, unlock and
+    carry nothing, and ask for no plan by parts."""
 
-    def __init__(self, draws: random.Random, network: Network, is_plain: bool) -> None:
-        self.draws = draws
-        self.is_plain = is_plain
+    def __init__(self, draws: random.Random, network: Network, is_plain: bool = False) -> None:
+        self.draws, self.is_plain = draws, is_plain
         self.events = [event.id for event in network.events] or [1]
         self.activities = [activity.id for activity in network.activities] or [1]
         self.changes = [activity.id for activity in network.activities if activity.kind == 'change'] or self.activities
@@ -146,6 +148,10 @@ class Lines:
             first, second = self.event(), self.event()
         return f'first {first} {second}' if self.draws.random() < 0.5 else f'first {second} {first}'
 
+    def choice(self) -> str:
+        """The ids of a choice, a pair either way round."""
+        return str(self.change()) if self.draws.random() < 0.5 else self.first().removeprefix('first ')
+
     def now(self) -> str:
         self.clock = max(0, self.clock + self.draws.randint(-3, 12))
         return f'now {self.clock}'
@@ -172,11 +178,19 @@ class Lines:
             lambda: 'adopt': 4,
             lambda: self.draws.choice(ODD_LINES if self.is_plain else [*ODD_LINES, *ODD_SOLVES]): 2,
         }
+        if not self.is_plain:
+            kinds |= {
+                lambda: f'cancel {self.event()}': 12,
+                lambda: f'restore {self.event()}': 8,
+                lambda: f'lock {self.choice()}': 6,
+                lambda: f'unlock {self.choice()}': 4,
+                lambda: 'carry': 4,
+            }
         drawn, = self.draws.choices(list(kinds), list(kinds.values()))
         return drawn()
 
 
-def drawn_feed(draws: random.Random, network: Network, is_plain: bool) -> str:
+def drawn_feed(draws: random.Random, network: Network, is_plain: bool = False) -> str:
     lines = Lines(draws, network, is_plain)
     return '\n'.join(lines.line() for _ in range(draws.randint(0, 25))) + draws.choice(['', '\n'])
 
@@ -309,9 +323,8 @@ def changed(draws: random.Random, text: bytes) -> bytes:
 class Fuzz:
     """Runs and checks of a program in a folder, and what they came to."""
 
-    def __init__(self, program: str, is_plain: bool) -> None:
-        self.program = program
-        self.is_plain = is_plain
+    def __init__(self, program: str, is_plain: bool = False) -> None:
+        self.program, self.is_plain = program, is_plain
         self.counts: Counter[str] = Counter()
 
     def call(self, folder: str, *words: str) -> tuple[int, bytes]:

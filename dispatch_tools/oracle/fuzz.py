@@ -16,7 +16,8 @@ With --plain no line says `solve`: what is drawn then is what was drawn before t
 The script prints each number in which something differs, with what differs and the folder of its files. If the verdicts on a text
 differ, it is the file `text` there. The status is then 1.
 
-Left out are boards, delay files, column words, more than three feeds, and feeds that cannot be read or are too long.
+With --plain no feed cancels, restores, locks, unlocks or carries. Left out are boards, delay files, cancelled events at the start,
+column words, more than three feeds, and feeds that cannot be read or are too long.
 """
 from __future__ import annotations
 
@@ -33,7 +34,7 @@ def main(argv: Sequence[str] | None = None) -> int:
     add_program(words)
     words.add_argument('begin', metavar='FROM', type=int, help='first number')
     words.add_argument('end', metavar='TO', type=int, help='number before which to end')
-    words.add_argument('--plain', action='store_true', help='draw no line that asks for a plan by parts')
+    words.add_argument('--plain', action='store_true', help='draw nothing cancelled, locked or carried, and no plan by parts')
     given = words.parse_args(argv)
     fuzz, differing = Fuzz(given.program, given.plain), 0
     for number in range(given.begin, given.end):

@@ -1,6 +1,6 @@
 """Judges texts of runs by a second reading of the rules, which shares no code with the program:
 
-    dispatch-tools judge DIR TEXT [--penalty=T] [--plans=N] [--event-delays=NAME] [--activity-delays=NAME]
+    dispatch-tools judge DIR TEXT [--penalty=T] [--plans=N] [--event-delays=NAME] [--activity-delays=NAME] [--cancelled=NAME]
     dispatch-tools judge --cases FOLDER
 
 The first form prints what `dispatcher check` prints of the same words: `good ENTRIES PLANS` with status 0, or `bad LINE KIND`
@@ -14,9 +14,8 @@ from __future__ import annotations
 
 from typing import Sequence
 
-from dispatch_tools.formats.giv import read_delays, read_network
+from dispatch_tools.formats.giv import read_network, start_rows
 from dispatch_tools.formats.runtext import STANDARD_PLANS
-from dispatch_tools.model.railway import Rows
 from dispatch_tools.oracle.judging import Good, judge_cases, read_bytes, verdict_on
 from dispatch_tools.words import command_line
 
@@ -29,6 +28,7 @@ def main(argv: Sequence[str] | None = None) -> int:
     words.add_argument('--plans', type=int, default=STANDARD_PLANS, help='plans that a feed may have (%(default)s)')
     words.add_argument('--event-delays', help='file in DIR with delays of events at the start')
     words.add_argument('--activity-delays', help='file in DIR with delays of activities at the start')
+    words.add_argument('--cancelled', help='file in DIR with events that are cancelled at the start')
     words.add_argument('names', nargs='*', metavar='DIR TEXT', help='folder of a network, and text of a run over it')
     given = words.parse_intermixed_args(argv)
     if given.cases is not None:
@@ -37,7 +37,7 @@ def main(argv: Sequence[str] | None = None) -> int:
         words.error('there are to be a folder and a text')
     folder, text = given.names
     network = read_network(folder)
-    start = Rows(network, read_delays(folder, given.event_delays), read_delays(folder, given.activity_delays))
+    start = start_rows(network, folder, given.event_delays, given.activity_delays, given.cancelled)
     verdict = verdict_on(network, start, given.penalty, read_bytes(text), given.plans)
     print(verdict)
     return 0 if isinstance(verdict, Good) else 1

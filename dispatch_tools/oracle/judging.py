@@ -11,12 +11,11 @@ from dispatch_tools.formats.lines import Bad, fits, ID, NUMBER, Text
 from dispatch_tools.formats.runtext import (
     Answer, Item, MOST_BOARDS, MOST_FEEDS, MOST_NODES, PLANNED, read_item, read_message, read_planned, STANDARD_PLANS,
 )
-from dispatch_tools.model.messages import Adopt, AdoptLast, AskPlan, AskSolve, AskTime, Message, Refusal, Said, STATEMENTS
+from dispatch_tools.model.messages import Adopt, AdoptLast, AskPlan, AskSolve, AskTime, CarryOver, Message, Refusal, Said, STATEMENTS
 from dispatch_tools.model.network import Network
 from dispatch_tools.model.parts import is_true_plan_by_parts, PlanByParts
-from dispatch_tools.model.railway import (
-    admit, cost_of, is_cycle, is_true_plan, MOST_ENTRIES, Plan, Rows, sound_times,
-)
+from dispatch_tools.model.railway import admit, cost_of, is_cycle, MOST_ENTRIES, Plan, Rows, sound_times, still_free
+from dispatch_tools.model.true_plans import is_true_plan
 
 # What replaces each byte where every byte of a text is judged.
 BYTES = [b'\n', b' ', b'0', b'7', b'z']
@@ -204,7 +203,7 @@ class Judge:
 
     def is_true_without_entry(self, log: Log, said: Said, answer: Answer) -> bool:
         if answer.kind == 'noplan':
-            return isinstance(said, AdoptLast) and log.plan is None
+            return isinstance(said, (AdoptLast, CarryOver)) and log.plan is None
         if not isinstance(said, (AskPlan, AskSolve)):
             return False
         if answer.kind == 'plans':
@@ -220,6 +219,8 @@ class Judge:
             return False
         if isinstance(said, AdoptLast):
             return log.plan is not None and message == Adopt(log.plan.choices) and entry == log.plan.entry + 1
+        if isinstance(said, CarryOver):
+            return log.plan is not None and message == still_free(self.network, self.rows[entry - 1], log.plan.choices)
         return message == said
 
     def is_told(self, log: Log, said: Said, entry: int, answer: Answer) -> bool:
@@ -238,15 +239,20 @@ class Judge:
         return True
 
     def is_refused(self, log: Log, said: Said, entry: int, reason: Refusal) -> bool:
-        """Whether a message, a question for a time or an adoption is refused so."""
+        """Whether a message, a question for a time, an adoption or a carry is refused so."""
         if isinstance(said, AdoptLast):
             is_last = log.plan is not None and entry == log.plan.entry == MOST_ENTRIES
             return reason == Refusal('full') and is_last
         if isinstance(said, AskTime):
             return reason == Refusal('unknown-event', (said.event,)) and said.event not in self.network.event_place
-        if not isinstance(said, STATEMENTS):
+        message: Message
+        if isinstance(said, CarryOver) and log.plan is not None:
+            message = still_free(self.network, self.rows[entry], log.plan.choices)
+        elif isinstance(said, STATEMENTS):
+            message = said
+        else:
             return False
-        refusal, after = admit(self.network, self.rows[entry], entry, said)
+        refusal, after = admit(self.network, self.rows[entry], entry, message)
         if after is not None and refusal == Refusal('cycle'):
             return reason.reason == 'cycle' and is_cycle(self.network, after, reason.numbers)
         return reason == refusal

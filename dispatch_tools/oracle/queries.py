@@ -2,12 +2,11 @@
 
     dispatch-tools queries DISPATCHER FROM TO [--plain]
 
-For each number from FROM to below TO it draws a network and feeds as fuzz does (with --plain, too, and then never with --solve),
-and runs the program. It asks about the text,
-a beginning of it, and texts made from it by small changes. Each command of the program's usage line is asked with drawn words:
+For each number from FROM to below TO it draws a network and feeds as fuzz does, and runs the program. It asks about the text, a
+beginning of it, and texts made from it by small changes. Each command of the program's usage line is asked with drawn words:
 
     follow     answers as the second reading does, to the byte
-    journey    each journey is a walk, and no walk beats its arrival and its changes
+    journey    each journey is a walk without cancelled events, and no walk beats its arrival and its changes
     rules      the rule's choices and cost, to the byte; the gap is that to the plan's bound, one by parts with --solve; with at most
                eight choices none cost less than the bound, nor than a plan that is marked optimal
     window     the plan, one by parts with --solve, is true of the window without what is held; the choices of --minimal are some of
@@ -16,7 +15,8 @@ a beginning of it, and texts made from it by small changes. Each command of the 
 The second reading shares no code with the program. The script prints each number in which something differs, with what differs
 and the folder of its files. The status is then 1.
 
-Left out are delay files, column words, texts that are too long, and faults of reading and writing.
+With --plain no feed cancels, restores, locks, unlocks or carries, and no plan is one by parts. Left out are delay files, cancelled
+events at the start, column words, texts that are too long, and faults of reading and writing.
 """
 from __future__ import annotations
 
@@ -90,6 +90,7 @@ def followed(network: Network, penalty: int, journal: Journal) -> Answered:
     times = sound_times(network, rows)
     tail = 'tail whole' if journal.torn is None else f'tail torn {journal.torn[0]} {journal.torn[1]}'
     shown = [f'{event.id}; {time}' for event, time in zip(network.events, times)]
+    shown += [f'cancelled {event.id}' for event, is_cancelled in zip(network.events, rows.cancelled) if is_cancelled]
     return 0, lines_of(f'entries {len(journal.rows) - 1}', tail, *shown, f'cost {cost_of(network, rows, times, penalty)}')
 
 
@@ -108,8 +109,8 @@ class Travel(NamedTuple):
 
     def is_usable(self, place: int) -> bool:
         network, times = self.network, self.times
-        kind, head = network.activities[place].kind, network.heads[place]
-        if times[head] < times[network.tails[place]] or kind not in ('drive', 'wait', 'change'):
+        kind, tail, head = network.activities[place].kind, network.tails[place], network.heads[place]
+        if times[head] < times[tail] or kind not in ('drive', 'wait', 'change') or self.rows.cancelled[tail] or self.rows.cancelled[head]:
             return False
         caught = is_met(network, self.rows, times, place) and (self.rows.kept[place] or self.rows.passed[head] is not None)
         return kind != 'change' or caught
@@ -352,7 +353,7 @@ def main(argv: Sequence[str] | None = None) -> int:
     add_program(words)
     words.add_argument('begin', metavar='FROM', type=int, help='first number')
     words.add_argument('end', metavar='TO', type=int, help='number before which to end')
-    words.add_argument('--plain', action='store_true', help='draw no line that asks for a plan by parts')
+    words.add_argument('--plain', action='store_true', help='draw nothing cancelled, locked or carried, and no plan by parts')
     given = words.parse_args(argv)
     counts: Counter[str] = Counter()
     differing, asked = 0, Draws(given.program, commands_of(given.program), given.plain)

@@ -8,7 +8,8 @@ from dispatch_tools.formats.plan_text import read_decision, read_plan, read_plan
 from dispatch_tools.model.messages import Decision
 from dispatch_tools.model.network import Change, Choice, Network
 from dispatch_tools.model.parts import is_true_plan_by_parts, PlanByParts
-from dispatch_tools.model.railway import choice_of, cost_of, free_choices, is_cycle, is_true_plan, Plan, Rows, times_of, with_decisions
+from dispatch_tools.model.railway import choice_of, cost_of, free_choices, is_cycle, Plan, Rows, times_of, with_decisions
+from dispatch_tools.model.true_plans import is_true_plan
 
 
 class Window(NamedTuple):

@@ -152,12 +152,19 @@ def scheduled_path(frame: Frame, scene: Scene, stretches: Stretches) -> str:
     )
 
 
+def class_of_leg(scene: Scene, tail: int, head: int) -> int:
+    """The class of lateness of a leg's later end; one behind all of these if an end is cancelled."""
+    if scene.rows.cancelled[tail] or scene.rows.cancelled[head]:
+        return len(CLASSES)
+    return lateness_class(max(scene.lateness(tail), scene.lateness(head)))
+
+
 def coloured_paths(frame: Frame, scene: Scene, stretches: Stretches) -> list[str]:
-    """The data of a train's paths by class of lateness; each leg has the class of its later end."""
-    data = [''] * len(CLASSES)
+    """The data of a train's paths by class of lateness, and behind these of what is cancelled."""
+    data = [''] * (len(CLASSES) + 1)
     for stretch in stretches:
         for run in within(frame, scene, stretch, scene.times.__getitem__):
-            legs = [lateness_class(max(scene.lateness(a[0]), scene.lateness(b[0]))) for a, b in zip(run, run[1:])]
+            legs = [class_of_leg(scene, a[0], b[0]) for a, b in zip(run, run[1:])]
             place = 0
             while place < len(legs):
                 end = place
@@ -176,9 +183,12 @@ def train_marks(frame: Frame, scene: Scene, trains: Trains, together: Optional[C
             yield f'<path class="plan" d="{data}"/>'
     for number, stretches in trains:
         late = max(scene.lateness(place) for stretch in stretches for place in stretch)
-        title = f'{escaped(scene.train_label(number))}: {f"at most {duration(late)} late" if late else "on time"}'
+        words = [f'at most {duration(late)} late' if late else 'on time']
+        gone = [scene.rows.cancelled[place] for place in scene.trains[number]]
+        words = ['cancelled'] if all(gone) else [*words, 'in part cancelled'] if any(gone) else words
+        title = f'{escaped(scene.train_label(number))}: {", ".join(words)}'
         paths = ''.join(
-            f'<path class="run l{kind}" d="{data}"/>'
+            f'<path class="run {f"l{kind}" if kind < len(CLASSES) else "gone"}" d="{data}"/>'
             for kind, data in enumerate(coloured_paths(frame, scene, stretches)) if data
         )
         if paths:
@@ -378,7 +388,7 @@ def grid(frame: Frame, scene: Scene) -> Iterator[str]:
 
 SAMPLES = [
     ('<path class="plan" d="M0 0h22"/>', 'scheduled'), *((f'<path class="run l{kind}" d="M0 0h22"/>', name) for kind, name in enumerate(CLASSES)),
-    ('<path class="kept" d="M0 0h22"/>', 'change kept'), (f'<path class="dropped" d="M0 0h22"/>{cross(11, 0)}', 'dropped'),
+    ('<path class="gone" d="M0 0h22"/>', 'cancelled'), ('<path class="kept" d="M0 0h22"/>', 'change kept'), (f'<path class="dropped" d="M0 0h22"/>{cross(11, 0)}', 'dropped'),
     (f'<path class="missed" d="M0 0h22"/>{cross(11, 0)}', 'missed'), ('<path class="turned" d="M11-6l6 6l-6 6l-6-6z"/>', 'order turned'),
     ('<circle class="passed" cx="11" cy="0" r="3"/>', 'passed'), ('<line class="now" x1="0" x2="22" y1="0" y2="0"/>', 'clock'),
     ('<path class="conflict" d="M11 5l6-10h-12z"/>', 'conflict: a train waits for another'), ('<path class="then" d="M0 0h22"/>', 'by the plan'),

@@ -18,6 +18,7 @@ from dispatch_tools.formats.runtext import Run
 from dispatch_tools.model.messages import Adopt, AskSolve
 from dispatch_tools.model.parts import PlanByParts
 from dispatch_tools.pictures.scene import clock_time, read_scene, read_text, rows_of, Scene
+from dispatch_tools.words import start_options
 
 WAITS = range(0, 901, 30)
 BUDGETS = [64 << doubling for doubling in range(9)]
@@ -306,12 +307,10 @@ def table(rows: Iterable[Iterable[object]]) -> str:
 
 
 def make_all(given: argparse.Namespace) -> None:
-    scene = read_scene(given.net, given.text, given.event_delays, given.activity_delays)
+    scene = read_scene(given.net, given.text, given.event_delays, given.activity_delays, given.cancelled)
     if not any(event.kind == 'arrival' for event in scene.network.events):
         raise BadFile(given.net, None, 'nothing arrives there')
-    options = [f'--penalty={scene.run.penalty}']
-    options += [f'--{name}={value}' for name, value in
-                (('event-delays', given.event_delays), ('activity-delays', given.activity_delays)) if value]
+    options = [f'--penalty={scene.run.penalty}', *start_options(given)]
     study = Study(given.dispatcher, given.net, given.text, options)
     after = adopted(study, scene, given.folder)
     figures = {'rules': rules_figure(study, after.solved[BUDGETS[-1]]), 'budgets': budgets_figure(study, after.solved),

@@ -9,12 +9,12 @@ from collections import Counter, defaultdict
 from typing import Iterable, Mapping, NamedTuple, Optional, Sequence
 
 from dispatch_tools.formats.files import BadFile, text_of
-from dispatch_tools.formats.giv import read_delays, read_network
+from dispatch_tools.formats.giv import read_network, start_rows
 from dispatch_tools.formats.names import read_labels, read_stops, read_trips
 from dispatch_tools.formats.lines import Bad
 from dispatch_tools.formats.runtext import read_run, Run
 from dispatch_tools.model.network import Network
-from dispatch_tools.model.railway import apply, cost_of, floor_of, is_active, is_met, refusal_at_once, Rows, span_of
+from dispatch_tools.model.railway import apply, cost_of, floor_of, is_active, is_missed, refusal_at_once, Rows, span_of
 
 # The largest lateness of each class but the last, in seconds, and how the classes are called.
 LATENESS = (60, 180, 360, 900)
@@ -43,7 +43,7 @@ class Scene(NamedTuple):
         return self.network.events[place].time
 
     def lateness(self, place: int) -> int:
-        return max(0, self.times[place] - self.scheduled(place))
+        return 0 if self.rows.cancelled[place] else max(0, self.times[place] - self.scheduled(place))
 
     def stop_name(self, stop: int) -> str:
         return self.names.get(stop) or f'Stop {stop}'
@@ -88,10 +88,11 @@ def rows_of(network: Network, start: Rows, run: Run, name: str) -> Rows:
     return rows
 
 
-def read_scene(folder: str, text: str, event_delays: Optional[str] = None, activity_delays: Optional[str] = None) -> Scene:
+def read_scene(folder: str, text: str, event_delays: Optional[str] = None, activity_delays: Optional[str] = None,
+               cancelled: Optional[str] = None) -> Scene:
     """The scene of a network's folder and a run's text; BadFile if they are none or do not fit."""
     network = read_network(folder)
-    start = Rows(network, read_delays(folder, event_delays), read_delays(folder, activity_delays))
+    start = start_rows(network, folder, event_delays, activity_delays, cancelled)
     run = read_text(text, network)
     rows = rows_of(network, start, run, text)
     if any(event.id not in run.times for event in network.events):
@@ -187,7 +188,7 @@ def distances(network: Network, trains: Iterable[list[int]], line: Sequence[int]
 
 
 class Link(NamedTuple):
-    """A change between trains: the places of its ends, its id, and whether it is kept, dropped or missed."""
+    """A change between trains: the places of its ends, its id, and whether it is kept, dropped (or of a cancelled train) or missed."""
     tail: int
     head: int
     id: int
@@ -205,9 +206,10 @@ def links_of(scene: Scene, changes: Optional[Iterable[int]] = None) -> list[Link
     links = []
     for place in changes_of(network) if changes is None else changes:
         activity = network.activities[place]
-        state = 'kept' if rows.kept[place] else 'dropped'
+        has_cancelled = rows.cancelled[network.tails[place]] or rows.cancelled[network.heads[place]]
+        state = 'kept' if rows.kept[place] and not has_cancelled else 'dropped'
         if rows.passed[network.heads[place]] is not None:
-            state = 'kept' if is_met(network, rows, scene.times, place) else 'missed'
+            state = 'missed' if is_missed(network, rows, scene.times, place) else 'kept'
         links.append(Link(network.tails[place], network.heads[place], activity.id, state))
     return links
 
@@ -235,7 +237,7 @@ def conflicts_of(network: Network, rows: Rows, times: Sequence[int], pairs: Iter
     for pair in pairs:
         ends, first = network.pairs[pair], rows.first[pair]
         second = ends[0] if ends[1] == first else ends[1]
-        if rows.passed[second] is not None or times[second] <= network.events[second].time:
+        if rows.passed[second] is not None or rows.cancelled[second] or times[second] <= network.events[second].time:
             continue
         asked = {activity: times[network.tails[activity]] + span_of(network, rows, activity) for activity in into[second] if is_active(network, rows, activity)}
         others = [time for activity, time in asked.items() if network.pair_by_activity[activity] != pair]
@@ -246,7 +248,8 @@ def conflicts_of(network: Network, rows: Rows, times: Sequence[int], pairs: Iter
 
 
 class CostParts(NamedTuple):
-    """What a timetable costs, in thousandths of passenger seconds: by late arrivals, dropped changes and missed ones."""
+    """What a timetable costs, in thousandths of passenger seconds, beside cancelled arrivals: by late arrivals, dropped changes and missed
+    ones."""
     lateness: int
     dropped: int
     missed: int
@@ -259,6 +262,12 @@ def cost_parts(scene: Scene) -> CostParts:
     for link in links_of(scene):
         weights[link.state] += network.activities[network.activity_place[link.id]].weight
     return CostParts(late, scene.run.penalty * weights['dropped'], scene.run.penalty * weights['missed'])
+
+
+def cancelled_cost(scene: Scene) -> int:
+    """What cancelled arrivals cost, in thousandths of passenger seconds."""
+    events = zip(scene.network.events, scene.rows.cancelled)
+    return scene.run.penalty * sum(event.weight for event, is_cancelled in events if is_cancelled and event.kind == 'arrival')
 
 
 def span_of_times(scene: Scene, places: Iterable[int]) -> tuple[int, int]:

@@ -16,12 +16,13 @@ STYLE = '''
 .missed{stroke:#b2182b}.cross{stroke:#555;stroke-width:1.6}.turned{fill:#fff;stroke:#6a3d9a;stroke-width:1.6}
 .passed{fill:#222}.now{stroke:#6a3d9a;stroke-width:1.5;stroke-dasharray:6 3}
 .conflict{fill:#b2182b;stroke:#fff;stroke-width:1}.then,.chosen-then{fill:none;stroke:#00735c;stroke-width:1.8}.then{stroke-dasharray:7 4}
+.gone{fill:none;stroke:#777;stroke-width:1.4;stroke-dasharray:2 5}
 '''
 DARK_STYLE = '''
 @media (prefers-color-scheme:dark){.page{fill:#16181c}text{fill:#e6e6e6}.small{stroke:#16181c}.stop,.ten{stroke:#2c2f36}.ten{stroke:#22252a}
 .hour{stroke:#4a4e57}.plan{stroke:#80858f}.kept{stroke:#3fd0a8}.dropped{stroke:#a0a0a0}.missed{stroke:#ff6f6f}
 .cross{stroke:#ccc}.turned{fill:#16181c;stroke:#c9a4ff}.passed{fill:#e6e6e6}.now{stroke:#c9a4ff}
-.conflict{fill:#ff6f6f;stroke:#16181c}.then,.chosen-then{stroke:#3fd0a8}}
+.conflict{fill:#ff6f6f;stroke:#16181c}.then,.chosen-then{stroke:#3fd0a8}.gone{stroke:#aaa}}
 '''
 
 

@@ -11,6 +11,7 @@ const events = ids.map((id, place) => ({
 }));
 const trains = DAY.trains.map(sums);
 const passed = new Set(DAY.passed);
+const gone = new Set(DAY.gone);
 const trainOf = new Map();
 trains.forEach((train, number) => train.forEach(place => trainOf.set(place, number)));
 const byId = new Map(events.map((event, place) => [event.id, place]));
@@ -167,13 +168,15 @@ function showEvents(into, caption, shownPlaces, at, where, found) {
   table.createTHead().append(heading);
   const body = table.createTBody();
   for (const place of shownPlaces) {
-    const event = events[place], late = Math.max(0, event.now - event.time), row = document.createElement('tr');
-    const kind = (event.arrival ? 'arrival' : 'departure') + (passed.has(place) ? ', passed' : '');
+    const event = events[place], isGone = gone.has(place), row = document.createElement('tr');
+    const late = isGone ? 0 : Math.max(0, event.now - event.time);
+    const kind = (event.arrival ? 'arrival' : 'departure') + (isGone ? ', cancelled' : passed.has(place) ? ', passed' : '');
     row.append(
       cell('th', event.id, 'row'), cell('td', where(place)), cell('td', kind), cell('td', clock(event.time)),
-      cell('td', clock(event.now)), cell('td', late ? clock(late) : '', '', late >= 60 ? 'late' : ''),
+      cell('td', isGone ? '–' : clock(event.now)), cell('td', late ? clock(late) : '', '', late >= 60 ? 'late' : ''),
     );
-    if (place === found) row.className = 'found';
+    row.classList.toggle('found', place === found);
+    row.classList.toggle('gone', isGone);
     body.append(row);
   }
   into.replaceChildren(table);
@@ -221,12 +224,14 @@ function showTrain(number) {
 // Shows a train in all places, and says where and when it runs.
 function chosenTrain(number) {
   unmark();
-  const first = events[trains[number][0]], last = events[trains[number].at(-1)];
+  const left = trains[number].filter(place => !gone.has(place)), isWhole = left.length === trains[number].length;
   const isDrawn = showTrain(number);
   showRun(number);
-  const trip = DAY.trips[number] ? ` (trip ${DAY.trips[number]})` : '';
+  const trip = DAY.trips[number] ? ` (trip ${DAY.trips[number]})` : '', drawn = isDrawn ? '' : ' It runs on no line that is drawn.';
+  if (!left.length) return `${trainName(number)}${trip}: cancelled.`;
+  const first = events[left[0]], last = events[left.at(-1)];
   return `${trainName(number)}${trip}: ${stopName(first.stop)} ${clock(first.now)} to ${stopName(last.stop)} ${clock(last.now)}, ` +
-    `${clock(Math.max(0, last.now - last.time))} late at its end.${isDrawn ? '' : ' It runs on no line that is drawn.'}`;
+    `${clock(Math.max(0, last.now - last.time))} late at its end.${isWhole ? '' : ' A part of it is cancelled.'}${drawn}`;
 }
 
 // The train of the line that comes so many behind the marked one, in the order in which they are drawn.

@@ -13,7 +13,7 @@ from dispatch_tools.model.network import Choice
 from dispatch_tools.model.parts import branches_of, Part, places_of, PlanByParts
 from dispatch_tools.model.railway import Plan, ways_of
 from dispatch_tools.pictures.diagram import drawing, trains_on
-from dispatch_tools.pictures.scene import clock_time, cost_parts, counted, lateness_class, lines_of, Scene
+from dispatch_tools.pictures.scene import cancelled_cost, clock_time, cost_parts, counted, lateness_class, lines_of, Scene
 from dispatch_tools.pictures.style import style
 
 # At most so many lines are drawn, nodes of trees shown, and items of a log listed, of longer ones as plain text, which is shorter.
@@ -52,7 +52,9 @@ def answer_words(answer: Answer) -> str:
 
 def cost_part(scene: Scene) -> str:
     parts = cost_parts(scene)
-    rows = [('Late arrivals', parts.lateness), ('Dropped changes', parts.dropped), ('Missed changes', parts.missed), ('Cost', scene.run.cost)]
+    rows = [('Late arrivals', parts.lateness), ('Dropped changes', parts.dropped), ('Missed changes', parts.missed)]
+    gone = cancelled_cost(scene)
+    rows += [*([('Cancelled arrivals', gone)] if gone else []), ('Cost', scene.run.cost)]
     cells = ''.join(f'<tr><th scope="row">{name}</th><td>{cost_words(cost)}</td><td>{cost:,}</td></tr>' for name, cost in rows)
     return (f'<table><caption>Cost after all entries, at a penalty of {scene.run.penalty} s for each passenger who misses a change'
             f'</caption><tbody>{cells}</tbody></table><p class="note">On the right in thousandths of passenger seconds.</p>')
@@ -263,6 +265,7 @@ def data_of(scene: Scene) -> dict[str, Any]:
         'late': [now - event.time for event, now in zip(events, scene.times)], 'stops': differences([event.stop for event in events]),
         'arrivals': ''.join(str(int(event.kind == 'arrival')) for event in events),
         'passed': [place for place, time in enumerate(scene.rows.passed) if time is not None],
+        'gone': [place for place, is_cancelled in enumerate(scene.rows.cancelled) if is_cancelled],
         'trains': [differences(train) for train in scene.trains], 'names': scene.names,
         'labels': [scene.train_label(place) for place in range(len(scene.trains))] if scene.labels else [],
         'trips': [scene.trips.get(scene.first_event(place), '') for place in range(len(scene.trains))] if scene.trips else [],

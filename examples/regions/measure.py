@@ -202,7 +202,7 @@ class Growing:
         *lines, self.rest = (self.rest + self.file.read()).split(b'\n')
         for line in lines:
             for event, shown in times_of(line) or ():
-                if event == self.event:
+                if event == self.event and shown is not None:
                     self.last = shown
         return self.last
 

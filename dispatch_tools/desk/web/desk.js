@@ -20,6 +20,7 @@ function show(text) {
   else if (previewOf(before) !== previewOf(screen)) seen.refreshLine();
   done.showPlan(screen);
   done.showServer(screen);
+  done.showLocks(screen);
   document.documentElement.dataset.version = screen.version;
 }
 

@@ -2,7 +2,7 @@
 import { beside, button, element, get, made, oneAtATime, placeBeside, post, postAsking, replace, rights, say, secondsOf, table, timeOf, withNumber } from './parts.js';
 
 let day = null, screenNow = null, train = null, plannedOf = null;
-const answered = new Map(), held = new Map(), awaited = new Map();
+const answered = new Map(), held = new Map(), awaited = new Map(), said = new Map();
 
 export function begin(given, screen) {
   day = given;
@@ -27,6 +27,7 @@ export function showRights() {
   if (screenNow()) {
     showTold(screenNow());
     showServer(screenNow());
+    showLocks(screenNow());
   }
   plannedOf = null;
   if (screenNow()) showPlan(screenNow());
@@ -46,6 +47,7 @@ async function asked(key, does) {
 // Writes lines, and says beside the button what they are answered.
 async function write(key, path, words) {
   beside(key, 'Sent.');
+  said.delete(key);
   const answer = await asked(key, async () => await postAsking(path, words) || beside(key, 'Not sent.'));
   if (!answer) return null;
   awaited.set(answer.line, key);
@@ -55,10 +57,19 @@ async function write(key, path, words) {
 }
 
 function showAwaited() {
-  for (const { line, words, answer } of screenNow().told) {
-    if (!answer || !awaited.has(line)) continue;
-    beside(awaited.get(line), `${words}: ${answer}`);
-    awaited.delete(line);
+  for (const { line, words, answer, stands } of screenNow().told) {
+    const key = awaited.get(line);
+    if (answer && key !== undefined) {
+      beside(key, `${words}: ${answer}`);
+      said.set(key, line);
+      awaited.delete(line);
+    }
+    // An answer that does not hold any more does not stay beside its button.
+    for (const [place, of] of said) {
+      if (of !== line || !stands) continue;
+      beside(place, `${words}: taken back`);
+      said.delete(place);
+    }
   }
 }
 
@@ -71,9 +82,10 @@ export function trainShown(shown, mayTell) {
   const isSame = train && train.number === shown.number, event = element('event').value;
   train = shown;
   element('tell').hidden = !mayTell;
-  element('event').replaceChildren(...train.events.map(([id, at, kind, scheduled, now, , passed]) =>
-    new Option(`${kind === 'departure' ? 'leaves' : 'reaches'} ${at} ${scheduled}${now === scheduled ? '' : `, now ${now}`}${passed ? ' (passed)' : ''}`, id)));
-  const ahead = train.events.find(row => !row[6]) || train.events[0];
+  element('event').replaceChildren(...train.events.map(([id, at, kind, scheduled, now, , passed, , , , cancelled]) =>
+    new Option(`${kind === 'departure' ? 'leaves' : 'reaches'} ${at} ${scheduled}${now === scheduled || cancelled ? '' : `, now ${now}`}`
+      + `${passed ? ' (passed)' : cancelled ? ' (cancelled)' : ''}`, id)));
+  const ahead = train.events.find(row => !row[6] && !row[10]) || train.events[0];
   element('event').value = isSame && event ? event : ahead[0];
   const leg = element('leg').value;
   element('leg').replaceChildren(...train.legs.map(([id, words, longer]) => new Option(longer ? `${words} (${longer} longer)` : words, id)));
@@ -90,7 +102,9 @@ function showEvent() {
 function tellOfTrain(event) {
   event.preventDefault();
   const at = Number(element('event').value), seconds = id => Math.round(Number(element(id).value) * 60);
+  const cancel = part => write('tell', '/cancel', { train: train.number, part, event: at });
   const does = {
+    whole: () => cancel('whole'), ends: () => cancel('ends'), begins: () => cancel('begins'), again: () => cancel('again'),
     delay: () => tell('tell', 'delay event', [at, seconds('minutes')]), ontime: () => tell('tell', 'delay event', [at, 0]),
     recall: () => tell('tell', 'recall', [at]), slow: () => tell('tell', 'delay activity', [Number(element('leg').value), seconds('longer')]),
     pass: () => {
@@ -101,8 +115,8 @@ function tellOfTrain(event) {
   does[event.submitter?.name || 'delay']();
 }
 
-function choice(words, number, buttons) {
-  const row = made('div', '', 'choice');
+function choice(words, number, buttons, classes = '') {
+  const row = made('div', '', `choice ${classes}`);
   row.append(withNumber(words, number), ...buttons);
   return row;
 }
@@ -112,23 +126,46 @@ function keyed(one, key) {
   return one;
 }
 
+// The buttons that hold a choice as it is, or let it go.
+function holding(key, locked, kind, numbers, lock, words) {
+  const [label, does] = locked ? ['Let go', () => tell(key, 'unlock', lock)] : ['Hold', () => write(key, '/hold', { kind, numbers })];
+  return keyed(button(label, does, `${label}: ${words}`), `held ${key}`);
+}
+
 function showChoices(mayTell) {
   const rows = [];
   const may = (...buttons) => mayTell ? buttons : [];
-  const hold = (activity, words) => day.program ? [keyed(button('Hold', () => holdOne(activity, words), `Hold in what-if: ${words}`), `hold ${activity}`)] : [];
+  const leave = (activity, words) => day.program
+    ? [keyed(button('Leave alone', () => leaveAlone(activity, words), `Leave alone in what-if: ${words}`), `leave ${activity}`)] : [];
   if (train.changes.length) rows.push(made('h3', 'Changes'));
-  for (const [id, words, kept, over, wait] of train.changes) {
-    const state = over ? (kept ? 'over' : 'over, was dropped') : kept ? (wait ? `kept, waits ${wait}` : 'kept') : 'dropped';
+  for (const [id, words, kept, over, wait, cancelled, locked] of train.changes) {
+    const state = cancelled ? 'cancelled' : over ? (kept ? 'over' : 'over, was dropped') : kept ? (wait ? `kept, waits ${wait}` : 'kept') : 'dropped';
     const key = `change ${id}`, turn = button(kept ? 'Drop' : 'Keep', () => tell(key, kept ? 'drop' : 'keep', [id]), `${kept ? 'Drop' : 'Keep'} the change ${words}`);
-    rows.push(choice(`${words}: ${state}`, key, over ? [] : may(keyed(turn, key), ...hold(id, words), placeBeside(key))));
+    const held = holding(key, locked, kept ? 'keep' : 'drop', [id], [id], words);
+    const buttons = over || cancelled ? [] : may(...(locked ? [] : [keyed(turn, key)]), held, ...leave(id, words), placeBeside(key));
+    rows.push(choice(`${words}: ${state}${locked ? ', held' : ''}`, key, buttons, cancelled ? 'gone' : ''));
   }
   if (train.pairs.length) rows.push(made('h3', 'Who goes first'));
-  for (const [first, other, words, turned, headway, waits] of train.pairs) {
-    const key = `pair ${Math.min(first, other)} ${Math.max(first, other)}`;
+  for (const [first, other, words, turned, headway, waits, locked] of train.pairs) {
+    const pair = [Math.min(first, other), Math.max(first, other)], key = `pair ${pair.join(' ')}`;
     const turn = keyed(button('Turn', () => tell(key, 'first', [other, first]), `Turn: ${turned}`), key);
-    rows.push(choice(waits ? `${words}: conflict, the other one waits ${waits}` : words, `${first} ${other}`, may(turn, ...hold(headway, words), placeBeside(key))));
+    const state = `${words}${waits ? `: conflict, the other one waits ${waits}` : ''}${locked ? ', held' : ''}`;
+    const held = holding(key, locked, 'first', [first, other], pair, words);
+    rows.push(choice(state, `${first} ${other}`, may(...(locked ? [] : [turn]), held, ...leave(headway, words), placeBeside(key))));
   }
   replace(element('choices'), ...rows);
+}
+
+// The choices that are held, by whom, and a button that lets each go.
+export function showLocks({ locks }) {
+  const rows = locks.map(([numbers, words, by]) => {
+    const row = made('li'), key = `lock ${numbers.join(' ')}`;
+    row.append(withNumber(words, numbers.join(' ')), by ? made('span', ` by ${by} `, 'note') : ' ');
+    if (rights.mayTell) row.append(keyed(button('Let go', () => tell(key, 'unlock', numbers), `Let go: ${words}`), key), placeBeside(key));
+    return row;
+  });
+  element('h-locks').textContent = `Held choices (${rows.length})`;
+  replace(element('locks').querySelector('ul'), ...(rows.length ? rows : [made('li', 'None.', 'none')]));
 }
 
 // ---- Lines that were written here
@@ -195,18 +232,24 @@ function inScroll(label, inner) {
   return one;
 }
 
+// What became of a plan that was adopted, whole or as far as it was still free.
+function adoption({ adopted, carried, undone, count, entry }) {
+  const what = carried === null ? '' : `: what was still free, ${carried} of ${count} choices. Below it stands as it was made, for entry ${entry}`;
+  return `Adopted as entry ${adopted}${what}.${undone === null ? '' : ` Taken back by line ${undone}.`}`;
+}
+
 const refreshPlan = oneAtATime(async () => {
   const plan = screenNow().plan;
   const found = plan && plan.ready ? await (await get('/plan')).json() : null;
   const effect = found && found.line === plan.line ? found : null;
-  const state = made('p', plan.adopted ? `Adopted as entry ${plan.adopted}.` : plan.old
+  const state = made('p', plan.adopted ? adoption(plan) : plan.old
     ? `The plan of entry ${plan.entry} is old: something was entered since. Ask again.` : `Plan of entry ${plan.entry}. Nothing was entered since.`);
   const buttons = [];
   if (rights.mayTell && !plan.adopted) {
     const adopt = keyed(button('Adopt this plan', () => write('plan', '/adopt', { plan: plan.line })), 'adopt');
     adopt.disabled = plan.old;
-    const enter = keyed(button('Enter its choices one by one', () => write('plan', '/enter', { plan: plan.line })), 'enter');
-    buttons.push(adopt, ' ', ...(plan.old ? [enter, ' '] : []), keyed(button('Ask again', askForPlan), 'again'));
+    const carry = keyed(button('Enter what is still free', () => write('plan', '/carry', { plan: plan.line })), 'carry');
+    buttons.push(adopt, ' ', ...(plan.old ? [carry, ' '] : []), keyed(button('Ask again', askForPlan), 'again'));
   }
   replace(element('planned'), state, ...buttons, ...(effect ? effectTables(effect, 'on the whole network') : [made('p', 'What it would change is being worked out.')]));
 });
@@ -237,7 +280,7 @@ export function showServer({ runs }) {
 
 // ---- What if
 
-function holdOne(activity, words) {
+function leaveAlone(activity, words) {
   held.set(activity, words);
   showHeld();
 }

@@ -176,9 +176,11 @@ function showLate(screen) {
   const rows = screen.late.map(([number, name, next, scheduled, now, late, worst, later]) => [
     [trainButton(number, name), next, withBold(now === scheduled ? '' : `${scheduled} `, now, '', 'time'), lateWords(late, later)],
     worst >= day.late ? 'bad' : '']);
-  element('h-late').textContent = `Late trains (${screen.lateCount} of ${screen.trains})`;
+  const gone = screen.cancelled.map(([number, name, part, whom, by]) =>
+    [[trainButton(number, name), `cancelled ${part}`, '', by ? `${whom}. By ${by}` : whom], 'gone']);
+  element('h-late').textContent = `Late trains (${screen.lateCount} of ${screen.trains}${gone.length ? `; ${gone.length} cancelled` : ''})`;
   const heads = ['Train', 'Next', 'Scheduled, now', 'Late there; at the worst'];
-  replace(body('late'), rows.length ? table('', heads, rows) : made('p', 'No train is a minute late.'));
+  replace(body('late'), rows.length || gone.length ? table('', heads, [...gone, ...rows]) : made('p', 'No train is a minute late.'));
 }
 
 // How late a train is at its next event, and where it will be latest.
@@ -260,8 +262,9 @@ function markTrain() {
 export const refreshTrain = oneAtATime(async () => {
   if (!day.trains.length) return;
   const train = await (await get(`/train?train=${element('trains').value || 0}`)).json();
-  const rows = train.events.map(([id, at, kind, scheduled, now, late, passed]) => [
-    [withNumber(at, id), kind + (passed ? ', passed' : ''), scheduled, now, made('span', late, late ? 'late' : '')], '']);
+  const rows = train.events.map(([id, at, kind, scheduled, now, late, passed, , , , cancelled]) => [
+    [withNumber(at, id), kind + (passed ? ', passed' : cancelled ? ', cancelled' : ''), scheduled, now, made('span', late, late ? 'late' : '')],
+    cancelled ? 'gone' : '']);
   const title = train.trip && train.trip !== train.name ? `${train.name}, trip ${train.trip}` : train.name;
   replace(body('train'), table(title, ['Stop', 'Kind', 'Scheduled', 'Now', 'Late'], rows));
   trainShown(train, rights.mayTell);
@@ -271,8 +274,9 @@ export const refreshTrain = oneAtATime(async () => {
 export const refreshBoard = oneAtATime(async () => {
   if (!day.stops.length) return;
   const board = await (await get(`/board?stop=${element('stops').value}`)).json();
-  const rows = board.events.map(([id, name, kind, scheduled, now, late, passed, , , , number, shown]) => [
-    [trainButton(number, name), kind + (passed ? ', passed' : ''), scheduled, withNumber(now, `event ${id}`), late, ...(board.served ? [shown] : [])], '']);
+  const rows = board.events.map(([id, name, kind, scheduled, now, late, passed, , , , cancelled, number, shown]) => [
+    [trainButton(number, name), kind + (passed ? ', passed' : cancelled ? ', cancelled' : ''), scheduled, withNumber(now, `event ${id}`), late,
+      ...(board.served ? [shown] : [])], cancelled ? 'gone' : '']);
   const heads = ['Train', 'Kind', 'Scheduled', 'Now', 'Late', ...(board.served ? ["Server's board"] : [])];
   replace(body('board'), table(board.name, heads, rows));
 });
