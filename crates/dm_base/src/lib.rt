@@ -10,7 +10,8 @@
 //! `few_digits` reads the digits at the front of a text of at most 19 bytes. It tells how many there are and the number that they
 //! write. No digit follows them.
 //!
-//! [`Items`] is the list that it was made of. A [`Steps`] counts each tick and nothing else; it exists for contracts alone.
+//! [`Items`] is the list that it was made of. Its `from_slice` and `clone` take memory. A [`Steps`] counts each tick and nothing
+//! else; it exists for contracts alone.
 #![tactic(auto)]
 
 mod counter;

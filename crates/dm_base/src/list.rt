@@ -2,6 +2,7 @@
 ghost use Rattle.std.specs.Prelude.{◌≡◌};
 ghost use Rattle.std.specs.Cmp.Lexicographic.{pointwise, lists_per, lists_equiv};
 
+use std::alloc::{AllocError, Global};
 use std::marker::Model;
 
 /// The items of a list that stands in a field or a variant. It takes no memory of its own beside the `Vec`.
@@ -38,6 +39,17 @@ impl<T> Items<T> {
         ensures { result.now ≡ self.now }
     {
         self.held.as_slice()
+    }
+}
+
+impl<T: Copy> Items<T> {
+    ghost use Rattle.std.specs.Prelude.{IfOk};
+
+    /// A list of the same elements. `Err` is want of memory alone.
+    pub fn from_slice(alloc: Global, items: &[T]) -> Result<Items<T>, AllocError>
+        ensures { IfOk result (λ list. list ≡ items.now) }
+    {
+        Ok(Items::from_vec(Vec::from_slice(alloc, items)?))
     }
 }
 

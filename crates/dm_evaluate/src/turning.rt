@@ -1,8 +1,7 @@
 //! A decision that is made or taken back on a priced timetable.
-ghost use Rattle.std.specs.Prelude.{◌≡◌, ◌<◌, true, false, length, OnOk, OnErr};
+ghost use Rattle.std.specs.Prelude.{true, false, OnOk, OnErr};
 ghost use Rattle.dm_live.specs.Live.{IsAtRest, NoneFixed};
 ghost use Rattle.dm_network.specs.Held.{is_held, IsCycleOf};
-ghost use Rattle.dm_network.specs.Start.{first_event};
 ghost use Rattle.dm_priced.specs.Priced.{IsPriced};
 ghost use Rattle.dm_evaluate.specs.Marks.{MarksUnkept};
 ghost use Rattle.dm_evaluate.specs.Inside.Moves.{set_where, Turns, Stays, IsOff};
@@ -14,7 +13,7 @@ use dm_base::Steps;
 use dm_graph::search::Cyclic;
 use dm_network::Network;
 use dm_priced::PricedTimetable;
-use dm_rows::Flip;
+use dm_rows::{Flip, first_event};
 use std::sync::ledger::Ledger;
 
 /// Holds and charges for what a decision does, of which nothing is held, and settles the timetable. Where that makes a cycle,
@@ -93,15 +92,4 @@ pub fn turn_off<L: Ledger>(
             release_direction(priced, marks, net, pair, first, steps);
         }
     }
-}
-
-/// The event that goes first in a pair.
-fn first_event(net: &Network, pair: usize, small: bool) -> usize
-    requires { pair < length net.now.pairs }
-    ensures first { result ≡ first_event net.now pair small }
-    ensures is_event { result < length net.now.events }
-{
-    net.reveal();
-    let pair = net.pair(pair);
-    if small { pair.small } else { pair.large }
 }

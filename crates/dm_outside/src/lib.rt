@@ -20,8 +20,8 @@
 //! more than the limit was taken. `ReadFault` comes only where the count rose and the source did not tell that it is sound. The
 //! only other fault is want of memory.
 //!
-//! `put_all`, and a `Page` with its calls `put`, `put_bytes`, `put_number` and `put_pair` and its `finish`, put exactly the text
-//! into the sink. On a fault the sink has taken a proper front of it. `put_all` and a `Page` take no memory. An `OpenGate` holds
+//! `put_all`, `put_pieces`, and a `Page` with its calls `put`, `put_bytes`, `put_number` and `put_pair` and its `finish`, put
+//! exactly the text into the sink. On a fault the sink has taken a proper front of it. They take no memory. An `OpenGate` holds
 //! nobody up.
 #![tactic(auto)]
 
@@ -42,7 +42,7 @@ pub use calls::Calls;
 pub use faults::{Failed, TakeFault, WriteFault};
 pub use gates::{Gate, OpenGate};
 pub use page::{Page, Piece};
-pub use put::put_all;
+pub use put::{put_all, put_pieces};
 pub use real::{FileSource, FolderShelf, Real, StdSink};
 pub use shelves::{MemFile, MemShelf, Shelf};
 pub use sinks::{MemSink, Sink};

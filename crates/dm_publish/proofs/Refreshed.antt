@@ -50,11 +50,6 @@ flag_needed told event false false tells = flag_agrees told event false false te
 flag_needed told event true false tells = flag_differs told event true false tells (λ e. let h : false ≡ true = e in cc)
 flag_needed told event false true tells = flag_differs told event false true tells (λ e. let h : true ≡ false = e in cc)
 
-pub runs_again : (told : Option (ℕ → Option ℕ)) (marked : Option (ℕ → Option Bool)) (event time : ℕ) (cancelled : Bool) → cancelled ≡ false → TellsFlag marked event true → NeedsTime told marked event time cancelled true
-runs_again told None event time cancelled runs tells = λ a none. none
-runs_again told (Some flags) event time true runs tells = absurd (cc runs)
-runs_again told (Some flags) event time false runs tells = λ a is. let e = is.0 tells in cc e
-
 pub time_needed : (told : Option (ℕ → Option ℕ)) (marked : Option (ℕ → Option Bool)) (event time : ℕ) (cancelled answer : Bool) → TellsTime told event time answer → NeedsTime told marked event time cancelled (not answer)
 time_needed None marked event time cancelled true tells = tt
 time_needed None marked event time cancelled false tells = λ none. absurd none

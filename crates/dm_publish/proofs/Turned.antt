@@ -1,9 +1,8 @@
 -- Boards kept up one after another.
 use Rattle.std.proofs.Common.{◌≡◌, ℕ, zero, suc, ◌+◌, ◌-◌, ◌<◌, ◌≤◌, Bool, true, false, eqb, List, [], ◌∷◌, ◌++◌, length, map, get_or, set, Option, Some, Result, Ok, Err, refl, sym, ap, subst, ◌∙◌, inl, inr, arith, length-append, append_assoc, ne_eqb, eq-eqb, slice_get}
 use Rattle.std.specs.Prelude.{All, IsOk, OnOk, OnErr, ◌||◌}
-use Rattle.std.specs.List.Sorted.{IsStrictlyIncreasing}
 use Rattle.std.proofs.lemmas.Bool.{cases_lt, cases_eq}
-use Rattle.std.proofs.lemmas.List.{map_push, length-map, get_or_append_left, get_or_push, append-nil, get_or-map}
+use Rattle.std.proofs.lemmas.List.{map_push, length-map, append-nil, get_or-map}
 use Rattle.std.proofs.lemmas.List.Elements.{All-push}
 use Rattle.std.proofs.lemmas.List.Folds.{list_any-append}
 use Rattle.std.proofs.lemmas.Option.{slice_get_within, get_or_from_slice_get}
@@ -16,6 +15,7 @@ use Rattle.dm_publish.specs.Value.{Published}
 use Rattle.dm_publish.specs.Publishing.{has_note, IsKeptUp, IsDropped, Publishes}
 use Rattle.dm_publish.specs.Inside.Refreshing.{Refreshes}
 use Rattle.dm_publish.specs.Inside.Turns.{TakesTurn, is_left, is_shown, is_dropped, note_of, IsPublishedTo}
+use Rattle.dm_cert.proofs.IdsRead.{rising_push}
 
 -- ---- lists with one place set
 
@@ -33,23 +33,6 @@ get_elsewhere (x ∷ xs) (suc i) (suc j) y ne = get_elsewhere xs i j y (λ e. ne
 
 same_some : {X : Type 0} (x y : X) → Some x ≡ Some y → x ≡ y
 same_some x y e = cc
-
-rising_push : (xs : List ℕ) (y : ℕ) → IsStrictlyIncreasing xs → All (λ x. x < y) xs → IsStrictlyIncreasing (xs ++ y ∷ [])
-rising_push xs y up low k lt =
-    let l = length-append xs (y ∷ []) in
-    elim (cases_lt (k + 1) (length xs)) [
-      | inl within ↦
-          let a = get_or_append_left xs (y ∷ []) 0 k (omega arith) in
-          let b = get_or_append_left xs (y ∷ []) 0 (k + 1) within in
-          let step = up k within in
-          omega arith
-      | inr past ↦
-          let here : length xs ≡ k + 1 = omega arith in
-          let a = get_or_append_left xs (y ∷ []) 0 k (omega arith) in
-          let b = get_or_push xs y 0 (k + 1) here in
-          let below = low k 0 (omega arith) in
-          omega arith
-    ]
 
 -- ---- notes of lower places
 

@@ -43,7 +43,7 @@ use Rattle.dm_rows.proofs.Sides.{act_id, event_id, same_choice, same_itself}
 -- ---- what stands in lists
 
 -- an element of a list
-abbrev Stands : {X : Type 0} → List X → X → Type 0
+abbrev pub Stands : {X : Type 0} → List X → X → Type 0
 Stands xs x = (i : ℕ) × (slice_get xs i ≡ Some x)
 
 stands_where : {X : Type 0} (xs : List X) (x : X) → Contains xs x → Stands xs x
@@ -57,7 +57,7 @@ contains_where xs x s =
     let is : get_or xs s.0 x ≡ x = cc in
     (s.0, below, is)
 
-range_within : (a n j p : ℕ) → slice_get (range_with_len a n) j ≡ Some p → p < a + n
+pub range_within : (a n j p : ℕ) → slice_get (range_with_len a n) j ≡ Some p → p < a + n
 range_within a zero j p at = absurd (cc)
 range_within a (suc n) zero p at = let here : a ≡ p = cc in omega arith
 range_within a (suc n) (suc j) p at = let there : p < a + 1 + n = range_within (a + 1) n j p at in omega arith
@@ -71,11 +71,11 @@ range_stands n p below =
     slice_get-get_or (range_with_len 0 n) p 0 within ∙ ap Some (at ∙ e)
 
 -- a choice that is listed is that of a place that passes
-record IsChoiceAt (test : ℕ → Bool) (choice : ℕ → Choice) (n : ℕ) (c : Choice) : Type 0 where
-  place : ℕ
-  below : place < n
-  passes : test place ≡ true
-  is_choice : choice place ≡ c
+pub record IsChoiceAt (test : ℕ → Bool) (choice : ℕ → Choice) (n : ℕ) (c : Choice) : Type 0 where
+  pub place : ℕ
+  pub below : place < n
+  pub passes : test place ≡ true
+  pub is_choice : choice place ≡ c
 
 first_or_later : (test : ℕ → Bool) (choice : ℕ → Choice) (n : ℕ) (c : Choice) (p : ℕ) (ps : List ℕ) → p < n → test p ≡ true →
     ((j : ℕ) → slice_get (map choice (filter test ps)) j ≡ Some c → IsChoiceAt test choice n c) →
@@ -175,7 +175,7 @@ none_or_some : {X : Type 0} (o : Option X) → (o ≡ None) ⊎ ((x : X) × (o �
 none_or_some None = inl refl
 none_or_some (Some x) = inr (x, refl)
 
-at_some : {X : Type 0} (o : Option X) (x : X) (P : X → Type 0) → o ≡ Some x → IsSomeAnd o P → P x
+pub at_some : {X : Type 0} (o : Option X) (x : X) (P : X → Type 0) → o ≡ Some x → IsSomeAnd o P → P x
 at_some None x P e h = absurd h
 at_some (Some y) x P e h = subst P (let same : y ≡ x = cc in same) h
 
@@ -186,7 +186,7 @@ some_at (Some y) x P e h = subst P (let same : x ≡ y = cc in same) h
 is_some_from : {X : Type 0} (o : Option X) (x : X) → o ≡ Some x → IsSome o
 is_some_from o x e = rw e refl
 
-then_some : {A B : Type 0} (f : A → Option B) (o : Option A) (x : A) → o ≡ Some x → option_and_then f o ≡ f x
+pub then_some : {A B : Type 0} (f : A → Option B) (o : Option A) (x : A) → o ≡ Some x → option_and_then f o ≡ f x
 then_some f o x e = rw e refl
 
 -- ---- changes
@@ -325,18 +325,18 @@ module _ (net : Net) (rows : RowsValue) (id : ActId) (passes : RefusesNothing (R
 -- ---- pairs
 
 -- the ids are those of the events of a free pair
-record IsFreePair (net : Net) (rows : RowsValue) (i j : EventId) : Type 0 where
-  one : ℕ
-  other : ℕ
-  place : ℕ
-  one_found : event_place net i ≡ Some one
-  other_found : event_place net j ≡ Some other
-  found : pair_place net one other ≡ Some place
-  one_not_passed : passed_at rows one ≡ None
-  other_not_passed : passed_at rows other ≡ None
-  one_runs : is_cancelled rows one ≡ false
-  other_runs : is_cancelled rows other ≡ false
-  not_locked : is_locked_pair rows place ≡ false
+pub record IsFreePair (net : Net) (rows : RowsValue) (i j : EventId) : Type 0 where
+  pub one : ℕ
+  pub other : ℕ
+  pub place : ℕ
+  pub one_found : event_place net i ≡ Some one
+  pub other_found : event_place net j ≡ Some other
+  pub found : pair_place net one other ≡ Some place
+  pub one_not_passed : passed_at rows one ≡ None
+  pub other_not_passed : passed_at rows other ≡ None
+  pub one_runs : is_cancelled rows one ≡ false
+  pub other_runs : is_cancelled rows other ≡ false
+  pub not_locked : is_locked_pair rows place ≡ false
 
 in_order : (net : Net) → IsPaired net → ArePairsInOrder net.pairs
 in_order net paired = record { smaller_first = paired.smaller_first; ascending = paired.ascending }
@@ -405,7 +405,7 @@ free_pair net rows network i j contains =
       | false ↦ λ t. free_pair_either net rows network i j j i t (inr (refl, refl))
     ] contains
 
-pair_is_named : (net : Net) (rows : RowsValue) (i j : EventId) → (f : IsFreePair net rows i j) → named_pair net i j ≡ Some f.place
+pub pair_is_named : (net : Net) (rows : RowsValue) (i j : EventId) → (f : IsFreePair net rows i j) → named_pair net i j ≡ Some f.place
 pair_is_named net rows i j f =
     then_some (λ x. option_and_then (λ y. pair_place net x y) (event_place net j)) (event_place net i) f.one f.one_found
     ∙ (then_some (λ y. pair_place net f.one y) (event_place net j) f.other f.other_found ∙ f.found)
@@ -605,7 +605,7 @@ module _ (net : Net) (rows : RowsValue) (network : IsNetwork net) (i j : EventId
 
 -- ---- decisions
 
-some_mapped : {A B : Type 0} (f : A → B) (o : Option A) (x : A) → o ≡ Some x → IsSome (option_map f o)
+pub some_mapped : {A B : Type 0} (f : A → B) (o : Option A) (x : A) → o ≡ Some x → IsSome (option_map f o)
 some_mapped f o x e = rw e refl
 
 -- a decision of a free choice names something

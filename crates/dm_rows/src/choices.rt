@@ -1,5 +1,6 @@
 //! What may still be decided.
 ghost use Rattle.std.specs.Prelude.{◌≡◌, ◌<◌, ◌≤◌, ◌++◌, ◌∷◌, [], length, vec_capacity, IfOk};
+ghost use Rattle.dm_network.specs.Start.{first_event};
 ghost use Rattle.dm_rows.specs.Rows.{IsSized};
 ghost use Rattle.dm_rows.specs.Carry.{free_among};
 ghost use Rattle.dm_rows.specs.Decide.{free_choices_of, free_changes_of, free_pairs_of, is_free_change, is_free_pair, pair_choice};
@@ -120,4 +121,15 @@ pub fn choice_of_pair(net: &Network, p: usize) -> Choice
     net.reveal();
     let pair = net.pair(p);
     Choice::Pair(net.event(pair.small).id, net.event(pair.large).id)
+}
+
+/// The event that goes first in a pair, where its event with the smaller id does or does not.
+pub fn first_event(net: &Network, pair: usize, small: bool) -> usize
+    requires { pair < length net.now.pairs }
+    ensures first { result ≡ first_event net.now pair small }
+    ensures is_event { result < length net.now.events }
+{
+    net.reveal();
+    let pair = net.pair(pair);
+    if small { pair.small } else { pair.large }
 }

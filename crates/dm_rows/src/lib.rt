@@ -13,8 +13,9 @@
 //! - `is_active`, `floor_of`, `span_of`, `flip_of`, `free_choices` and `admit` answer by the definitions. `admit` answers with
 //!   the first refusal by numbers, ids, passed events, cancelled events, locks and the clock.
 //! - `apply` changes the rows that one message names. It keeps all others and all sizes.
-//! - `has_cancelled_end`, `is_lost_change`, `is_free_change`, `is_free_pair` and `choice_of_pair` answer for one place by the
-//!   same definitions. So do the readers of [`Rows`] and the calls of [`Decision`] and [`Choice`].
+//! - `has_cancelled_end`, `is_lost_change`, `is_free_change`, `is_free_pair`, `choice_of_pair` and `first_event` answer for one
+//!   place by the same definitions. So do the readers of [`Rows`] and the calls of [`Decision`] and [`Choice`].
+//! - `is_same` tells whether two messages, decisions or choices are one, and `are_same_decisions` whether two lists are.
 //! - `free_among` gives those of some decisions that decide free choices.
 //! - `copy` gives equal rows. `copy_from` makes rows equal to others of the same network, in the room that is there.
 //!
@@ -46,8 +47,13 @@ mod starting;
 
 pub use activity::{has_cancelled_end, is_active, is_lost_change};
 pub use admission::{admit, flip_of};
-pub use choices::{choice_of_pair, free_among, free_choices, is_free_change, is_free_pair};
-pub use messages::{At, Change, Choice, Decision, Entry, Flip, Message, Refusal, Spot, StartFault};
+pub use choices::{
+    choice_of_pair, first_event, free_among, free_choices, is_free_change, is_free_pair,
+};
+pub use messages::{
+    At, Change, Choice, Decision, Entry, Flip, Message, Refusal, Spot, StartFault,
+    are_same_decisions,
+};
 pub use rows::{Decided, Rows, Snapshot, Standing};
 pub use spans::{floor_of, span_of};
 pub use starting::{start_rows, start_rows_without};

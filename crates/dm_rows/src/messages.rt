@@ -1,6 +1,6 @@
 //! What feeds may say, what it comes to by place, and why it is refused.
 
-ghost use Rattle.std.specs.Prelude.{◌≡◌};
+ghost use Rattle.std.specs.Prelude.{◌≡◌, MatchBool};
 
 use dm_base::{ActId, EventId, Items, Secs};
 
@@ -58,6 +58,28 @@ impl Decision {
             Decision::First(first, second) => Decision::First(second, first),
         }
     }
+
+    /// Whether the two are one.
+    pub fn is_same(self, other: Decision) -> bool
+        ensures { MatchBool result (self ≡ other) (self ≡ other → ⊥) }
+    {
+        self == other
+    }
+}
+
+/// Whether two lists of decisions are one.
+pub fn are_same_decisions(one: &[Decision], other: &[Decision]) -> bool
+    ensures { MatchBool result (one.now ≡ other.now) (one.now ≡ other.now → ⊥) }
+{
+    if one.len() != other.len() {
+        return false;
+    }
+    for i in 0..one.len() {
+        if !one[i].is_same(other[i]) {
+            return false;
+        }
+    }
+    true
 }
 
 /// What may still be decided.
@@ -164,6 +186,32 @@ pub enum Message {
 
     /// The choice may be decided again.
     Unlock(Choice),
+}
+
+impl Message {
+    /// Whether the two are one.
+    pub fn is_same(&self, other: &Message) -> bool
+        ensures { MatchBool result (self.now ≡ other.now) (self.now ≡ other.now → ⊥) }
+    {
+        match (self, other) {
+            (Message::DelayEvent(e, d), Message::DelayEvent(f, c)) => e.0 == f.0 && *d == *c,
+            (Message::DelayActivity(a, d), Message::DelayActivity(b, c)) => a.0 == b.0 && *d == *c,
+            (Message::Pass(e, t), Message::Pass(f, u)) => e.0 == f.0 && *t == *u,
+            (Message::Recall(e), Message::Recall(f)) => e.0 == f.0,
+            (Message::Keep(a), Message::Keep(b)) => a.0 == b.0,
+            (Message::Drop(a), Message::Drop(b)) => a.0 == b.0,
+            (Message::First(i, j), Message::First(k, l)) => i.0 == k.0 && j.0 == l.0,
+            (Message::Adopt(decisions), Message::Adopt(others)) => {
+                are_same_decisions(decisions.as_slice(), others.as_slice())
+            }
+            (Message::Now(t), Message::Now(u)) => *t == *u,
+            (Message::Cancel(e), Message::Cancel(f)) => e.0 == f.0,
+            (Message::Restore(e), Message::Restore(f)) => e.0 == f.0,
+            (Message::Lock(c), Message::Lock(d)) => c.is_same(*d),
+            (Message::Unlock(c), Message::Unlock(d)) => c.is_same(*d),
+            _ => false,
+        }
+    }
 }
 
 /// An accepted message, and the feed and line that it came from, both from 1.

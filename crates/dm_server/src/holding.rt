@@ -133,7 +133,7 @@ impl<'n> Kept<'n> {
         if now == ENTRIES {
             return Err(AdoptRefusal::Full { now });
         }
-        let Ok(choices) = copy_of(alloc, choices) else {
+        let Ok(choices) = Items::from_slice(alloc, choices) else {
             return Err(AdoptRefusal::OutOfMemory);
         };
         let message = Message::Adopt(choices);
@@ -143,7 +143,7 @@ impl<'n> Kept<'n> {
             message,
         }) {
             Ok(n) => Ok(n),
-            Err(refusal) => Err(want_of_memory(refusal)),
+            Err(refusal) => Err(AdoptRefusal::want_of_memory(refusal)),
         }
     }
 
@@ -210,19 +210,4 @@ impl<'n> Kept<'n> {
         self.reveal();
         self.table.follow_times(into, cancelled, shown, listed);
     }
-}
-
-/// The answer to a plan whose message nothing but want of memory refuses.
-fn want_of_memory(refusal: Refusal) -> AdoptRefusal
-    requires { refusal ≡ Refusal.OutOfMemory }
-    ensures { result ≡ AdoptRefusal.OutOfMemory }
-{
-    prove!(matches!(refusal, Refusal::OutOfMemory));
-    AdoptRefusal::OutOfMemory
-}
-
-fn copy_of(alloc: Global, decisions: &[Decision]) -> Result<Items<Decision>, AllocError>
-    ensures { IfOk result (λ items. items ≡ decisions.now) }
-{
-    Ok(Items::from_vec(Vec::from_slice(alloc, decisions)?))
 }

@@ -51,11 +51,11 @@ rows_before net start history entry n le =
     ap (fold (λ rows (e : Entry). after net rows e.message) start) (take-append-le n history (entry ∷ []) le)
 
 -- the rows after the first entries are of the network, as those at the start
-named_keeps_sizes : (net : Net) (rows : RowsValue) (change : Option Change) → IsSized net rows → IsSized net (after_named rows change)
+pub named_keeps_sizes : (net : Net) (rows : RowsValue) (change : Option Change) → IsSized net rows → IsSized net (after_named rows change)
 named_keeps_sizes net rows (Some change) sized = change_keeps_sizes net rows change sized
 named_keeps_sizes net rows None sized = sized
 
-entries_keep_sizes : (net : Net) (rows : RowsValue) (entries : List Entry) → IsSized net rows →
+pub entries_keep_sizes : (net : Net) (rows : RowsValue) (entries : List Entry) → IsSized net rows →
     IsSized net (fold (λ rows entry. after net rows entry.message) rows entries)
 entries_keep_sizes net rows [] sized = sized
 entries_keep_sizes net rows (entry ∷ entries) sized =

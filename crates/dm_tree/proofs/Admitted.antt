@@ -3,7 +3,7 @@ use Rattle.std.proofs.Common.{◌≡◌, ℕ, zero, suc, ◌+◌, ◌<◌, ◌�
 use Rattle.std.specs.Prelude.{All, IsSome, filter}
 use Rattle.std.specs.List.{range_with_len, position_or_len}
 use Rattle.std.specs.List.Sorted.{IsStrictlyIncreasing}
-use Rattle.std.specs.Option.{IsSomeAnd, option_and_then, option_map}
+use Rattle.std.specs.Option.{IsSomeAnd}
 use Rattle.std.proofs.lemmas.Bool.{both_ways, eq-eqb, ne_eqb, lt-ltb}
 use Rattle.std.proofs.lemmas.List.{get_or-map, length-map}
 use Rattle.std.proofs.lemmas.List.Sums.{position_or_len_is}
@@ -29,7 +29,7 @@ use Rattle.dm_rows.specs.declared.messages.Refusal.{Refusal}
 use Rattle.dm_rows.specs.declared.messages.Refusal.TheVariants.{UnknownEvent, UnknownActivity, UnknownChange, UnknownPair, Passed, Cancelled, Locked, Cycle, Full, OutOfMemory}
 use Rattle.dm_rows.specs.Rows.{RowsValue, passed_at, is_cancelled, is_locked_change, is_locked_pair}
 use Rattle.dm_rows.specs.Active.{has_cancelled_end, IsCycle, HasNoCycle}
-use Rattle.dm_rows.specs.Resolve.{named_pair, flip_named}
+use Rattle.dm_rows.specs.Resolve.{flip_named}
 use Rattle.dm_rows.specs.Decide.{is_free_change, is_free_pair, change_choice, pair_choice, free_choices_of, choice_of, with_decisions}
 use Rattle.dm_rows.specs.Refuse.{passed_time, HeadHasPassed, IsFirstCancelled, IsChangeAhead, HasCancelledEnd, NeitherHasPassed, PairSuchThat, RefusesChange, RefusesFirst, PassesDecision, PassesAtOnce, Refuses}
 use Rattle.dm_rows.proofs.PairEnds.{small_is_event, large_is_event}
@@ -37,12 +37,9 @@ use Rattle.dm_rows.proofs.Setting.{adopt_sets_decisions}
 use Rattle.dm_tree.specs.Plans.{AreSomeOf}
 use Rattle.dm_tree.specs.Laws.{TruePlansAreAdmitted}
 use Rattle.dm_tree.proofs.Freed.{free_change_is, ends_run, free_pair_is}
+use Rattle.dm_rows.proofs.Freeness.{IsFreePair, IsChoiceAt, range_within, pair_is_named, at_some, Stands, then_some, some_mapped}
 
 -- ---- what stands in lists
-
--- an element of a list
-abbrev Stands : {X : Type 0} → List X → X → Type 0
-Stands xs x = (i : ℕ) × (slice_get xs i ≡ Some x)
 
 chosen_stands : (allowed chosen : List Choice) → AreSomeOf allowed chosen → (k : ℕ) (c : Choice) → slice_get chosen k ≡ Some c → Stands allowed c
 chosen_stands [] chosen e k c at = absurd (let none : slice_get chosen k ≡ None = ap (λ (xs : List Choice). slice_get xs k) e in cc)
@@ -58,18 +55,6 @@ stands_in_either [] ys x i at = inr (i, at)
 stands_in_either (z ∷ xs) ys x zero at = inl (0, at)
 stands_in_either (z ∷ xs) ys x (suc i) at =
     elim (stands_in_either xs ys x i at) [ inl s ↦ inl (suc s.0, s.1) | inr s ↦ inr s ]
-
-range_within : (a n j p : ℕ) → slice_get (range_with_len a n) j ≡ Some p → p < a + n
-range_within a zero j p at = absurd (cc)
-range_within a (suc n) zero p at = let here : a ≡ p = cc in omega arith
-range_within a (suc n) (suc j) p at = let there : p < a + 1 + n = range_within (a + 1) n j p at in omega arith
-
--- a choice that is listed is that of a place that passes
-record IsChoiceAt (test : ℕ → Bool) (choice : ℕ → Choice) (n : ℕ) (c : Choice) : Type 0 where
-  place : ℕ
-  below : place < n
-  passes : test place ≡ true
-  is_choice : choice place ≡ c
 
 listed_at : (test : ℕ → Bool) (choice : ℕ → Choice) (n : ℕ) (c : Choice) (ps : List ℕ) → ((j p : ℕ) → slice_get ps j ≡ Some p → p < n)
     → (i : ℕ) → slice_get (map choice (filter test ps)) i ≡ Some c → IsChoiceAt test choice n c
@@ -160,10 +145,6 @@ none_cancelled net rows x y e one other h =
       | inr r ↦ both_ways (is_cancelled rows y) other r.1
     ]
 
-at_some : {X : Type 0} (o : Option X) (x : X) (P : X → Type 0) → o ≡ Some x → IsSomeAnd o P → P x
-at_some None x P e h = absurd h
-at_some (Some y) x P e h = subst P (let same : y ≡ x = cc in same) h
-
 change_passes : (net : Net) (rows : RowsValue) (id : ActId) → IsFreeChange net rows id → (r : Refusal) → RefusesChange net rows id r → ⊥
 change_passes net rows id f (UnknownActivity u) h = let found = f.found in let none = h.0 in cc
 change_passes net rows id f (UnknownChange u) h =
@@ -185,20 +166,6 @@ change_passes net rows id f _ h = h
 
 -- ---- pairs
 
--- the ids are those of the events of a pair, of which neither has passed or is cancelled, and that is not locked
-record IsFreePair (net : Net) (rows : RowsValue) (i j : EventId) : Type 0 where
-  one : ℕ
-  other : ℕ
-  place : ℕ
-  one_found : event_place net i ≡ Some one
-  other_found : event_place net j ≡ Some other
-  found : pair_place net one other ≡ Some place
-  one_not_passed : passed_at rows one ≡ None
-  other_not_passed : passed_at rows other ≡ None
-  one_runs : is_cancelled rows one ≡ false
-  other_runs : is_cancelled rows other ≡ false
-  unlocked : is_locked_pair rows place ≡ false
-
 in_order : (net : Net) → IsPaired net → ArePairsInOrder net.pairs
 in_order net paired = record { smaller_first = paired.smaller_first; ascending = paired.ascending }
 
@@ -218,7 +185,7 @@ free_from net rows i j k l one other place ki lj one_found other_found found one
       other_not_passed = other_not;
       one_runs = one_runs;
       other_runs = other_runs;
-      unlocked = unlocked;
+      not_locked = unlocked;
     }
 
 -- either order of the events
@@ -259,14 +226,6 @@ free_pair net rows network i j s =
       | false ↦ λ t. free_pair_either net rows network i j j i t (inr (refl, refl))
     ] s
 
-then_some : {A B : Type 0} (f : A → Option B) (o : Option A) (x : A) → o ≡ Some x → option_and_then f o ≡ f x
-then_some f o x e = rw e refl
-
-pair_is_named : (net : Net) (rows : RowsValue) (i j : EventId) → (f : IsFreePair net rows i j) → named_pair net i j ≡ Some f.place
-pair_is_named net rows i j f =
-    then_some (λ x. option_and_then (λ y. pair_place net x y) (event_place net j)) (event_place net i) f.one f.one_found
-    ∙ (then_some (λ y. pair_place net f.one y) (event_place net j) f.other f.other_found ∙ f.found)
-
 -- what is so of the pair that the ids name, and of its events
 of_named : (net : Net) (rows : RowsValue) (i j : EventId) (P : ℕ → ℕ → ℕ → Type 0) → (f : IsFreePair net rows i j) → PairSuchThat net i j P →
     P f.place f.one f.other
@@ -291,13 +250,10 @@ first_passes net rows i j f (Cancelled e) h =
 first_passes net rows i j f (Locked c) h =
     let there = of_named net rows i j
     (λ p x y. NeitherHasPassed rows x y × (is_cancelled rows x ≡ false) × (is_cancelled rows y ≡ false) × (is_locked_pair rows p ≡ true)) f h.0 in
-    both_ways (is_locked_pair rows f.place) f.unlocked there.3
+    both_ways (is_locked_pair rows f.place) f.not_locked there.3
 first_passes net rows i j f _ h = h
 
 -- ---- decisions
-
-some_mapped : {A B : Type 0} (f : A → B) (o : Option A) (x : A) → o ≡ Some x → IsSome (option_map f o)
-some_mapped f o x e = rw e refl
 
 module _ (net : Net) (rows : RowsValue) (network : IsNetwork net) where
   free_is_named : (d : Decision) → Stands (free_choices_of net rows) (choice_of d) → IsSome (flip_named net d)

@@ -4,7 +4,7 @@ ghost use Rattle.std.specs.Prelude.{◌≡◌, IfOk};
 ghost use Rattle.dm_tree.specs.Plans.{chosen};
 
 use dm_base::Items;
-use dm_rows::Decision;
+use dm_rows::{Decision, Refusal};
 use std::alloc::{AllocError, Global};
 
 /// What an adoption takes of a plan.
@@ -51,4 +51,15 @@ pub enum AdoptRefusal {
 
     /// There is not enough memory.
     OutOfMemory,
+}
+
+impl AdoptRefusal {
+    /// The answer where nothing but want of memory refuses the message that adopts.
+    pub fn want_of_memory(refusal: Refusal) -> AdoptRefusal
+        requires { refusal ≡ Refusal.OutOfMemory }
+        ensures { result ≡ AdoptRefusal.OutOfMemory }
+    {
+        prove!(matches!(refusal, Refusal::OutOfMemory));
+        AdoptRefusal::OutOfMemory
+    }
 }

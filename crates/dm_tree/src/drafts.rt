@@ -125,7 +125,7 @@ fn goes_on(whole: &[Decision], path: &[Decision], decision: Decision) -> bool
         (IsFront (path.now ++ decision ∷ []) whole.now)
         (IsFront (path.now ++ decision ∷ []) whole.now → ⊥) }
 {
-    path.len() < whole.len() && is_same(whole[path.len()], decision)
+    path.len() < whole.len() && whole[path.len()].is_same(decision)
 }
 
 /// The node that the leaves ask for at the path, which is a hole where none lies there; or None where no tree has them.
@@ -176,10 +176,4 @@ fn agree(one: Node, other: Node) -> bool
         (Some(a), Some(b)) => a == b,
         _ => false,
     }
-}
-
-fn is_same(one: Decision, other: Decision) -> bool
-    ensures { MatchBool result (one ≡ other) (one ≡ other → ⊥) }
-{
-    one == other
 }
