@@ -2,7 +2,7 @@
 ghost use Rattle.std.specs.Prelude.{◌≤◌};
 ghost use Rattle.dm_base.specs.declared.limits.TheConstants.{PENALTY};
 ghost use Rattle.dm_evaluate.specs.Evaluator.{IsEvaluatorOf};
-ghost use Rattle.dm_guide.specs.Tasks.{IsPosedTask};
+ghost use Rattle.dm_task.specs.Tasks.{IsPosedTask};
 
 use crate::growing::Growth;
 use crate::jobs::Job;
@@ -10,10 +10,10 @@ use crate::standing::Standing;
 use dm_base::Cost;
 use dm_branch::PartTree;
 use dm_evaluate::Evaluator;
-use dm_guide::{Polisher, Task};
 use dm_network::Network;
 use dm_probe::{Choices, FreeChoice, Mover, Share, Side, decision_for};
 use dm_rows::Decision;
+use dm_task::{Polishing, Task};
 use std::alloc::{AllocError, Global};
 
 /// Parts whose bounds tell much, and choices that are good. Nothing is promised of them.
@@ -80,35 +80,58 @@ pub fn choices_at_root(task: &Task<'_>, evaluator: &Evaluator) -> Result<Choices
 }
 
 /// Parts for a task and a plan, whose trees have as many nodes together as the task's budget allows, at most. The plan's choices
-/// are those that differ from the rows. Two evaluators have decided the task's base, and nothing else. Parts are solved by having
-/// the first mover and each of the others solve some of the jobs, at once or one after the other: what is found is the same.
+/// are those that differ from the rows, and one who polishes stands there. An evaluator has decided the task's base, and nothing
+/// else. Parts are solved by having the first mover and each of the others solve some of the jobs, at once or one after the other:
+/// what is found is the same.
 pub fn parts_for<
     't: 'a,
     'a,
+    P: Polishing,
     F: Fn(Vec<Job>, &mut Mover<'a>, &mut [Mover<'a>]) -> Result<Vec<Job>, AllocError>,
 >(
     task: &Task<'t>,
     plan: &[Decision],
     roots: Roots<'a>,
     run: &F,
-    second: Evaluator,
-    third: Evaluator,
+    evaluator: Evaluator,
+    polisher: P,
 ) -> Result<Found, AllocError>
     requires posed { IsPosedTask task.now }
     requires run { F.IsAlwaysCallable run.now }
-    requires second { IsEvaluatorOf task.now.net.now second }
-    requires third { IsEvaluatorOf task.now.net.now third }
+    requires evaluator { IsEvaluatorOf task.now.net.now evaluator }
 {
     let alloc = task.alloc;
-    let choices = roots.choices;
+    let terms = Share::of_all(alloc, task.net, &evaluator, roots.choices)?;
+    let whole = mover_at_root(alloc, task.net, task.penalty, roots.choices, evaluator)?;
     let (first, others) = roots.into_movers();
-    let terms = Share::of_all(alloc, task.net, &second, choices)?;
-    let whole = mover_at_root(alloc, task.net, task.penalty, choices, second)?;
-    let polisher = Polisher::new(task, third, plan)?;
-    let mut standing = Standing::new(alloc, first, others, whole, polisher);
+    let mut standing = Standing::new(alloc, first, others, whole);
+    let mut polisher = polisher;
     go_to(&mut standing.whole, plan);
-    let trees = trees_for(&mut standing, &terms, run, task.budget as usize)?;
-    let choices = choices_in(&mut standing)?;
+    found_at(
+        &mut standing,
+        &mut polisher,
+        &terms,
+        run,
+        task.budget as usize,
+    )
+}
+
+/// The trees of parts that are found, and the plan's choices when they are.
+fn found_at<
+    'a,
+    P: Polishing,
+    F: Fn(Vec<Job>, &mut Mover<'a>, &mut [Mover<'a>]) -> Result<Vec<Job>, AllocError>,
+>(
+    standing: &mut Standing<'a>,
+    polisher: &mut P,
+    terms: &Share,
+    run: &F,
+    budget: usize,
+) -> Result<Found, AllocError>
+    requires { F.IsAlwaysCallable run.now }
+{
+    let trees = trees_for(standing, polisher, terms, run, budget)?;
+    let choices = choices_in(standing)?;
     Ok(Found { trees, choices })
 }
 
@@ -161,10 +184,12 @@ impl Best {
     /// Divides the terms anew, and takes the parts if their bound is greater.
     fn try_parts<
         'a,
+        P: Polishing,
         F: Fn(Vec<Job>, &mut Mover<'a>, &mut [Mover<'a>]) -> Result<Vec<Job>, AllocError>,
     >(
         &mut self,
         standing: &mut Standing<'a>,
+        polisher: &mut P,
         terms: &Share,
         run: &F,
         legs: Option<usize>,
@@ -173,7 +198,7 @@ impl Best {
         requires { F.IsAlwaysCallable run.now }
     {
         standing.divide(terms, legs)?;
-        grow(standing, run, budget)?;
+        grow(standing, polisher, run, budget)?;
         let bound = standing.bound();
         if bound > self.bound {
             self.trees = trees_in(standing)?;
@@ -184,8 +209,13 @@ impl Best {
 }
 
 /// The trees of those parts of which the bound is greatest.
-fn trees_for<'a, F: Fn(Vec<Job>, &mut Mover<'a>, &mut [Mover<'a>]) -> Result<Vec<Job>, AllocError>>(
+fn trees_for<
+    'a,
+    P: Polishing,
+    F: Fn(Vec<Job>, &mut Mover<'a>, &mut [Mover<'a>]) -> Result<Vec<Job>, AllocError>,
+>(
     standing: &mut Standing<'a>,
+    polisher: &mut P,
     terms: &Share,
     run: &F,
     budget: usize,
@@ -197,32 +227,32 @@ fn trees_for<'a, F: Fn(Vec<Job>, &mut Mover<'a>, &mut [Mover<'a>]) -> Result<Vec
         bound: 0,
     };
     let begun = standing.whole.cost();
-    best.try_parts(standing, terms, run, None, budget)?;
+    best.try_parts(standing, polisher, terms, run, None, budget)?;
     let are_few = best.trees.len() <= FEW;
     for legs in LEGS {
         if are_few && !best.is_near(standing.cost) {
-            best.try_parts(standing, terms, run, Some(legs), budget)?;
+            best.try_parts(standing, polisher, terms, run, Some(legs), budget)?;
         }
     }
     // The plan may be better than that of which trains were divided at first.
     let has_room = are_few || best.nodes() <= budget / 4 * 3;
     if has_room && standing.cost < begun && best.bound < standing.cost {
-        best.try_parts(standing, terms, run, None, budget)?;
+        best.try_parts(standing, polisher, terms, run, None, budget)?;
     }
     Ok(best.into_trees())
 }
 
 /// Solves the parts, and has them grow into each other.
-fn grow<'a, F: Fn(Vec<Job>, &mut Mover<'a>, &mut [Mover<'a>]) -> Result<Vec<Job>, AllocError>>(
-    standing: &mut Standing<'a>,
-    run: &F,
-    budget: usize,
-) -> Result<(), AllocError>
+fn grow<
+    'a,
+    P: Polishing,
+    F: Fn(Vec<Job>, &mut Mover<'a>, &mut [Mover<'a>]) -> Result<Vec<Job>, AllocError>,
+>(standing: &mut Standing<'a>, polisher: &mut P, run: &F, budget: usize) -> Result<(), AllocError>
     requires { F.IsAlwaysCallable run.now }
 {
     let mut growth = Growth::new(standing, budget);
     growth.solve_all(standing, run)?;
-    growth.grow_all(standing)?;
+    growth.grow_all(standing, polisher)?;
     growth.widen_all(standing)?;
     growth.finish(standing)
 }

@@ -7,6 +7,7 @@ use crate::standing::Standing;
 use dm_base::Cost;
 use dm_branch::Part;
 use dm_probe::Mover;
+use dm_task::Polishing;
 use std::alloc::{AllocError, Global};
 
 /// How many nodes a tree has at first, and then at most until nothing else helps.
@@ -147,10 +148,14 @@ impl Growth {
     }
 
     /// Has parts grow into each other until nothing more is gained.
-    pub fn grow_all(&mut self, standing: &mut Standing<'_>) -> Result<(), AllocError> {
+    pub fn grow_all<P: Polishing>(
+        &mut self,
+        standing: &mut Standing<'_>,
+        polisher: &mut P,
+    ) -> Result<(), AllocError> {
         for _ in 0..ROUNDS {
             standing.follow_borders()?;
-            self.explore(standing)?;
+            self.explore(standing, polisher)?;
             standing.borders.sort();
             if !self.round(standing)? {
                 return Ok(());
@@ -160,11 +165,15 @@ impl Growth {
     }
 
     /// Looks at each new group with a gap.
-    fn explore(&self, standing: &mut Standing<'_>) -> Result<(), AllocError> {
+    fn explore<P: Polishing>(
+        &self,
+        standing: &mut Standing<'_>,
+        polisher: &mut P,
+    ) -> Result<(), AllocError> {
         for group in 0..standing.groups.list.len() {
             if standing.take_fresh(group) {
                 if let Some(mut part) = standing.groups.take(group) {
-                    let explored = self.explore_part(standing, group, &mut part);
+                    let explored = self.explore_part(standing, polisher, group, &mut part);
                     standing.groups.put(group, part);
                     explored?;
                 }
@@ -173,9 +182,10 @@ impl Growth {
         Ok(())
     }
 
-    fn explore_part(
+    fn explore_part<P: Polishing>(
         &self,
         standing: &mut Standing<'_>,
+        polisher: &mut P,
         group: usize,
         part: &mut Part,
     ) -> Result<(), AllocError> {
@@ -184,7 +194,7 @@ impl Growth {
         };
         standing.look_near(group, part)?;
         standing.blame(group, part, leaf)?;
-        standing.transplant(group, part, self.is_held)
+        standing.transplant(polisher, group, part, self.is_held)
     }
 
     /// Tries to make groups one. It is false where nothing is left to be tried.
@@ -265,16 +275,27 @@ impl Growth {
             if self.is_spent(standing) {
                 return Ok(any);
             }
-            let ids = self.with_neighbours(*group, borders)?;
-            if self.is_busy(*group) || ids.len() < 3 || self.is_refused(&ids) {
-                continue;
-            }
-            if self.merge(standing, &ids)? {
-                self.take_up(&ids);
-                any = true;
-            }
+            any = self.merge_around(standing, *group, borders)? || any;
         }
         Ok(any)
+    }
+
+    /// Tries a group with several neighbours at once, where two at least are free.
+    fn merge_around(
+        &mut self,
+        standing: &mut Standing<'_>,
+        group: usize,
+        borders: &[Border],
+    ) -> Result<bool, AllocError> {
+        let ids = self.with_neighbours(group, borders)?;
+        if self.is_busy(group) || ids.len() < 3 || self.is_refused(&ids) {
+            return Ok(false);
+        }
+        let merged = self.merge(standing, &ids)?;
+        if merged {
+            self.take_up(&ids);
+        }
+        Ok(merged)
     }
 
     /// The groups with a gap, those with the largest first.

@@ -1,9 +1,9 @@
 //! Parts of a network whose bounds tell much, and cheaper plans.
 //!
-//! It stands on dm_branch for the tree of one part, on dm_probe for the movers, and on dm_guide for windows. It divides the terms
-//! of the cost among groups of trains that decide together. A tree over the choices of each group is searched as if nothing else
-//! cost anything, and the bounds of all groups add up. Nothing is promised of what it finds: whoever is guided by it judges each
-//! leaf, and each choice.
+//! It stands on dm_branch for the tree of one part, and on dm_probe for the movers. It is handed one who makes choices better near
+//! some that were turned ([`dm_task::Polishing`]). It divides the terms of the cost among groups of trains that decide together. A
+//! tree over the choices of each group is searched as if nothing else cost anything, and the bounds of all groups add up. Nothing
+//! is promised of what it finds: whoever is guided by it judges each leaf, and each choice.
 //!
 //! # How it goes
 //!

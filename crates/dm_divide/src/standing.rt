@@ -7,7 +7,6 @@ use crate::jobs::Job;
 use crate::reliefs::{bonds, reliefs};
 use dm_base::{Cost, Secs};
 use dm_branch::Part;
-use dm_guide::Polisher;
 use dm_probe::{Mover, Share, Side};
 use std::alloc::{AllocError, Global};
 
@@ -22,9 +21,6 @@ pub struct Standing<'a> {
 
     /// One at the plan.
     pub whole: Mover<'a>,
-
-    /// One who stands at the plan too.
-    pub polisher: Polisher<'a>,
 
     /// The plan: times, sides and cost.
     pub times: Vec<Secs>,
@@ -44,7 +40,6 @@ impl Drop for Standing<'_> {
             relaxed: _,
             others: _,
             whole: _,
-            polisher: _,
             times: _,
             sides: _,
             cost: _,
@@ -55,13 +50,12 @@ impl Drop for Standing<'_> {
 }
 
 impl<'a> Standing<'a> {
-    /// Movers, of which one stands at a plan, as the polisher does, and the others stay at the root, and no groups yet.
+    /// Movers, of which one stands at a plan and the others stay at the root, and no groups yet.
     pub fn new(
         alloc: Global,
         relaxed: Mover<'a>,
         others: Vec<Mover<'a>>,
         whole: Mover<'a>,
-        polisher: Polisher<'a>,
     ) -> Standing<'a> {
         Standing {
             alloc,
@@ -69,7 +63,6 @@ impl<'a> Standing<'a> {
             relaxed,
             others,
             whole,
-            polisher,
             times: Vec::new(alloc),
             sides: Vec::new(alloc),
             cost: 0,
@@ -80,22 +73,32 @@ impl<'a> Standing<'a> {
 
     /// Divides the terms anew, by trains or by so many of their legs.
     pub fn divide(&mut self, terms: &Share, legs: Option<usize>) -> Result<(), AllocError> {
+        self.groups = self.groups_by(terms, legs)?;
+        self.borders = Borders::new(self.alloc);
+        self.replan()
+    }
+
+    /// Groups of trains, or of so many of their legs, each with its part of the terms.
+    fn groups_by(&mut self, terms: &Share, legs: Option<usize>) -> Result<Groups, AllocError> {
         let net = self.whole.net();
         let atoms = Atoms::of(self.alloc, net, legs)?;
+        let roots = self.joined(&atoms)?;
+        let mut groups = Groups::new(self.alloc, atoms, &roots, self.whole.choices())?;
+        groups.divide(net, terms, &mut self.whole)?;
+        Ok(groups)
+    }
+
+    /// What stands for each atom, where atoms are joined along the choices that cost most.
+    fn joined(&mut self, atoms: &Atoms) -> Result<Vec<usize>, AllocError> {
         self.reliefs = reliefs(self.alloc, &mut self.whole)?;
         let mut bonds = bonds(
             self.alloc,
-            &atoms,
+            atoms,
             &self.reliefs,
             &mut self.whole,
             &mut self.relaxed,
         )?;
-        let roots = bonds.join_all(self.alloc)?;
-        let mut groups = Groups::new(self.alloc, atoms, &roots, self.whole.choices())?;
-        groups.divide(net, terms, &mut self.whole)?;
-        self.groups = groups;
-        self.borders = Borders::new(self.alloc);
-        self.replan()
+        bonds.join_all(self.alloc)
     }
 
     /// What no choices go below.

@@ -7,6 +7,7 @@ use dm_base::Cost;
 use dm_branch::Part;
 use dm_probe::{Side, decision_for};
 use dm_rows::{Choice, Decision};
+use dm_task::Polishing;
 use std::alloc::{AllocError, Global};
 
 /// How many leaves of a part are put into the plan, one after the other, and how often the choices around are looked at.
@@ -29,31 +30,30 @@ struct Stand {
 impl Standing<'_> {
     /// Puts the leaves of a part that tell most into the plan. Where the whole becomes cheaper, it stays so; else it is taken
     /// back, and the groups whose cost rises are noted.
-    pub fn transplant(
+    pub fn transplant<P: Polishing>(
         &mut self,
+        polisher: &mut P,
         group: usize,
         part: &mut Part,
         is_held: bool,
     ) -> Result<(), AllocError> {
         for leaf in &part.leaves(LEAVES)? {
             if part.gap() > 0 {
-                self.transplant_leaf(group, part, *leaf, is_held)?;
+                self.transplant_leaf(polisher, group, part, *leaf, is_held)?;
             }
         }
         Ok(())
     }
 
-    fn transplant_leaf(
+    fn transplant_leaf<P: Polishing>(
         &mut self,
+        polisher: &mut P,
         group: usize,
         part: &mut Part,
         leaf: usize,
         is_held: bool,
     ) -> Result<(), AllocError> {
-        part.stand_at(&mut self.relaxed, leaf)?;
-        let stands = self.differing(part)?;
-        let mut turned = numbers_of(self.alloc, &stands)?;
-        self.turn_all(&stands, &turned);
+        let mut turned = self.turn_as_leaf(part, leaf)?;
         if is_held {
             self.blame_here(group, part)?;
         }
@@ -61,13 +61,27 @@ impl Standing<'_> {
         self.improve_around(group, &mut turned)?;
         self.look_at_rises(group, part.gap(), &turned)?;
         if self.may_be_cheaper(is_held) {
-            self.polish(&mut turned)?;
+            self.polish(polisher, &mut turned)?;
         }
-        if self.whole.cost() < self.cost && self.all_stand(&turned) {
+        self.settle_on(part, &turned)
+    }
+
+    /// Has a part's choices stand in the whole as at a leaf, to which the other mover goes. It gives those that stood otherwise.
+    fn turn_as_leaf(&mut self, part: &mut Part, leaf: usize) -> Result<Vec<usize>, AllocError> {
+        part.stand_at(&mut self.relaxed, leaf)?;
+        let stands = self.differing(part)?;
+        let turned = numbers_of(self.alloc, &stands)?;
+        self.turn_all(&stands, &turned);
+        Ok(turned)
+    }
+
+    /// Keeps the whole where it is cheaper than the plan, and else takes back what was turned.
+    fn settle_on(&mut self, part: &mut Part, turned: &[usize]) -> Result<(), AllocError> {
+        if self.whole.cost() < self.cost && self.all_stand(turned) {
             self.replan()?;
             return plan(part, &mut self.whole);
         }
-        self.take_back(&turned);
+        self.take_back(turned);
         Ok(())
     }
 
@@ -173,9 +187,13 @@ impl Standing<'_> {
     }
 
     /// Makes the whole cheaper near choices that were turned, and notes what else is turned.
-    fn polish(&mut self, turned: &mut Vec<usize>) -> Result<(), AllocError> {
+    fn polish<P: Polishing>(
+        &mut self,
+        polisher: &mut P,
+        turned: &mut Vec<usize>,
+    ) -> Result<(), AllocError> {
         let decisions = self.decisions_of(turned)?;
-        if let Some(better) = self.polisher.polish(&decisions, TRIES)? {
+        if let Some(better) = polisher.polish(&decisions, TRIES)? {
             let stands = self.differing_from(&better)?;
             let numbers = numbers_of(self.alloc, &stands)?;
             self.turn_all(&stands, &numbers);

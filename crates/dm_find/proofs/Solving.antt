@@ -11,7 +11,7 @@ use Rattle.dm_rows.specs.declared.rows.Snapshot.{Snapshot}
 use Rattle.dm_tree.specs.declared.forms.Mark.TheVariants.{Optimal}
 use Rattle.dm_tree.specs.declared.plans.Plan.{Plan}
 use Rattle.dm_tree.specs.Plans.{Task, whole_task, IsTruePlan}
-use Rattle.dm_search.proofs.Optimal.{whole_is_task, optimal_plans_are_optimal}
+use Rattle.dm_traverse.proofs.Optimal.{whole_is_task, optimal_plans_are_optimal}
 use Rattle.dm_parts.specs.declared.parts.PlanByParts.{PlanByParts}
 use Rattle.dm_parts.specs.Parts.{IsTruePlanByParts}
 use Rattle.dm_parts.specs.Sizes.{ids_of, most_ids}

@@ -1,33 +1,31 @@
 //! A plan of the kind that was asked for.
 ghost use Rattle.std.specs.Prelude.{ℕ, ◌≡◌, ◌+◌, ◌^◌, ◌≤◌, All, length, IfOk};
-ghost use Rattle.dm_base.specs.declared.limits.TheConstants.{BUDGET, PENALTY, WORKERS};
-ghost use Rattle.dm_rows.specs.Active.{HasNoCycle};
+ghost use Rattle.dm_base.specs.declared.limits.TheConstants.{BUDGET};
 ghost use Rattle.dm_rows.specs.Cost.{Costs};
 ghost use Rattle.dm_rows.specs.Decide.{free_choices_of};
-ghost use Rattle.dm_rows.specs.Rows.{IsSized};
 ghost use Rattle.dm_tree.specs.declared.forms.Mark.TheVariants.{Optimal};
-ghost use Rattle.dm_tree.specs.Plans.{IsTruePlan};
-ghost use Rattle.dm_guide.specs.Tasks.{IsPosedTask, task_of};
-ghost use Rattle.dm_search.specs.Moving.{IsOver};
+ghost use Rattle.dm_tree.specs.Plans.{IsTruePlan, whole_task};
+ghost use Rattle.dm_task.specs.Tasks.{IsPosedTask, task_of};
+ghost use Rattle.dm_traverse.specs.Moving.{IsOver};
 ghost use Rattle.dm_parts.specs.Parts.{IsTruePlanByParts};
 ghost use Rattle.dm_parts.specs.Sizes.{ids_of, most_ids};
 ghost use Rattle.std.specs.Thread.{IsSync};
 ghost use Rattle.dm_solve.specs.Evaluators.{AreOver};
-ghost use Rattle.dm_solve.specs.Terms.{terms_of};
-ghost use Rattle.dm_desk.specs.Planning.{budget_of, SolvesFor, FindsFor};
+ghost use Rattle.dm_part_plans.specs.Terms.{terms_of};
+ghost use Rattle.dm_desk.specs.Planning.{budget_of, SolvesFor};
+ghost use Rattle.dm_desk.specs.Searching.{FindsAsked, MaySearch};
 ghost use Rattle.dm_find.specs.Found.{cost_of, mark_of};
 
 use crate::making::{evaluators_of, one_of};
-use dm_desk::{HoldPoint, Search};
+use dm_desk::{HoldPoint, PlanRequest, Search};
 use dm_divide::{Job, Roots, choices_at_root, mover_at_root};
 use dm_evaluate::Evaluator;
-use dm_network::Network;
 use dm_part_workers::solve_all;
 use dm_parts::{AnyPlan, PlanByParts};
 use dm_probe::{Choices, Mover};
-use dm_rows::Snapshot;
-use dm_search::{Task, whole};
 use dm_solve::{Evaluators, plan_by_workers};
+use dm_task::Task;
+use dm_traverse::whole;
 use dm_tree::Plan;
 use dm_workers::search;
 use std::alloc::{AllocError, Global};
@@ -44,69 +42,83 @@ const FURTHER: usize = 3;
 pub fn find<R: Threads + Wait + Sync, H: HoldPoint + Sync>(
     rt: &R,
     alloc: Global,
-    net: &Network,
-    penalty: u64,
-    snapshot: &Snapshot,
-    asked: Search,
-    workers: u32,
+    request: &PlanRequest<'_>,
     gate: &H,
 ) -> Result<AnyPlan, AllocError>
-    requires sized { IsSized net.now snapshot.now.rows }
-    requires no_cycle { HasNoCycle net.now snapshot.now.rows }
-    requires penalty { penalty ≤ PENALTY }
-    requires budget { (1 ≤ budget_of asked) × (budget_of asked ≤ BUDGET) }
-    requires workers { (1 ≤ workers) × (workers ≤ WORKERS) }
-    ensures finds { IfOk result (FindsFor net.now penalty snapshot.now asked) }
-    ensures no_dearer { IfOk result (λ plan. (own : ℕ) → Costs net.now snapshot.now.rows penalty own → cost_of plan ≤ own) }
-    ensures enough { terms_of net.now ≤ most_ids
-        → 2 ^ (length (free_choices_of net.now snapshot.now.rows) + 1) ≤ budget_of asked + 1
+    requires { MaySearch request.now }
+    ensures finds { IfOk result (FindsAsked request.now) }
+    ensures no_dearer { IfOk result (λ plan. (own : ℕ) → Costs request.now.net.now request.now.snapshot.now.rows request.now.penalty own
+        → cost_of plan ≤ own) }
+    ensures enough { terms_of request.now.net.now ≤ most_ids
+        → 2 ^ (length (free_choices_of request.now.net.now request.now.snapshot.now.rows) + 1) ≤ budget_of request.now.asked + 1
         → IfOk result (λ plan. mark_of plan ≡ Optimal) }
 {
+    let net = request.net;
     net.reveal();
-    match asked {
-        Search::Plan(budget) => {
-            match search(rt, alloc, net, penalty, snapshot, budget, workers, gate) {
-                Ok(plan) => Ok(AnyPlan::Whole(plan)),
-                Err(AllocError) => Err(AllocError),
-            }
-        }
-        Search::Solve(budget) => {
-            match solve(rt, alloc, net, penalty, snapshot, budget, workers, gate) {
-                Ok(plan) => Ok(AnyPlan::ByParts(plan)),
-                Err(AllocError) => Err(AllocError),
-            }
-        }
+    match request.asked {
+        Search::Plan(budget) => match plan_within(rt, alloc, request, budget, gate) {
+            Ok(plan) => Ok(AnyPlan::Whole(plan)),
+            Err(AllocError) => Err(AllocError),
+        },
+        Search::Solve(budget) => match solve(rt, alloc, request, budget, gate) {
+            Ok(plan) => Ok(AnyPlan::ByParts(plan)),
+            Err(AllocError) => Err(AllocError),
+        },
     }
+}
+
+/// A true plan that several workers search.
+fn plan_within<R: Threads + Wait + Sync, H: HoldPoint + Sync>(
+    rt: &R,
+    alloc: Global,
+    request: &PlanRequest<'_>,
+    budget: u64,
+    gate: &H,
+) -> Result<Plan, AllocError>
+    requires within { MaySearch request.now }
+    requires budget { (1 ≤ budget) × (budget ≤ BUDGET) }
+    ensures entry { IfOk result (λ plan. plan.entry ≡ request.now.snapshot.now.entry) }
+    ensures plan { IfOk result (IsTruePlan (whole_task request.now.net.now request.now.snapshot.now.rows request.now.penalty budget)) }
+    ensures no_dearer { IfOk result (λ plan. (own : ℕ) → Costs request.now.net.now request.now.snapshot.now.rows request.now.penalty own
+        → plan.cost ≤ own) }
+{
+    search(
+        rt,
+        alloc,
+        request.net,
+        request.penalty,
+        request.snapshot,
+        budget,
+        request.workers,
+        gate,
+    )
 }
 
 /// A true plan by parts, made of a plan that several workers search.
 fn solve<R: Threads + Wait + Sync, H: HoldPoint + Sync>(
     rt: &R,
     alloc: Global,
-    net: &Network,
-    penalty: u64,
-    snapshot: &Snapshot,
+    request: &PlanRequest<'_>,
     budget: u64,
-    workers: u32,
     gate: &H,
 ) -> Result<PlanByParts, AllocError>
-    requires sized { IsSized net.now snapshot.now.rows }
-    requires no_cycle { HasNoCycle net.now snapshot.now.rows }
-    requires penalty { penalty ≤ PENALTY }
+    requires within { MaySearch request.now }
     requires budget { (1 ≤ budget) × (budget ≤ BUDGET) }
-    requires workers { (1 ≤ workers) × (workers ≤ WORKERS) }
-    ensures solves { IfOk result (SolvesFor net.now penalty snapshot.now budget) }
-    ensures no_dearer { IfOk result (λ plan. (own : ℕ) → Costs net.now snapshot.now.rows penalty own → plan.cost ≤ own) }
-    ensures enough { terms_of net.now ≤ most_ids → 2 ^ (length (free_choices_of net.now snapshot.now.rows) + 1) ≤ budget + 1
+    ensures solves { IfOk result (SolvesFor request.now.net.now request.now.penalty request.now.snapshot.now budget) }
+    ensures no_dearer { IfOk result (λ plan. (own : ℕ) → Costs request.now.net.now request.now.snapshot.now.rows request.now.penalty own
+        → plan.cost ≤ own) }
+    ensures enough { terms_of request.now.net.now ≤ most_ids
+        → 2 ^ (length (free_choices_of request.now.net.now request.now.snapshot.now.rows) + 1) ≤ budget + 1
         → IfOk result (λ plan. plan.mark ≡ Optimal) }
 {
-    let plan = match search(rt, alloc, net, penalty, snapshot, budget, workers, gate) {
+    let plan = match plan_within(rt, alloc, request, budget, gate) {
         Ok(plan) => plan,
         Err(AllocError) => return Err(AllocError),
     };
-    let rows = &snapshot.rows;
+    let (net, penalty) = (request.net, request.penalty);
+    let rows = &request.snapshot.rows;
     let task = whole(alloc, net, rows, penalty, budget);
-    solve_task(rt, &task, &plan, workers)
+    solve_task(rt, &task, &plan, request.workers)
 }
 
 /// A true plan by parts of a task and a plan, whose parts several workers solve.

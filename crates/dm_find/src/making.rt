@@ -1,11 +1,12 @@
 //! Evaluators that are made side by side.
 ghost use Rattle.std.specs.Prelude.{All, IfOk, IfSome, OnOk};
 ghost use Rattle.std.specs.Thread.{IsSync};
-ghost use Rattle.dm_guide.specs.Tasks.{IsPosedTask, task_of};
-ghost use Rattle.dm_search.specs.Moving.{IsOver};
+ghost use Rattle.dm_task.specs.Tasks.{IsPosedTask, task_of};
+ghost use Rattle.dm_traverse.specs.Moving.{IsOver};
 
 use dm_evaluate::Evaluator;
-use dm_search::{Task, evaluator_at_base};
+use dm_task::Task;
+use dm_traverse::evaluator_at_base;
 use std::alloc::AllocError;
 use std::thread::{Threads, join_mut};
 

@@ -1,9 +1,8 @@
 //! Choices that are made better in rounds.
 
-use crate::kicking::NARROW;
 use crate::rounds::{Round, Seeds, Work, play};
 use crate::searchers::Searcher;
-use crate::windows::{all_binding, binding};
+use dm_polish::{NARROW, all_binding, binding};
 use std::alloc::AllocError;
 
 /// How many choices a window has at most, and how often it branches.

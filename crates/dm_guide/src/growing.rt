@@ -1,12 +1,11 @@
 //! A tree that grows.
 ghost use Rattle.std.specs.Prelude.{◌≤◌, length};
 
-use crate::choices::Side;
-use crate::gaining::{By, Gains, Scores, TriedGains, gain, try_both};
-use crate::places::{NOWHERE, Place};
-use crate::scouting::Scout;
-use crate::tree::{Found, Guide, Hint};
+use crate::found::Found;
 use dm_base::Cost;
+use dm_polish::{By, Gains, Scores, TriedGains, gain, try_both};
+use dm_scout::{NOWHERE, Place, Scout, Side};
+use dm_task::{Guide, Hint};
 use dm_tree::Node;
 use std::alloc::{AllocError, Global};
 

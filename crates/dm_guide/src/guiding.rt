@@ -1,15 +1,15 @@
 //! Good choices first, and then a tree.
 
-use crate::choices::side_of;
 use crate::climbing::climb;
-use crate::diving::dive;
+use crate::found::Found;
 use crate::rounds::Round;
-use crate::scouting::Scout;
 use crate::searchers::{Searcher, go_back};
 use crate::sharing::grow;
-use crate::tree::{Found, Guide};
 use dm_base::Cost;
+use dm_polish::{dive, take_over};
 use dm_rows::Decision;
+use dm_scout::Scout;
+use dm_task::Guide;
 use dm_tree::Node;
 use std::alloc::{AllocError, Global};
 
@@ -98,21 +98,6 @@ fn find_here(scout: &mut Scout<'_>, found: &mut Found) -> Result<(), AllocError>
     if scout.first_violated()?.is_none() && cost < found.cost {
         found.path = scout.path()?;
         found.cost = cost;
-    }
-    Ok(())
-}
-
-/// Decides each choice as these choices say, and the others as the rows have them.
-pub fn take_over(scout: &mut Scout<'_>, choices: &[Decision]) -> Result<(), AllocError> {
-    for decision in choices {
-        let number = scout.choices().find(scout.net(), decision.choice());
-        if let Some(i) = number {
-            let _decided = scout.decide(i, side_of(*decision))?;
-        }
-    }
-    for i in (0..scout.choices().len()).rev() {
-        let side = scout.choices().own_side(i);
-        let _decided = scout.decide(i, side)?;
     }
     Ok(())
 }

@@ -1,22 +1,18 @@
 //! Where a search for plans looks first.
 //!
-//! It stands on dm_evaluate for the relaxed problem in which the base alone is decided, and on dm_priced for a timetable. In that
-//! timetable it holds and lets go what a decision binds. The timetable is settled when times or cost are asked for.
+//! It stands on dm_scout for choices that are decided and taken back in a timetable, and on dm_polish for choices that are made
+//! better.
 //!
-//! A [`Task`] is what choices are searched for; its `specs/` say which plan it asks for. [`guide`] looks for good choices and for
-//! a tree that tells much, with one [`Searcher`] or several. Nothing is promised of what they find: whoever is guided by it
-//! judges each node anew.
+//! [`guide`] looks for good choices of a task and for a tree that tells much, with one [`Searcher`] or several. Nothing is
+//! promised of what they find: whoever is guided by it judges each node anew.
 //!
 //! # What is promised
 //!
 //! All calls are safe and end. They answer `AllocError` for want of memory alone.
 //!
-//! `Task`: the rows are of the network, and penalty and budget are within their limits. The base decides free choices, none
-//! twice, as the rows have them. A plan may make every free choice that the base leaves.
-//!
 //! `Searcher`: one of those who look. It changes nothing of another's.
 //!
-//! - `new` makes it of such a task and an evaluator of the task's network, and has it try its part of the choices that are
+//! - `new` makes it of a task and an evaluator of the task's network, and has it try its part of the choices that are
 //!   violated at the root.
 //! - `violated` says how many choices are violated where it stands.
 //! - `play` does its part of a round. Want of memory that it meets there ends the search.
@@ -31,37 +27,17 @@
 //! each violated choice, and makes the choices better some at a time. It grows the tree where its bound is least, and branches
 //! where the cost is known to rise most. It asks that the caller's way to run a round may be called at any round. A caller that
 //! runs no round, or a part of one, is answered too.
-//!
-//! `Polisher`: one who stands at choices and, where some of them were turned, makes those near them better.
-//!
-//! - `new` makes it of a task, an evaluator of the task's network and choices.
-//! - `polish` turns choices, looks for better ones by windows around them, and stays there if that costs less than before.
 #![tactic(auto)]
 
-mod choices;
 mod climbing;
-mod diving;
-mod gaining;
+mod found;
 mod growing;
 mod guiding;
-mod kicking;
-mod moving;
-mod noting;
 mod parts;
-mod places;
-mod polishing;
 mod rounds;
-mod scouting;
 mod searchers;
 mod sharing;
-mod tasks;
-mod telling;
-mod tree;
-mod windows;
 
 pub use guiding::{Start, guide, in_turn};
-pub use polishing::Polisher;
 pub use rounds::Round;
 pub use searchers::Searcher;
-pub use tasks::Task;
-pub use tree::{Guide, Hint};

@@ -1,11 +1,11 @@
 //! Parts of the leaves that a round expands. Each is expanded by itself, so its result does not depend on who takes it.
 
+use crate::found::Found;
 use crate::growing::{Change, Grown, Tree};
 use crate::rounds::block;
-use crate::scouting::Scout;
 use crate::sharing::Known;
-use crate::tree::Found;
 use dm_base::Cost;
+use dm_scout::Scout;
 use std::alloc::AllocError;
 use std::mem::replace;
 use std::sync::atomic::{AtomicU64, Ordering};

@@ -1,8 +1,8 @@
 //! What several searchers do at once, each its part.
 
-use crate::choices::Side;
 use crate::parts::Leaves;
 use crate::searchers::Searcher;
+use dm_scout::Side;
 use std::alloc::AllocError;
 
 /// What searchers do at once. All of them read it, and each changes nothing but itself and the count of parts that were taken.

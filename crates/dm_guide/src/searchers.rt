@@ -1,17 +1,14 @@
 //! A scout with all that it needs for its part of each round.
 ghost use Rattle.dm_evaluate.specs.Evaluator.{IsEvaluatorOf};
-ghost use Rattle.dm_guide.specs.Tasks.{IsPosedTask};
+ghost use Rattle.dm_task.specs.Tasks.{IsPosedTask};
 
-use crate::choices::{Choices, Side};
-use crate::gaining::try_both;
 use crate::growing::Tree;
-use crate::kicking::Kicks;
-use crate::moving::Mover;
 use crate::parts::Part;
 use crate::rounds::{Round, Seeds, Work, block};
-use crate::scouting::Scout;
-use crate::tasks::Task;
 use dm_evaluate::Evaluator;
+use dm_polish::{Kicks, stand_at, try_both};
+use dm_scout::{Choices, Mover, Scout};
+use dm_task::Task;
 use std::alloc::{AllocError, Global};
 
 /// One of those who search together: nothing that it changes is another's.
@@ -165,19 +162,6 @@ impl<'t> Searcher<'t> {
         }
         Ok(())
     }
-}
-
-/// Has each choice stand on its side of these.
-pub fn stand_at(scout: &mut Scout<'_>, sides: &[Option<Side>]) -> Result<(), AllocError> {
-    for i in 0..sides.len() {
-        if scout.side(i) != sides[i] {
-            scout.undecide(i)?;
-        }
-    }
-    for i in 0..sides.len() {
-        let _set = scout.set(i, sides[i])?;
-    }
-    Ok(())
 }
 
 /// Takes all decisions back.

@@ -1,13 +1,13 @@
 //! A tree that several searchers expand in rounds.
 
+use crate::found::Found;
 use crate::growing::{Change, Grown, Leaf, Tree};
 use crate::parts::{Leaves, Part, Placed};
-use crate::places::{NOWHERE, Place};
 use crate::rounds::{Round, Work, play};
-use crate::scouting::Scout;
 use crate::searchers::{Searcher, go_back};
-use crate::tree::{Found, Guide};
 use dm_base::Cost;
+use dm_scout::{NOWHERE, Place, Scout};
+use dm_task::Guide;
 use dm_tree::Node;
 use std::alloc::{AllocError, Global};
 use std::mem::replace;

@@ -18,9 +18,9 @@ use Rattle.dm_tree.specs.declared.forms.Node.TheVariants.{Inner, Cycle, Bound, O
 use Rattle.dm_tree.specs.Trees.{Shape, leaf, branch, preorder, IsProper, IsWhole, IsNoHole, StandsAt}
 use Rattle.dm_tree.specs.Plans.{Task, is_set, CostsRelaxed, IsOptimal}
 use Rattle.dm_paths.proofs.Setting.{differs_in_none, differs_with, locks_of}
-use Rattle.dm_search.specs.Laws.{IsTask, CostsWithin}
-use Rattle.dm_search.proofs.Leaves.{Fact, HasLowLeaf, has_low_leaf, from_map}
-use Rattle.dm_search.proofs.Optimal.{chosen, has_base}
+use Rattle.dm_traverse.specs.Laws.{IsTask, CostsWithin}
+use Rattle.dm_traverse.proofs.Leaves.{Fact, HasLowLeaf, has_low_leaf, from_map}
+use Rattle.dm_traverse.proofs.Optimal.{chosen, has_base}
 use Rattle.dm_parts.specs.declared.shares.Share.{Share}
 use Rattle.dm_parts.specs.declared.parts.PartNode.{PartNode}
 use Rattle.dm_parts.specs.declared.parts.PartNode.TheVariants.{Inner as InnerNode, Cycle as CycleNode, Leaf}
@@ -32,16 +32,7 @@ use Rattle.dm_parts.specs.Parts.{task_within, task_beside, as_node, shares_of, I
 use Rattle.dm_parts.proofs.Alike.{agreeing, as_many_events, as_many_activities, as_many_pairs, same_flip, same_with, same_free, same_network, in_common, back, within_differs, beside_differs}
 use Rattle.dm_parts.proofs.Adding.{costs}
 use Rattle.dm_part_bounds.specs.Laws.{BoundsByPartsHold}
-
--- what stands in a tree is among its nodes
-stands_in : (t : Shape) (path : List Decision) (n : Node) → StandsAt t path n → Contains (preorder t) n
-stands_in (leaf m) [] n s = (0, omega arith, s)
-stands_in (leaf m) (d ∷ path) n s = elim s [ ]
-stands_in (branch c a b) [] n s = (0, omega arith, s)
-stands_in (branch c a b) (d ∷ path) n (inl s) =
-    Contains-append_right (Inner c ∷ []) (preorder a ++ preorder b) n (Contains-append_left (preorder a) (preorder b) n (stands_in a path n s.1))
-stands_in (branch c a b) (d ∷ path) n (inr s) =
-    Contains-append_right (Inner c ∷ []) (preorder a ++ preorder b) n (Contains-append_right (preorder a) (preorder b) n (stands_in b path n s.1))
+use Rattle.dm_traverse.proofs.Ended.{stands_in}
 
 -- a node of a part is no open leaf and no hole
 no_hole : (n : PartNode) → IsNoHole (as_node n)

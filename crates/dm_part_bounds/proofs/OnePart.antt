@@ -32,9 +32,9 @@ use Rattle.dm_tree.specs.Relaxed.{IsRelaxedLeast, RelaxedCosts, relaxed_cost_of}
 use Rattle.dm_tree.specs.Plans.{Task, CostsRelaxed, IsTrueInner, IsTrueCycle, IsTruePlan}
 use Rattle.dm_paths.proofs.Apart.{listed}
 use Rattle.dm_paths.proofs.Naming.{from_place, event_found, activity_found}
-use Rattle.dm_search.specs.Laws.{IsTask}
-use Rattle.dm_search.proofs.Leaves.{violated_is_undecided}
-use Rattle.dm_search.proofs.Optimal.{optimal_is, enough_is_optimal}
+use Rattle.dm_traverse.specs.Laws.{IsTask}
+use Rattle.dm_traverse.proofs.Leaves.{violated_is_undecided}
+use Rattle.dm_traverse.proofs.Optimal.{optimal_is, enough_is_optimal}
 use Rattle.dm_parts.specs.declared.parts.Part.{Part}
 use Rattle.dm_parts.specs.Shares.{within, beside, has_arrival, has_change, have_arrival, have_change, NamesArrival, NamesChange, IsShare}
 use Rattle.dm_parts.specs.Parts.{task_beside, as_node, IsTrueBranch, IsTruePart, IsTruePlanByParts}

@@ -4,7 +4,7 @@ use Rattle.dm_rows.specs.declared.messages.Decision.{Decision}
 use Rattle.dm_tree.specs.declared.forms.Mark.TheVariants.{Optimal}
 use Rattle.dm_tree.specs.declared.plans.Plan.{Plan}
 use Rattle.dm_tree.specs.Plans.{Task, IsTruePlan, IsOptimal}
-use Rattle.dm_search.specs.Laws.{IsTask, CostsWithin}
+use Rattle.dm_traverse.specs.Laws.{IsTask, CostsWithin}
 use Rattle.dm_parts.specs.declared.parts.Part.{Part}
 use Rattle.dm_parts.specs.declared.parts.PlanByParts.{PlanByParts}
 use Rattle.dm_parts.specs.Parts.{task_within, IsTruePart, IsTruePlanByParts}

@@ -1,6 +1,6 @@
 //! Why bounds by parts hold.
 //!
-//! It stands on dm_parts for what parts and plans by parts are, and on dm_search for what a task is and for the law that each
+//! It stands on dm_parts for what parts and plans by parts are, and on dm_traverse for the law that each
 //! choice list leads to a leaf that does not cost more.
 //!
 //! # What is promised

@@ -1,7 +1,1 @@
--- What a search does with a path, from what it ends with a true plan, and what holds of all true plans.
-pub mod Steps
-pub mod Moving
-pub mod Finish
-pub mod Laws
--- States of loops: checked, and not to be believed.
-pub mod Inside
+-- What a search does with a path, what it ends with and what holds of all true plans: in the words of dm_traverse.

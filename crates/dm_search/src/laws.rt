@@ -1,6 +1,6 @@
 //! What holds of all true plans. A law has no code: it is proved as the contract of an empty function.
-ghost use Rattle.dm_search.specs.Finish.{AHoleIsAStart};
-ghost use Rattle.dm_search.specs.Laws.{OptimalPlansAreOptimal};
+ghost use Rattle.dm_traverse.specs.Finish.{AHoleIsAStart};
+ghost use Rattle.dm_traverse.specs.Laws.{OptimalPlansAreOptimal};
 
 /// The choices of a true plan that is marked optimal are optimal, and its bound is its cost; no choices cost less than the
 /// bound of a true plan; and one with enough nodes for every choice is marked optimal.

@@ -1,6 +1,6 @@
 -- Evaluators that parts are found by, and leaves and choices judged.
 use Rattle.dm_evaluate.specs.Evaluator.{EvaluatorValue}
-use Rattle.dm_search.specs.Moving.{IsOver}
+use Rattle.dm_traverse.specs.Moving.{IsOver}
 use Rattle.dm_tree.specs.Plans.{Task}
 
 -- each has decided the task's base

@@ -1,5 +1,2 @@
--- What a true plan by parts is stands in dm_parts. Here is how many terms a cost has, and, inside, states of loops.
-pub mod Terms
-pub mod Inside
--- Evaluators that parts are found by.
+-- Evaluators that parts are found by. What a true plan by parts is stands in dm_parts.
 pub mod Evaluators

@@ -1,7 +1,7 @@
-//! True plans by parts.
+//! True plans by parts, of parts that are looked for.
 //!
-//! It stands on dm_divide, which finds parts and good choices and promises nothing, on dm_search for plans and evaluators, and on
-//! dm_parts for what a true plan by parts is. Lemmas of dm_part_bounds show what one part of all terms is worth.
+//! It stands on dm_divide, which finds parts and good choices, on dm_polish for one who polishes, both of which promise nothing, and on
+//! dm_part_plans, which judges what was found anew and makes a true plan by parts of it.
 //!
 //! # What is promised
 //!
@@ -11,19 +11,8 @@
 //! it optimal.
 //!
 //! [`plan_by_workers`] promises the same, whatever workers the caller has solve parts. The caller makes its [`Evaluators`] too.
-//!
-//! Each node of each tree is judged anew by an evaluator that is brought to its path. Where what was found does not hold, a part
-//! has fewer nodes or is left out: its terms then count as they are where nothing is decided. So does a part with too many ids.
-//! Where the parts' bound is below the plan's, one part has all terms and the plan's tree. How much better the bound is, no clause says.
 #![tactic(auto)]
 
-mod alone;
-mod choosing;
-mod claiming;
-mod costing;
-mod gathering;
-mod growing;
-mod judging;
 mod solving;
 
 pub use solving::{Evaluators, plan_by_parts, plan_by_workers};

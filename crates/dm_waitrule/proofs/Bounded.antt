@@ -19,8 +19,8 @@ use Rattle.dm_parts.specs.declared.kinds.AnyPlan.{AnyPlan}
 use Rattle.dm_parts.specs.declared.kinds.AnyPlan.TheVariants.{Whole, ByParts}
 use Rattle.dm_waitrule.specs.Kinds.{bound_of, IsTrueAny}
 use Rattle.dm_part_bounds.proofs.Low.{bounds_by_parts_hold}
-use Rattle.dm_search.specs.Laws.{IsTask, CostsWithin}
-use Rattle.dm_search.proofs.Optimal.{chosen, bound_is_low, whole_is_task}
+use Rattle.dm_traverse.specs.Laws.{IsTask, CostsWithin}
+use Rattle.dm_traverse.proofs.Optimal.{chosen, bound_is_low, whole_is_task}
 use Rattle.dm_waitrule.specs.declared.rule.WaitRule.{WaitRule}
 use Rattle.dm_waitrule.specs.Rules.{limit_of, with_dropped, Follows, is_decided_otherwise, differences_to, AreRuled, AreRuleChoices}
 use Rattle.dm_waitrule.specs.declared.comparing.Comparison.{Comparison}

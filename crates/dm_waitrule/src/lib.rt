@@ -1,7 +1,7 @@
 //! Fixed waiting rules: which changes a rule keeps, whatever that costs.
 //!
-//! It stands on dm_propagate, whose engine keeps the rule's rows and their least times, and on dm_search for the law that sets
-//! the rule against plans. A change that is tried and kept costs what it moves. One that would close a cycle leaves all as it
+//! It stands on dm_propagate, whose engine keeps the rule's rows and their least times, and on dm_traverse for the law that
+//! sets the rule against plans. A change that is tried and kept costs what it moves. One that would close a cycle leaves all as it
 //! was.
 //!
 //! # What is promised

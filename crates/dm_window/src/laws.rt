@@ -1,5 +1,5 @@
 //! What holds of all plans of windows. A law has no code: it is proved as the contract of an empty function.
-ghost use Rattle.dm_window.specs.Laws.{HoldingMoreCostsNoLess, WindowPlansAreOptimal, WindowPlansDecideOnce, WindowSolutionsAreOptimal};
+ghost use Rattle.dm_stretch.specs.Laws.{HoldingMoreCostsNoLess, WindowPlansAreOptimal, WindowPlansDecideOnce, WindowSolutionsAreOptimal};
 
 /// Where a plan of a window is marked optimal no decisions in the window cost less, and its bound is its cost; no decisions in
 /// the window cost less than the bound of a plan of it; and one with enough nodes for every choice in it is marked optimal.

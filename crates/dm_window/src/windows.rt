@@ -1,30 +1,20 @@
-//! Plans of a stretch of time.
-ghost use Rattle.std.specs.Prelude.{ℕ, ◌≡◌, ◌≤◌, IfOk};
+//! Plans of stretches of time.
+ghost use Rattle.std.specs.Prelude.{◌≡◌, ◌≤◌, IfOk};
 ghost use Rattle.dm_base.specs.declared.limits.TheConstants.{PENALTY, BUDGET};
 ghost use Rattle.dm_rows.specs.Rows.{IsSized};
 ghost use Rattle.dm_rows.specs.Active.{HasNoCycle};
 ghost use Rattle.dm_parts.specs.Sizes.{ids_of, most_ids};
-ghost use Rattle.dm_window.specs.Windows.{IsTrueWindowPlan, IsTrueWindowSolution};
+ghost use Rattle.dm_stretch.specs.Windows.{IsTrueWindowPlan, IsTrueWindowSolution};
 
-use crate::standing::window_base;
-use dm_base::{Items, Secs};
 use dm_network::Network;
 use dm_parts::PlanByParts;
-use dm_rows::{Choice, Snapshot};
-use dm_search::{Task, plan_task};
+use dm_rows::Snapshot;
+use dm_search::plan_task;
 use dm_solve::plan_by_parts;
+use dm_stretch::{Window, window_base};
+use dm_task::Task;
 use dm_tree::Plan;
 use std::alloc::{AllocError, Global};
-
-/// What a plan may decide: what is scheduled from one time to another, in seconds, both of them in it, but for what is held.
-#[derive(Drop)]
-pub struct Window {
-    pub from: Secs,
-    pub to: Secs,
-
-    /// Choices that stay as the rows have them, whenever they are scheduled. One that is not free is none of the plan's anyway.
-    pub held: Items<Choice>,
-}
 
 /// A true plan for the window of a snapshot's rows, which have no cycle. It has the snapshot's entry and a tree of at most `budget`
 /// nodes, of which there are 1 to 16,384. The penalty is in seconds for each passenger, at most 1,000,000. Err is want of memory

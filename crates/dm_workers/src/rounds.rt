@@ -1,15 +1,17 @@
 //! The rounds of a guide, played by several workers at once.
 ghost use Rattle.std.specs.Prelude.{All, IfOk};
 ghost use Rattle.std.specs.Thread.{IsSync};
-ghost use Rattle.dm_guide.specs.Tasks.{task_of, IsPosedTask};
-ghost use Rattle.dm_search.specs.Moving.{IsOver};
-ghost use Rattle.dm_workers.specs.Found.{IsOwnCost};
+ghost use Rattle.dm_task.specs.Tasks.{task_of, IsPosedTask};
+ghost use Rattle.dm_traverse.specs.Moving.{IsOver};
+ghost use Rattle.dm_team.specs.Found.{IsOwnCost};
 
 use dm_base::Cost;
 use dm_evaluate::Evaluator;
-use dm_guide::{Guide, Round, Searcher, Start, guide};
-use dm_search::{Task, evaluator_at_base, searcher_at};
+use dm_guide::{Round, Searcher, Start, guide};
+use dm_search::searcher_at;
+use dm_task::{Guide, Task};
 use dm_times::{cost, least};
+use dm_traverse::evaluator_at_base;
 use dm_tree::Node;
 use std::alloc::AllocError;
 use std::thread::{Threads, join, join_mut};

@@ -7,6 +7,7 @@ use Rattle.dm_find.proofs.finding.find.Goals as goal
 
 pub returns-in-Ok-clause-enough : goal.returns-in-Ok-clause-enough
 returns-in-Ok-clause-enough g c = λ terms nodes.
-    let k = length (free_choices_of c.args.net.now c.args.snapshot.now.rows) in
-    enough_nodes c.args.net.now c.args.snapshot.now.rows c.args.penalty c.in-Plan.budget c.in-Ok.plan c.reveal.ensures.network c.requires.sized c.in-Ok.ensures.plan
+    let asked = c.args.request.now in
+    let k = length (free_choices_of asked.net.now asked.snapshot.now.rows) in
+    enough_nodes asked.net.now asked.snapshot.now.rows asked.penalty c.in-Plan.budget c.in-Ok.plan c.reveal.ensures.network c.requires.sized c.in-Ok.ensures.plan
     (subst (λ (asked : Search). 2 ^ (k + 1) ≤ budget_of asked + 1) c.in-Plan.is nodes)

@@ -2,7 +2,7 @@ use Rattle.std.proofs.Common.{◌≡◌, ◌+◌, ◌^◌, ◌≤◌, length, sy
 use Rattle.dm_network.specs.Net.{Net}
 use Rattle.dm_tree.specs.Plans.{Task, IsTruePlan}
 use Rattle.dm_parts.specs.Sizes.{most_ids}
-use Rattle.dm_solve.specs.Terms.{terms_of}
+use Rattle.dm_part_plans.specs.Terms.{terms_of}
 use Rattle.dm_find.proofs.Solving.{solves, no_dearer}
 use Rattle.dm_find.proofs.finding.solve.Goals as goal
 
@@ -18,6 +18,6 @@ returns-clause-no_dearer g c = no_dearer _ _ _ c.in-Ok.plan.cost c.solve_task.re
 
 pub returns-clause-enough : goal.returns-clause-enough
 returns-clause-enough g c = λ terms nodes.
-    let net : c.whole-task.result.net.now ≡ c.args.net.now = ap (λ (t : Task). t.net) c.whole-task.ensures.task in
+    let net : c.whole-task.result.net.now ≡ c.args.request.now.net.now = ap (λ (t : Task). t.net) c.whole-task.ensures.task in
     c.solve_task.ensures.enough (subst (λ (n : Net). terms_of n ≤ most_ids) (sym net) terms)
     (subst (λ (t : Task). 2 ^ (length t.allowed + 1) ≤ t.budget + 1) (sym c.whole-task.ensures.task) nodes)

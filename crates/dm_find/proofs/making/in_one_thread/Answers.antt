@@ -1,6 +1,6 @@
 use Rattle.std.proofs.lemmas.List.Elements.{All-push, All-same}
-use Rattle.dm_guide.specs.Tasks.{task_of}
-use Rattle.dm_search.specs.Moving.{IsOver}
+use Rattle.dm_task.specs.Tasks.{task_of}
+use Rattle.dm_traverse.specs.Moving.{IsOver}
 use Rattle.dm_find.proofs.making.in_one_thread.Goals as goal
 
 pub loop-evaluator-preserved : goal.loop-evaluator-preserved

@@ -1,6 +1,6 @@
 use Rattle.std.specs.Prelude.{All}
-use Rattle.dm_guide.specs.Tasks.{task_of}
-use Rattle.dm_search.specs.Moving.{IsOver}
+use Rattle.dm_task.specs.Tasks.{task_of}
+use Rattle.dm_traverse.specs.Moving.{IsOver}
 use Rattle.dm_find.proofs.making.in_one_thread.Given as goal
 
 abbrev pub invariant-loop-evaluator : goal.invariant-loop-evaluator

@@ -1,7 +1,7 @@
 use Rattle.std.proofs.Common.{Some}
 use Rattle.std.proofs.lemmas.List.Elements.{All-pop}
-use Rattle.dm_guide.specs.Tasks.{task_of}
-use Rattle.dm_search.specs.Moving.{IsOver}
+use Rattle.dm_task.specs.Tasks.{task_of}
+use Rattle.dm_traverse.specs.Moving.{IsOver}
 use Rattle.dm_find.proofs.making.one_of.Goals as goal
 
 pub returns-in-Some-clause-one : goal.returns-in-Some-clause-one

@@ -1,6 +1,6 @@
 use Rattle.std.proofs.Common.{◌∙◌}
 use Rattle.std.proofs.lemmas.Result.{IfOk-weaker}
-use Rattle.dm_window.proofs.Beside.{posed_within, plan_within}
+use Rattle.dm_stretch.proofs.Beside.{posed_within, plan_within}
 use Rattle.dm_window.proofs.windows.window_plan.Goals as goal
 
 pub plan_task-requires-clause-posed : goal.plan_task-requires-clause-posed

@@ -1,6 +1,6 @@
-use Rattle.dm_guide.specs.Tasks.{task_of}
-use Rattle.dm_search.specs.Moving.{IsOver}
-use Rattle.dm_workers.proofs.Enlisted.{all_more}
+use Rattle.dm_task.specs.Tasks.{task_of}
+use Rattle.dm_traverse.specs.Moving.{IsOver}
+use Rattle.dm_team.proofs.Enlisted.{all_more}
 use Rattle.dm_workers.proofs.rounds.with_one_more.Goals as goal
 
 pub returns : goal.returns

@@ -3,7 +3,7 @@ use Rattle.std.proofs.lemmas.Result.{IfOk-weaker}
 use Rattle.dm_rows.specs.Active.{HasNoCycle}
 use Rattle.dm_tree.specs.Plans.{Task, IsTruePlan}
 use Rattle.dm_tree.specs.declared.plans.Plan.{Plan}
-use Rattle.dm_workers.specs.Found.{IsOwnCost}
+use Rattle.dm_team.specs.Found.{IsOwnCost}
 use Rattle.dm_workers.proofs.searching.search.Goals as goal
 
 pub search_task-requires-clause-no_cycle : goal.search_task-requires-clause-no_cycle

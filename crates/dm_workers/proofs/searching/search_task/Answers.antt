@@ -1,6 +1,6 @@
 use Rattle.std.proofs.Common.{refl, arith}
-use Rattle.dm_workers.proofs.Guided.{rows_are_kept}
-use Rattle.dm_workers.proofs.Planned.{plan_no_dearer, of_workers}
+use Rattle.dm_team.proofs.Guided.{rows_are_kept}
+use Rattle.dm_team.proofs.Planned.{plan_no_dearer, of_workers}
 use Rattle.dm_workers.proofs.searching.search_task.Goals as goal
 
 pub search_guided-requires-clause-kept : goal.search_guided-requires-clause-kept

@@ -1,4 +1,4 @@
-use Rattle.dm_workers.specs.Nodes.{guided_by, IsNode}
+use Rattle.dm_team.specs.Nodes.{guided_by, IsNode}
 use Rattle.dm_workers.proofs.searching.search_task.Given as goal
 
 abbrev pub ghosts-search_guided : goal.ghosts-search_guided

@@ -1,0 +1,9 @@
+pub mod Nodes
+pub mod Trees
+pub mod Leaves
+pub mod Claimed
+pub mod Together
+pub mod Better
+pub mod Listing
+pub mod OnePart
+pub mod Judged

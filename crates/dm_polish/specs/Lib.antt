@@ -1,0 +1,1 @@
+-- Nothing is promised of choices that are made better.

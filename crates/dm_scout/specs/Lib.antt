@@ -1,0 +1,1 @@
+-- Nothing is promised of where a scout stands.

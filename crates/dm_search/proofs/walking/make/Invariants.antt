@@ -1,4 +1,0 @@
-use Rattle.dm_search.proofs.walking.make.Given as goal
-
-abbrev pub ghosts-make_open : goal.ghosts-make_open
-ghosts-make_open a = record { name = a.blank.name; parts = a.blank.parts }

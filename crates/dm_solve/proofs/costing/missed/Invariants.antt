@@ -1,7 +1,0 @@
-use Rattle.std.specs.Prelude.{◌≡◌, ◌≤◌, ◌*◌}
-use Rattle.dm_base.specs.declared.limits.TheConstants.{WEIGHT}
-use Rattle.dm_solve.specs.Inside.Sums.{missed_up_to}
-use Rattle.dm_solve.proofs.costing.missed.Given as goal
-
-abbrev pub invariant-loop-id : goal.invariant-loop-id
-invariant-loop-id l = record { sum : l.sum ≡ missed_up_to l.net l.share l.rows l.times l.id-index; low : l.sum ≤ l.id-index * WEIGHT }

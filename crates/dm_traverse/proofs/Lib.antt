@@ -1,0 +1,13 @@
+pub mod Leaves
+pub mod Sizes
+pub mod Optimal
+pub mod Beside
+pub mod Advancing
+pub mod Exits
+pub mod Finding
+pub mod Ended
+pub mod Started
+pub mod Kept
+pub mod Walks
+pub mod Fronts
+pub mod Limits

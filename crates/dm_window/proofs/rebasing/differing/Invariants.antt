@@ -1,6 +1,0 @@
-use Rattle.std.proofs.Common.{◌≡◌, take}
-use Rattle.dm_relax.specs.Complete.{differences_from}
-use Rattle.dm_window.proofs.rebasing.differing.Given as goal
-
-abbrev pub invariant-loop-decision : goal.invariant-loop-decision
-invariant-loop-decision l = l.kept.items ≡ differences_from l.net l.rows (take l.decision-index l.decisions)

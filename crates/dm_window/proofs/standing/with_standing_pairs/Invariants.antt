@@ -1,6 +1,0 @@
-use Rattle.std.proofs.Common.{◌≡◌, ◌++◌}
-use Rattle.dm_window.specs.Inside.Standing.{standing_pairs}
-use Rattle.dm_window.proofs.standing.with_standing_pairs.Given as goal
-
-abbrev pub invariant-loop-p : goal.invariant-loop-p
-invariant-loop-p l = l.decisions.items ≡ l.initial.decisions.items ++ standing_pairs l.net l.rows l.window l.p

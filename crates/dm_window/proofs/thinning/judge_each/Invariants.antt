@@ -1,5 +1,0 @@
-use Rattle.dm_window.specs.Inside.Thinning.{AreJudged}
-use Rattle.dm_window.proofs.thinning.judge_each.Given as goal
-
-abbrev pub invariant-loop-place : goal.invariant-loop-place
-invariant-loop-place l = AreJudged l.net l.rows l.penalty l.decisions l.place l.costs.items

@@ -1,9 +1,0 @@
-use Rattle.dm_search.specs.Moving.{IsOver}
-use Rattle.dm_workers.proofs.Enlisted.{last_of_all, front_of_all}
-use Rattle.dm_workers.proofs.working.lend.Goals as goal
-
-pub returns-in-Some : goal.returns-in-Some
-returns-in-Some c = λ task all. (
-  last_of_all (IsOver task) _ _ c.in-Some.evaluator c.in-Some.ensures.items all,
-  front_of_all (IsOver task) _ _ c.in-Some.evaluator c.in-Some.ensures.items all,
-)
