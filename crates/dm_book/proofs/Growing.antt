@@ -19,7 +19,7 @@ use Rattle.dm_book.proofs.OneBook.{books_are_one}
 
 -- ---- fronts
 
-as_many : {X : Type 0} (one more : List (List X)) → AreFronts one more → length one ≡ length more
+pub as_many : {X : Type 0} (one more : List (List X)) → AreFronts one more → length one ≡ length more
 as_many [] [] p = refl
 as_many [] (y ∷ ys) p = absurd p
 as_many (x ∷ xs) [] p = absurd p
@@ -41,7 +41,7 @@ reply_fronts [] (y ∷ ys) p = absurd p
 reply_fronts (x ∷ xs) [] p = absurd p
 reply_fronts (x ∷ xs) (y ∷ ys) p = (reply_front x y p.0, reply_fronts xs ys p.1)
 
-grows_on : (one more most : Book) → IsFrontBook one more → IsFrontBook more most → IsFrontBook one most
+pub grows_on : (one more most : Book) → IsFrontBook one more → IsFrontBook more most → IsFrontBook one most
 grows_on one more most p q = record {
   history = front_of_front one.history more.history most.history p.history q.history;
   logs = fronts_of_fronts one.logs more.logs most.logs p.logs q.logs;

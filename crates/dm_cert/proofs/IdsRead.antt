@@ -79,7 +79,7 @@ ids_begin bytes = record {
   alone = λ ids is. record { tail = ids; is = refl; spelled = is.spelled; ascend = is.ascend; fits = is.fits };
 }
 
-rising_push : (xs : List ℕ) (y : ℕ) → IsStrictlyIncreasing xs → All (λ x. x < y) xs → IsStrictlyIncreasing (xs ++ y ∷ [])
+pub rising_push : (xs : List ℕ) (y : ℕ) → IsStrictlyIncreasing xs → All (λ x. x < y) xs → IsStrictlyIncreasing (xs ++ y ∷ [])
 rising_push xs y up low k lt =
     let l = length-append xs (y ∷ []) in
     elim (cases_lt (k + 1) (length xs)) [

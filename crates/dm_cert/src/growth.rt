@@ -41,17 +41,11 @@ fn behind_path<'l>(whole: &'l [Decision], path: &[Decision]) -> Option<&'l [Deci
         return None;
     }
     for (i, decision) in path.iter().enumerate() {
-        if !is_same(whole[i], *decision) {
+        if !whole[i].is_same(*decision) {
             return None;
         }
     }
     Some(&whole[path.len()..])
-}
-
-fn is_same(one: Decision, other: Decision) -> bool
-    ensures { MatchBool result (one ≡ other) (one ≡ other → ⊥) }
-{
-    one == other
 }
 
 /// Goes down along these decisions, each of which is that of a first child; it is false where one is not.

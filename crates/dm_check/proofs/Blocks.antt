@@ -23,15 +23,13 @@ use Rattle.dm_cert.proofs.LineFeeds.{heading_no_feed, has_no_feed}
 use Rattle.dm_cert.proofs.SpelledPlans.{plan_single}
 use Rattle.dm_records.specs.RunLines.{PlanOpening, planned}
 use Rattle.dm_check_answers.specs.declared.past.Past.{Past}
-use Rattle.dm_check_answers.specs.Judging.{IsPast}
 use Rattle.dm_check.specs.declared.faults.Fault.{Fault}
 use Rattle.dm_check.specs.declared.faults.Stop.{Stop}
 use Rattle.dm_check.specs.declared.faults.Stop.TheVariants.{Fault as Found, OutOfMemory}
 use Rattle.dm_check.specs.declared.verdicts.BadKind.{BadKind}
 use Rattle.dm_check.specs.declared.verdicts.BadKind.TheVariants as kind
 use Rattle.dm_check.specs.FalseRecords.{bad, Reads, IsNextItem, IsNextPlan, plan_opened, TellsPlanBehind}
-use Rattle.dm_check.specs.Judged.{TellsBlock, ShowsPlan, BehindOn}
-use Rattle.dm_check.proofs.Items.{nothing_named}
+use Rattle.dm_check.specs.Judged.{TellsBlock, ShowsPlan, KeepsItem, BehindOn}
 use Rattle.dm_check.specs.Inside.Blocks.{without_plan, without_plan_at}
 
 -- ---- lines
@@ -295,12 +293,12 @@ module _ (s : Setting) (history : List Entry) (feed : ℕ) (before : List LogIte
   block_stopped mid (Found fault) told = told s history feed before first refl
   block_stopped mid OutOfMemory told = tt
 
-  pub plan_next : (plan : Plan) → ShowsPlan s.version opening old new plan → IsNextItem s history feed before (Answered opening.line opening.said (Planned plan)) →
-      IsPast (before ++ Answered opening.line opening.said (Planned plan) ∷ []) past → BehindOn s history feed before first (planned opening) old new past named named (Ok (tt {0}))
-  plan_next plan shows next past_is = record {
+  pub plan_next : (plan : Plan) (named_too : List Bool) → ShowsPlan s.version opening old new plan → IsNextItem s history feed before (Answered opening.line opening.said (Planned plan)) →
+      KeepsItem before past named named_too (Answered opening.line opening.said (Planned plan)) → BehindOn s history feed before first (planned opening) old new past named named_too (Ok (tt {0}))
+  plan_next plan named_too shows next keeps = record {
     value = Answered opening.line opening.said (Planned plan);
     told = shows.is_next s history feed before first refl next;
-    holds_of = record { past_is = past_is; size = refl; flagged = λ items flagged. nothing_named items (Answered opening.line opening.said (Planned plan)) named (λ n. refl) flagged };
+    holds_of = keeps;
   }
 
   pub plan_untrue : (plan : Plan) → ShowsPlan s.version opening old new plan → (IsNextItem s history feed before (Answered opening.line opening.said (Planned plan)) → ⊥) →

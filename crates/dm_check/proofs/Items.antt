@@ -1,19 +1,25 @@
 -- The next item of a log, by its first line and what stands behind it.
-use Rattle.std.proofs.Common.{◌≡◌, ℕ, ◌+◌, ◌<◌, ◌≤◌, Bool, false, cond, List, [], ◌∷◌, ◌++◌, length, Result, Ok, Err, refl, sym, ap, subst, ◌∙◌, inl, inr, arith, append_assoc, append-nil}
+use Rattle.std.proofs.Common.{◌≡◌, ℕ, ◌+◌, ◌<◌, ◌≤◌, Bool, true, false, cond, Option, Some, List, [], ◌∷◌, ◌++◌, length, Result, Ok, Err, refl, sym, ap, subst, ◌∙◌, inl, inr, arith, append_assoc, append-nil}
 use Rattle.std.specs.Prelude.{nat_lt, count_by}
 use Rattle.std.proofs.lemmas.List.Sums.{sum_by-append}
-use Rattle.dm_text.specs.Places.{Place}
+use Rattle.dm_text.specs.Places.{Place, IsLineAt}
 use Rattle.dm_rows.specs.declared.messages.Entry.{Entry}
 use Rattle.dm_cert.specs.Answers.{Setting}
 use Rattle.dm_cert.specs.Logs.{names}
 use Rattle.dm_cert.specs.declared.replies.LogItem.{LogItem}
-use Rattle.dm_records.specs.RunLines.{ItemLine, lone, IsItemLine}
+use Rattle.dm_records.specs.declared.items.LogLine.{LogLine}
+use Rattle.dm_records.specs.declared.items.LogLine.TheVariants as line_read
+use Rattle.dm_records.specs.declared.items.PlanLine.{PlanLine}
+use Rattle.dm_records.specs.declared.items.SolvedLine.{SolvedLine}
+use Rattle.dm_records.specs.Readings.{IsReadAs, ReadsItem, opening_of, solved_opening_of}
+use Rattle.dm_records.specs.RunLines.{ItemLine, lone, planned, solved, IsItemLine}
 use Rattle.dm_check_answers.specs.declared.past.Past.{Past}
 use Rattle.dm_check_answers.specs.Judging.{IsPast}
 use Rattle.dm_check.specs.declared.faults.Stop.{Stop}
 use Rattle.dm_check.specs.declared.faults.Stop.TheVariants.{Fault as Found, OutOfMemory}
 use Rattle.dm_check.specs.FalseRecords.{Reads, IsNextItem, TellsItem}
-use Rattle.dm_check.specs.Judged.{Judged, AreFlagged, KeepsItem, KeepsItems, BehindOn, ItemOn, ItemsOn}
+use Rattle.dm_check.specs.Judged.{JudgedThat, AreFlagged, KeepsItem, KeepsItems, BehindOn, ItemOn, ItemsOn}
+use Rattle.dm_check.specs.Inside.TrueLogs.{IsNextOn}
 use Rattle.dm_check.proofs.Chained.{HasKept, kept_more, kept_stop, kept_all}
 
 module _ (s : Setting) (history : List Entry) (feed : ℕ) (before : List LogItem) (past : Past) (flags named : List Bool) where
@@ -26,14 +32,47 @@ module _ (s : Setting) (history : List Entry) (feed : ℕ) (before : List LogIte
       by_result (Err (Found fault)) on = inr (record { value = said; behind = mid; told = read; then = on })
       by_result (Err OutOfMemory) on = tt
 
-  pub item_stop : {X : Type 0} (seen : X → ItemLine) (old mid new : Place) (stop : Stop) → Judged (Reads (IsItemLine s.version)) seen old mid (Err stop) →
-      ItemOn s history feed before old new past flags named (Err stop)
-  item_stop seen old mid new (Found fault) read = inl read
-  item_stop seen old mid new OutOfMemory read = tt
+  pub item_stop : (old mid new : Place) (stop : Stop) → JudgedThat (Reads (IsItemLine s.version)) IsReadAs old mid (Err stop) → ItemOn s history feed before old new past flags named (Err stop)
+  item_stop old mid new (Found fault) read = inl read
+  item_stop old mid new OutOfMemory read = tt
+
+  -- an item of one line
+  pub item_whole : (old mid : Place) (first : ℕ) (said : LogLine) (item : LogItem) (result : Result (Unit {0}) Stop) → first ≡ old.line → JudgedThat (Reads (IsItemLine s.version)) IsReadAs old mid (Ok said) →
+      said ≡ line_read.Item item → BehindOn s history feed before first (lone item) mid mid past flags named result → ItemOn s history feed before old mid past flags named result
+  item_whole old mid first said item result at read is on =
+      let r = subst (λ (l : LogLine). JudgedThat (Reads (IsItemLine s.version)) IsReadAs old mid (Ok l)) is read in
+      item_on old mid mid first r.value result at r.told (subst (λ (i : ItemLine). BehindOn s history feed before first i mid mid past flags named result) r.holds_of.0 on)
+
+  pub item_planned : (old mid new : Place) (first : ℕ) (said : LogLine) (opening : PlanLine) (result : Result (Unit {0}) Stop) → first ≡ old.line →
+      JudgedThat (Reads (IsItemLine s.version)) IsReadAs old mid (Ok said) → said ≡ line_read.Planned opening →
+      BehindOn s history feed before first (planned (opening_of opening)) mid new past flags named result → ItemOn s history feed before old new past flags named result
+  item_planned old mid new first said opening result at read is on =
+      let r = subst (λ (l : LogLine). JudgedThat (Reads (IsItemLine s.version)) IsReadAs old mid (Ok l)) is read in
+      item_on old mid new first r.value result at r.told (subst (λ (i : ItemLine). BehindOn s history feed before first i mid new past flags named result) r.holds_of on)
+
+  pub item_solved : (old mid new : Place) (first : ℕ) (said : LogLine) (opening : SolvedLine) (result : Result (Unit {0}) Stop) → first ≡ old.line →
+      JudgedThat (Reads (IsItemLine s.version)) IsReadAs old mid (Ok said) → said ≡ line_read.Solved opening →
+      BehindOn s history feed before first (solved (solved_opening_of opening)) mid new past flags named result → ItemOn s history feed before old new past flags named result
+  item_solved old mid new first said opening result at read is on =
+      let r = subst (λ (l : LogLine). JudgedThat (Reads (IsItemLine s.version)) IsReadAs old mid (Ok l)) is read in
+      item_on old mid new first r.value result at r.told (subst (λ (i : ItemLine). BehindOn s history feed before first i mid new past flags named result) r.holds_of on)
 
   pub lone_next : (first : ℕ) (place : Place) (answered : LogItem) → IsNextItem s history feed before answered → KeepsItem before past flags named answered →
       BehindOn s history feed before first (lone answered) place place past flags named (Ok (tt {0}))
   lone_next first place answered next keeps = record { value = answered; told = (next, refl, refl); holds_of = keeps }
+
+  pub lone_told : (first : ℕ) (place : Place) (answered : LogItem) (b : Bool) → IsNextOn s history feed before answered past flags named b → b ≡ true →
+      BehindOn s history feed before first (lone answered) place place past flags named (Ok (tt {0}))
+  lone_told first place answered b on is =
+      let next = subst (λ (x : Bool). IsNextOn s history feed before answered past flags named x) is on in
+      lone_next first place answered next.0 next.1
+
+-- what is read of a line in memory
+pub line_read_as : (version : ℕ) (old new : Place) (bytes : List ℕ) (value : LogLine) (o : Option LogLine) → IsLineAt old bytes new → ReadsItem version bytes o → o ≡ Some value →
+    JudgedThat (Reads (IsItemLine version)) IsReadAs old new (Ok value)
+line_read_as version old new bytes value o stands reads is =
+    let r = subst (λ (x : Option LogLine). ReadsItem version bytes x) is reads in
+    record { value = r.first; told = record { bytes = bytes; stands = stands; spelled = r.spelled }; holds_of = r.is }
 
 -- ---- flags
 

@@ -12,14 +12,12 @@ use Rattle.dm_cert.specs.PlansRead.{want_of_memory}
 use Rattle.dm_cert.specs.SolvedRead.{TellsSolvedBehind}
 use Rattle.dm_records.specs.RunLines.{SolvedOpening, solved, heading_of, solved_item}
 use Rattle.dm_check_answers.specs.declared.past.Past.{Past}
-use Rattle.dm_check_answers.specs.Judging.{IsPast}
 use Rattle.dm_check.specs.declared.faults.Stop.{Stop}
 use Rattle.dm_check.specs.declared.faults.Stop.TheVariants.{Fault as Found, OutOfMemory}
 use Rattle.dm_check.specs.declared.verdicts.BadKind.TheVariants as kind
 use Rattle.dm_check.specs.FalseRecords.{bad, IsSameKind, InRun, IsNextItem}
-use Rattle.dm_check.specs.Judged.{Judged, BehindOn}
+use Rattle.dm_check.specs.Judged.{Judged, KeepsItem, BehindOn}
 use Rattle.dm_check.specs.Inside.Blocks.{stop_at, stop_of}
-use Rattle.dm_check.proofs.Items.{nothing_named}
 
 -- a fault that is told stops the judgement, and so does want of memory
 module _ {V X : Type 0} (tells : Place → Result (V × Place) CertFault → Type 0) (seen : X → V) (old new : Place) (fault : CertFault) where
@@ -41,12 +39,12 @@ module _ (s : Setting) (history : List Entry) (feed : ℕ) (before : List LogIte
   solution_stopped mid (Found fault) told = inl told
   solution_stopped mid OutOfMemory told = tt
 
-  pub solution_next : (plan : PlanByParts) → TellsSolvedBehind opening.entry (heading_of opening) old (Ok (plan, new)) → IsNextItem s history feed before (solved_item opening plan) →
-      IsPast (before ++ solved_item opening plan ∷ []) past → BehindOn s history feed before first (solved opening) old new past named named (Ok (tt {0}))
-  solution_next plan told next past_is = record {
+  pub solution_next : (plan : PlanByParts) (named_too : List Bool) → TellsSolvedBehind opening.entry (heading_of opening) old (Ok (plan, new)) → IsNextItem s history feed before (solved_item opening plan) →
+      KeepsItem before past named named_too (solved_item opening plan) → BehindOn s history feed before first (solved opening) old new past named named_too (Ok (tt {0}))
+  solution_next plan named_too told next keeps = record {
     value = solved_item opening plan;
     told = record { value = plan; behind = new; told = told; then = (next, refl, refl) };
-    holds_of = record { past_is = past_is; size = refl; flagged = λ items flagged. nothing_named items (solved_item opening plan) named (λ n. refl) flagged };
+    holds_of = keeps;
   }
 
   pub solution_untrue : (plan : PlanByParts) → TellsSolvedBehind opening.entry (heading_of opening) old (Ok (plan, new)) → (IsNextItem s history feed before (solved_item opening plan) → ⊥) →

@@ -29,12 +29,13 @@ use Rattle.dm_parts.specs.declared.parts.PlanByParts.{PlanByParts}
 use Rattle.dm_cert.specs.SolvedTexts.{spelling_of_solved}
 use Rattle.dm_cert.specs.SolvedRead.{solved_heading_text}
 use Rattle.dm_cert.proofs.SolvedTold.{SolvedBehindTold, behind_first, solved_behind_told}
-use Rattle.dm_records.specs.RunLines.{LogOpening, PlanOpening, SolvedOpening, solved_opening_text, ItemLine, lone, planned, solved, Timed, IsNumberLine, IsVersionLine, IsEntryLine, IsOpeningLine, IsItemLine, IsStopLine, IsNoteLine, IsTimeLine, IsWordLine, opening_text, heading_of, solved_item}
+use Rattle.dm_records.specs.RunLines.{PlanOpening, SolvedOpening, solved_opening_text, ItemLine, lone, planned, solved, Timed, IsNumberLine, IsVersionLine, IsEntryLine, IsOpeningLine, IsItemLine, IsStopLine, IsNoteLine, IsTimeLine, IsWordLine, opening_text, heading_of, solved_item}
 use Rattle.dm_records.proofs.LinesSpelled.{numbered, version_line}
 use Rattle.dm_check.specs.declared.faults.Fault.{Fault}
 use Rattle.dm_check.specs.FalseRecords.{bad, Reads, Rules, TellsEntry, TellsItem, TellsBehind, TellsLog, TellsBoards, TellsNote, TellsTime, TellsCost, TellsEnd, TellsNumber, TellsRest, TellsBody, IsNextPlan, IsGood, plan_opened}
 use Rattle.dm_check.specs.Laws.{IsSpelledIn}
 use Rattle.dm_check.specs.declared.verdicts.BadKind.{BadKind}
+use Rattle.dm_records.proofs.ItemLines.{opening_same}
 
 -- ---- several records
 
@@ -224,10 +225,6 @@ item_left : (s : Setting) (history : List Entry) (feed : ℕ) (before : List Log
 item_left s history feed before place answered next told = item_at s history feed before place told.behind told.value answered next told.told told.then
 
 -- ---- logs
-
-pub opening_same : (o : LogOpening) (line : List ℕ) → IsOpeningLine o line → feed_text o.feed o.items ≡ line ++ line_end
-unfolding feed_text
-opening_same o line is = ap (λ xs. codes "feed " ++ xs) (sym (simp (append_assoc, append-nil))) ∙ ap (λ xs. xs ++ line_end) is.spelled
 
 pub log_same : (version n : ℕ) (items : List LogItem) (stop : FeedStop) (rest : List ℕ) →
     log_text version n (record { items = items; stop = stop }) ++ rest ≡ feed_text n (length items) ++ (flat_map (item_text version) items ++ (stop_text stop ++ rest))

@@ -10,6 +10,7 @@ pub mod Logs
 pub mod WholeRuns
 pub mod Limits
 pub mod Numbers
+pub mod TooLarge
 pub mod ToldItems
 pub mod ToldEach
 pub mod OnceNamed

@@ -3,3 +3,4 @@ pub mod Blocks
 pub mod Planning
 pub mod Gathering
 pub mod TrueLogs
+pub mod Sound

@@ -7,6 +7,7 @@ ghost use Rattle.dm_cert.specs.Answers.{rows_after};
 ghost use Rattle.dm_check_rows.specs.Claims.{AreCheckedRowsOf};
 ghost use Rattle.dm_check_answers.specs.Judging.{IsRunSetting, setting_of, history_of, value_of};
 ghost use Rattle.dm_check.specs.FalseRecords.{IsVerdict};
+ghost use Rattle.dm_check.specs.Inside.Sound.{IsSound};
 ghost use Rattle.dm_check.specs.Judged.{AreFlagged, IsHeader, BodyOn, LogsAndRestOn, HistoryOn, RunOn};
 
 use crate::faults::{Fault, Stop};
@@ -48,6 +49,7 @@ fn logs_then_rest_told(
     header: Header,
 ) -> Result<usize, Stop>
     requires setting { IsRunSetting journal.now.setting }
+    requires sound { IsSound (setting_of journal.now.setting) (history_of journal.now) }
     requires goes_over { logs.old.replay.journal ≡ value_of journal.now }
     requires stands { AreCheckedRowsOf journal.now.setting.net.now checked.old }
     requires rows_are { checked.old.rows ≡ rows_after (setting_of journal.now.setting) (history_of journal.now)
@@ -76,6 +78,7 @@ fn logs_and_rest_told(
     header: Header,
 ) -> Result<usize, Stop>
     requires setting { IsRunSetting journal.now.setting }
+    requires sound { IsSound (setting_of journal.now.setting) (history_of journal.now) }
     requires stands { AreCheckedRowsOf journal.now.setting.net.now checked.old }
     requires rows_are { checked.old.rows ≡ rows_after (setting_of journal.now.setting) (history_of journal.now)
         (length (history_of journal.now)) }
@@ -110,6 +113,8 @@ fn entries_then_logs_told(
 {
     let (feeds, entries) = (header.feeds, header.entries);
     let mut checked = checked;
+    setting.net.reveal();
+    setting.start.is_within_limits();
     let history = match all_entries(
         setting.alloc,
         lines,

@@ -5,6 +5,7 @@ ghost use Rattle.dm_check_answers.specs.Claims.{IsSpelledAnswer};
 ghost use Rattle.dm_check_answers.specs.Judging.{IsRunSetting, value_of};
 ghost use Rattle.dm_check.specs.Inside.Gathering.{IsSpelled};
 
+use dm_cert::LogItem;
 use dm_check_answers::{Answered, Journal, Replay};
 use dm_records::{LogLine, item_line};
 use dm_text::Lines;
@@ -89,8 +90,8 @@ fn claimed(item: LogLine) -> Option<Answered>
     ensures { IfSome result IsSpelledAnswer }
 {
     match item {
-        LogLine::Answered { said, answer, .. } => claiming(Answered { said, answer }),
-        LogLine::Malformed(_) | LogLine::Planned(_) | LogLine::Solved(_) => None,
+        LogLine::Item(LogItem::Answered { said, reply, .. }) => claiming(Answered { said, reply }),
+        _ => None,
     }
 }
 

@@ -14,7 +14,7 @@
 //! with the numbers of its entries and plans. Or the verdict is the line and the kind of the first record that breaks its rule.
 //! The text is good exactly where it is, in one of the versions, that of a true run (`specs/Truth`) of the network from these
 //! rows at this penalty and this number of plans. Nothing is asked of the text but its size. `good` does not say that the logs
-//! hold the feeds' bytes, nor that they keep to rounds.
+//! hold the feeds' bytes, nor that they keep to rounds. [`BadKind::word`] gives the word of a kind of fault.
 //!
 //! [`are_true_logs`] tells exactly whether logs are true of entries (`AreTrueLogs`), as both stand in memory, or it wants memory.
 //! It takes no text and makes none. It asks that the logs are of at most 64 feeds, and that their items have a spelling. It does
@@ -42,7 +42,6 @@ pub mod laws;
 mod logged_claims;
 mod named;
 mod planning;
-mod replies;
 mod told_entries;
 mod told_items;
 mod told_lines;

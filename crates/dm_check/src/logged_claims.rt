@@ -1,15 +1,12 @@
 //! What the answers of logs in memory claim of rows, found before they are judged.
 ghost use Rattle.std.specs.Prelude.{◌≡◌, All, IfOk, IfSome};
-ghost use Rattle.dm_feed.specs.Lines.{IsSpelledLine};
-ghost use Rattle.dm_cert.specs.RunTexts.{IsSpelledItem, IsSpelledLog, IsSpelledReply};
+ghost use Rattle.dm_cert.specs.RunTexts.{IsSpelledItem, IsSpelledLog};
 ghost use Rattle.dm_check_answers.specs.Claims.{IsSpelledAnswer};
 ghost use Rattle.dm_check_answers.specs.Judging.{IsRunSetting, value_of};
 
 use crate::gathering::pushed;
-use crate::replies::{Told, copy_of_line, told_in};
-use dm_cert::{FeedLog, LogItem, Reply};
+use dm_cert::{FeedLog, LogItem};
 use dm_check_answers::{Answered, Journal, Replay};
-use dm_feed::Line;
 use std::alloc::{AllocError, Global};
 
 /// The rows before the first entry. Where there are several logs, what their answers claim of rows is judged first, all claims in
@@ -101,35 +98,6 @@ fn claim_in(alloc: Global, item: &LogItem) -> Result<Option<Answered>, AllocErro
             line: _,
             said,
             reply,
-        } => claimed(alloc, said, reply),
-    }
-}
-
-/// What the reply to a line claims of rows.
-fn claimed(alloc: Global, said: &Line, reply: &Reply) -> Result<Option<Answered>, AllocError>
-    requires said { IsSpelledLine said.now }
-    requires reply { IsSpelledReply reply.now }
-    ensures { IfOk result (λ found. IfSome found IsSpelledAnswer) }
-{
-    if !claims_something(said, reply) {
-        return Ok(None);
-    }
-    match told_in(alloc, reply) {
-        Ok(Told::Answer(answer)) => Ok(Some(Answered {
-            said: copy_of_line(said),
-            answer,
-        })),
-        Ok(Told::Plan(_)) | Ok(Told::Solved(_)) => Ok(None),
-        Err(AllocError) => Err(AllocError),
-    }
-}
-
-/// Whether the reply to a line claims something of rows.
-fn claims_something(said: &Line, reply: &Reply) -> bool {
-    match (said, reply) {
-        (Line::Say(_), Reply::Refused(_)) => true,
-        (Line::Time(_), Reply::Time(_, _)) => true,
-        (Line::CostNow, Reply::Cost(_, _)) => true,
-        _ => false,
+        } => Answered::copied(alloc, said, reply),
     }
 }

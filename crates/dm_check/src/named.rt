@@ -7,7 +7,6 @@ ghost use Rattle.dm_cert.specs.declared.replies.LogItem.TheVariants.{Answered};
 ghost use Rattle.dm_cert.specs.declared.replies.FeedLog.{FeedLog};
 ghost use Rattle.dm_cert.specs.Logs.{all_items};
 ghost use Rattle.dm_check_rows.specs.Claims.{Tells};
-ghost use Rattle.dm_records.specs.Readings.{reply_of};
 ghost use Rattle.dm_check.specs.FalseRecords.{TellsBoards};
 ghost use Rattle.dm_check.specs.Judged.{AreFlagged, IsFlaggedAt, Judges};
 
@@ -15,19 +14,20 @@ use crate::faults::Fault;
 use crate::told_lines::number_told;
 use crate::verdicts::BadKind;
 use dm_base::limits::BOARDS;
-use dm_records::Answer;
+use dm_cert::Reply;
 use dm_text::Lines;
 
-/// Flags the entry that an answer names as accepted.
-pub(crate) fn flag_named(named: &mut Vec<bool>, answer: &Answer)
+/// Flags the entry that a reply names as accepted.
+pub(crate) fn flag_named(named: &mut Vec<bool>, reply: &Reply)
     ensures flagged { (items : List LogItem) (line : ℕ) (said : Said) → AreFlagged items named.old.items
-        → AreFlagged (items ++ Answered line said (reply_of answer.now) ∷ []) named.new.items }
+        → AreFlagged (items ++ Answered line said reply.now ∷ []) named.new.items }
     ensures size { length named.new.items ≡ length named.old.items }
 {
-    match answer {
-        Answer::Ok(n) => flag(named, *n),
-        Answer::Read(_) | Answer::Old(_) | Answer::Time(_, _) | Answer::Cost(_, _) => (),
-        Answer::Refused(_, _) | Answer::NoPlan | Answer::Plans | Answer::Range(_) => (),
+    match reply {
+        Reply::Ok(n) => flag(named, *n),
+        Reply::Read(_) | Reply::Old(_) | Reply::Time(_, _) | Reply::Cost(_, _) => (),
+        Reply::Refused(_) | Reply::NoPlan | Reply::Plans | Reply::Range(_) => (),
+        Reply::Planned(_) | Reply::Solved(_) => (),
     }
 }
 

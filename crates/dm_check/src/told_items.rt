@@ -1,36 +1,36 @@
 //! The items of a log. Each must be true, and in order after those before it.
-ghost use Rattle.std.specs.Prelude.{ℕ, ◌≡◌, ◌<◌, ◌≤◌, List, [], ◌∷◌, ◌++◌, Bool, true, Ok, IfOk, OnOk};
+ghost use Rattle.std.specs.Prelude.{ℕ, ◌≡◌, ◌<◌, ◌≤◌, List, [], ◌∷◌, ◌++◌, Bool, true, false, Ok, IfOk, OnOk};
 ghost use Rattle.dm_cert.specs.declared.limits.TheConstants.{PLANS};
 ghost use Rattle.dm_feed.specs.Lines.{IsSpelledLine};
 ghost use Rattle.dm_feed.specs.declared.grammar.Line.{Line as Said};
 ghost use Rattle.dm_text.specs.Places.{Place};
-ghost use Rattle.dm_rows.specs.declared.messages.Entry.{Entry as EntryValue};
 ghost use Rattle.dm_tree.specs.Plans.{chosen};
 ghost use Rattle.dm_parts.specs.declared.kinds.AnyPlan.{AnyPlan as Given};
 ghost use Rattle.dm_parts.specs.Kinds.{chosen_of};
 ghost use Rattle.dm_parts.specs.Sizes.{ids_of, most_ids};
-ghost use Rattle.dm_cert.specs.Answers.{Setting, reply_with};
+ghost use Rattle.dm_cert.specs.Answers.{is_plan_reply, reply_with};
+ghost use Rattle.dm_cert.specs.RunTexts.{IsSpelledItem};
 ghost use Rattle.dm_cert.specs.SolvedRead.{TellsSolvedBehind};
-ghost use Rattle.dm_cert.specs.declared.replies.LogItem.{LogItem};
-ghost use Rattle.dm_cert.specs.declared.replies.LogItem.TheVariants.{Malformed, Answered};
+ghost use Rattle.dm_cert.specs.declared.replies.LogItem.{LogItem as Item};
+ghost use Rattle.dm_cert.specs.declared.replies.LogItem.TheVariants.{Answered};
 ghost use Rattle.dm_cert.specs.declared.replies.Reply.TheVariants.{Planned as PlanReply, Solved as SolvedReply};
 ghost use Rattle.dm_records.specs.RunLines.{lone, planned, solved, heading_of};
-ghost use Rattle.dm_records.specs.Readings.{reply_of, opening_of, solved_opening_of};
+ghost use Rattle.dm_records.specs.Readings.{opening_of, solved_opening_of};
 ghost use Rattle.dm_check_rows.specs.Claims.{Tells};
 ghost use Rattle.dm_check_answers.specs.Judging.{IsPast};
 ghost use Rattle.dm_check.specs.FalseRecords.{IsNextItem};
+ghost use Rattle.dm_check.specs.Inside.Sound.{IsSound};
 ghost use Rattle.dm_check.specs.Judged.{BehindOn, ItemOn, ItemsOn, ShowsPlan};
 
 use crate::faults::{Fault, Stop};
-use crate::named::flag_named;
 use crate::planning::{is_true_plan_answer, is_true_solution};
 use crate::told_lines::item_told;
 use crate::told_plans::{block_told, solved_told};
 use crate::verdicts::BadKind;
+use dm_cert::{LogItem, Reply};
 use dm_check_answers::{Asked, Past, Replay};
-use dm_feed::Line;
 use dm_parts::PlanByParts;
-use dm_records::{Answer, LogLine, PlanLine, SolvedLine};
+use dm_records::{LogLine, PlanLine, SolvedLine};
 use dm_rows::Decision;
 use dm_text::Lines;
 use dm_tree::{Chosen, Plan};
@@ -55,21 +55,22 @@ impl Drop for Logs<'_> {
 pub(crate) fn is_next_answer(
     replay: &mut Replay<'_>,
     asked: &Asked<'_>,
-    answer: &Answer,
+    reply: &Reply,
 ) -> Result<bool, AllocError>
-    requires { IsSpelledLine asked.now.said.now }
-    ensures tells { (before : List LogItem) → IsPast before asked.now.past.now
+    requires said { IsSpelledLine asked.now.said.now }
+    requires one_line { is_plan_reply reply.now ≡ false }
+    ensures tells { (before : List Item) → IsPast before asked.now.past.now
         → IfOk result (Tells (IsNextItem replay.old.journal.setting replay.old.journal.history asked.now.feed before
-        (Answered asked.now.line asked.now.said.now (reply_of answer.now)))) }
+        (Answered asked.now.line asked.now.said.now reply.now))) }
     ensures same { replay.new.journal ≡ replay.old.journal }
 {
     if !asked.past.is_next_line(asked.line) {
         return Ok(false);
     }
-    if !asked.past.is_in_order(answer) {
+    if !asked.past.is_in_order(reply) {
         return Ok(false);
     }
-    replay.is_true_answer(asked, answer)
+    replay.is_true_answer(asked, reply)
 }
 
 /// Whether a plan is the next item of a feed's log.
@@ -78,7 +79,7 @@ pub(crate) fn is_next_plan(
     asked: &Asked<'_>,
     plan: &Plan,
 ) -> Result<bool, AllocError>
-    ensures tells { (before : List LogItem) → IsPast before asked.now.past.now
+    ensures tells { (before : List Item) → IsPast before asked.now.past.now
         → IfOk result (Tells (IsNextItem replay.old.journal.setting replay.old.journal.history asked.now.feed before
         (Answered asked.now.line asked.now.said.now (PlanReply plan.now)))) }
     ensures fewer { result ≡ Ok true → asked.now.past.now.plans < PLANS }
@@ -100,7 +101,7 @@ pub(crate) fn is_next_solution(
     plan: &PlanByParts,
 ) -> Result<bool, AllocError>
     requires few { ids_of plan.now.parts ≤ most_ids }
-    ensures tells { (before : List LogItem) → IsPast before asked.now.past.now
+    ensures tells { (before : List Item) → IsPast before asked.now.past.now
         → IfOk result (Tells (IsNextItem replay.old.journal.setting replay.old.journal.history asked.now.feed before
         (Answered asked.now.line asked.now.said.now (SolvedReply plan.now)))) }
     ensures fewer { result ≡ Ok true → asked.now.past.now.plans < PLANS }
@@ -124,7 +125,7 @@ pub(crate) fn keep_plan(
     choices: &[Decision],
 ) -> Result<(), AllocError>
     requires { past.old.plans < PLANS }
-    ensures { OnOk result ((before : List LogItem) (said : Said) (given : Given) → chosen_of given ≡ chosen entry choices.now
+    ensures { OnOk result ((before : List Item) (said : Said) (given : Given) → chosen_of given ≡ chosen entry choices.now
         → IsPast before past.old → IsPast (before ++ Answered line said (reply_with given) ∷ []) past.new) }
 {
     match Chosen::copied(alloc, entry, choices) {
@@ -136,50 +137,23 @@ pub(crate) fn keep_plan(
     }
 }
 
-/// A malformed line, as the next item.
-fn malformed_told(past: &mut Past, first: u32, number: u32) -> Result<(), Stop>
-    ensures { (s : Setting) (history : List EntryValue) (feed : ℕ) (before : List LogItem) (place : Place) (named : List Bool)
-        → IsPast before past.old → BehindOn s history feed before first (lone (Malformed number)) place place past.new named named result }
-{
-    if !past.is_next_line(number) {
-        return Err(Stop::Fault(Fault {
-            line: first,
-            kind: BadKind::Reply,
-        }));
-    }
-    past.add_malformed(number);
-    Ok(())
-}
-
 impl<'j> Logs<'j> {
-    /// An answer of one line, as the next item of the log of this feed.
-    fn answer_told(
+    /// An item of one line, as the next item of the log of this feed.
+    fn whole_told(
         &mut self,
         past: &mut Past,
         feed: u32,
         first: u32,
-        line: u32,
-        said: &Line,
-        answer: &Answer,
+        item: &LogItem,
     ) -> Result<(), Stop>
-        requires { IsSpelledLine said.now }
-        ensures tells { (before : List LogItem) (place : Place) → IsPast before past.old
+        requires { IsSpelledItem item.now }
+        ensures tells { (before : List Item) (place : Place) → IsPast before past.old
             → BehindOn self.old.replay.journal.setting self.old.replay.journal.history feed before first
-            (lone (Answered line said.now (reply_of answer.now))) place place past.new self.old.named.items self.new.named.items result }
+            (lone item.now) place place past.new self.old.named.items self.new.named.items result }
         ensures same { self.new.replay.journal ≡ self.old.replay.journal }
     {
-        let asked = Asked {
-            past: &*past,
-            feed,
-            line,
-            said,
-        };
-        match is_next_answer(&mut self.replay, &asked, answer) {
-            Ok(true) => {
-                past.add_answer(line, answer);
-                flag_named(&mut self.named, answer);
-                Ok(())
-            }
+        match self.is_true_item(past, feed, item) {
+            Ok(true) => Ok(()),
             Ok(false) => Err(Stop::Fault(Fault {
                 line: first,
                 kind: BadKind::Reply,
@@ -197,32 +171,18 @@ impl<'j> Logs<'j> {
         opening: &PlanLine,
         plan: Plan,
     ) -> Result<(), Stop>
-        ensures tells { (before : List LogItem) (old new : Place)
+        ensures tells { (before : List Item) (old new : Place)
             → ShowsPlan self.old.replay.journal.setting.version (opening_of opening.now) old new plan → IsPast before past.old
             → BehindOn self.old.replay.journal.setting self.old.replay.journal.history feed before first (planned (opening_of opening.now))
             old new past.new self.old.named.items self.new.named.items result }
         ensures same { self.new.replay.journal ≡ self.old.replay.journal }
     {
-        let line = opening.line;
-        let asked = Asked {
-            past: &*past,
-            feed,
-            line,
-            said: &opening.said,
-        };
-        match is_next_plan(&mut self.replay, &asked, &plan) {
-            Ok(true) => {}
-            Ok(false) => {
-                return Err(Stop::Fault(Fault {
-                    line: first,
-                    kind: BadKind::Plan,
-                }));
-            }
-            Err(AllocError) => return Err(Stop::OutOfMemory),
-        }
-        let alloc = self.replay.journal().setting.alloc;
-        match keep_plan(alloc, past, line, plan.entry, plan.choices.as_slice()) {
-            Ok(()) => Ok(()),
+        match self.is_true_plan(past, feed, opening.line, &opening.said, &plan) {
+            Ok(true) => Ok(()),
+            Ok(false) => Err(Stop::Fault(Fault {
+                line: first,
+                kind: BadKind::Plan,
+            })),
             Err(AllocError) => Err(Stop::OutOfMemory),
         }
     }
@@ -237,32 +197,18 @@ impl<'j> Logs<'j> {
         plan: PlanByParts,
     ) -> Result<(), Stop>
         requires few { ids_of plan.parts ≤ most_ids }
-        ensures tells { (before : List LogItem) (old new : Place)
+        ensures tells { (before : List Item) (old new : Place)
             → TellsSolvedBehind opening.now.entry (heading_of (solved_opening_of opening.now)) old (Ok (plan, new)) → IsPast before past.old
             → BehindOn self.old.replay.journal.setting self.old.replay.journal.history feed before first
             (solved (solved_opening_of opening.now)) old new past.new self.old.named.items self.new.named.items result }
         ensures same { self.new.replay.journal ≡ self.old.replay.journal }
     {
-        let line = opening.line;
-        let asked = Asked {
-            past: &*past,
-            feed,
-            line,
-            said: &opening.said,
-        };
-        match is_next_solution(&mut self.replay, &asked, &plan) {
-            Ok(true) => {}
-            Ok(false) => {
-                return Err(Stop::Fault(Fault {
-                    line: first,
-                    kind: BadKind::Plan,
-                }));
-            }
-            Err(AllocError) => return Err(Stop::OutOfMemory),
-        }
-        let alloc = self.replay.journal().setting.alloc;
-        match keep_plan(alloc, past, line, plan.entry, plan.choices.as_slice()) {
-            Ok(()) => Ok(()),
+        match self.is_true_solution(past, feed, opening.line, &opening.said, &plan) {
+            Ok(true) => Ok(()),
+            Ok(false) => Err(Stop::Fault(Fault {
+                line: first,
+                kind: BadKind::Plan,
+            })),
             Err(AllocError) => Err(Stop::OutOfMemory),
         }
     }
@@ -276,7 +222,7 @@ impl<'j> Logs<'j> {
         first: u32,
         opening: &SolvedLine,
     ) -> Result<(), Stop>
-        ensures tells { (before : List LogItem) → IsPast before past.old
+        ensures tells { (before : List Item) → IsPast before past.old
             → BehindOn self.old.replay.journal.setting self.old.replay.journal.history feed before first
             (solved (solved_opening_of opening.now)) lines.old lines.new past.new self.old.named.items self.new.named.items result }
         ensures same { self.new.replay.journal ≡ self.old.replay.journal }
@@ -298,7 +244,7 @@ impl<'j> Logs<'j> {
         opening: &PlanLine,
     ) -> Result<(), Stop>
         requires { 1 ≤ lines.old.line }
-        ensures tells { (before : List LogItem) → IsPast before past.old
+        ensures tells { (before : List Item) → IsPast before past.old
             → BehindOn self.old.replay.journal.setting self.old.replay.journal.history feed before first (planned (opening_of opening.now))
             lines.old lines.new past.new self.old.named.items self.new.named.items result }
         ensures same { self.new.replay.journal ≡ self.old.replay.journal }
@@ -324,7 +270,8 @@ impl<'j> Logs<'j> {
 
     /// The next item of the log of this feed.
     fn next_item(&mut self, lines: &mut Lines, past: &mut Past, feed: u32) -> Result<(), Stop>
-        ensures tells { (before : List LogItem) → IsPast before past.old
+        requires { IsSound self.old.replay.journal.setting self.old.replay.journal.history }
+        ensures tells { (before : List Item) → IsPast before past.old
             → ItemOn self.old.replay.journal.setting self.old.replay.journal.history feed before lines.old lines.new past.new
             self.old.named.items self.new.named.items result }
         ensures same { self.new.replay.journal ≡ self.old.replay.journal }
@@ -336,10 +283,11 @@ impl<'j> Logs<'j> {
             Err(stop) => return Err(stop),
         };
         match &said {
-            LogLine::Malformed(number) => malformed_told(past, first, *number),
-            LogLine::Answered { line, said, answer } => {
-                self.answer_told(past, feed, first, *line, said, answer)
-            }
+            LogLine::Item(item) => self.whole_told(past, feed, first, item),
+            LogLine::TooLarge => Err(Stop::Fault(Fault {
+                line: first,
+                kind: BadKind::Reply,
+            })),
             LogLine::Planned(opening) => self.plan_told(lines, past, feed, first, opening),
             LogLine::Solved(opening) => self.solution_told(lines, past, feed, first, opening),
         }
@@ -352,6 +300,7 @@ impl<'j> Logs<'j> {
         feed: u32,
         count: u128,
     ) -> Result<usize, Stop>
+        requires { IsSound self.old.replay.journal.setting self.old.replay.journal.history }
         ensures tells { ItemsOn self.old.replay.journal.setting self.old.replay.journal.history feed count lines.old lines.new
             self.old.named.items self.new.named.items result }
         ensures same { self.new.replay.journal ≡ self.old.replay.journal }

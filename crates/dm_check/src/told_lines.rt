@@ -1,9 +1,9 @@
 //! The next line of a text, read as each kind of record. A line that is cut or misshapen stops the judgement.
 ghost use Rattle.dm_cert.specs.PlanTexts.{IsVersion};
 ghost use Rattle.dm_records.specs.RunLines.{IsNumberLine, IsVersionLine, IsEntryLine, IsOpeningLine, IsStopLine, IsNoteLine, IsTimeLine, IsWordLine, IsItemLine};
-ghost use Rattle.dm_records.specs.Readings.{numbered, opening, note, timed, item_of};
+ghost use Rattle.dm_records.specs.Readings.{numbered, opening, note, timed, IsReadAs};
 ghost use Rattle.dm_check.specs.FalseRecords.{Reads};
-ghost use Rattle.dm_check.specs.Judged.{Judges, Judged};
+ghost use Rattle.dm_check.specs.Judged.{Judges, Judged, JudgedThat};
 
 use crate::faults::{Fault, Stop};
 use crate::verdicts::BadKind;
@@ -179,7 +179,7 @@ pub(crate) fn entry_told(alloc: Global, lines: &mut Lines) -> Result<EntryLine, 
 /// The first line of a log's item, in a version.
 pub(crate) fn item_told(alloc: Global, lines: &mut Lines, version: u32) -> Result<LogLine, Stop>
     requires { IsVersion version }
-    ensures { Judged (Reads (IsItemLine version)) item_of lines.old lines.new result }
+    ensures { JudgedThat (Reads (IsItemLine version)) IsReadAs lines.old lines.new result }
 {
     let line = lines.line();
     let Some(bytes) = lines.next_line() else {

@@ -5,6 +5,7 @@ ghost use Rattle.dm_cert.specs.declared.replies.FeedLog.{FeedLog};
 ghost use Rattle.dm_records.specs.RunLines.{IsOpeningLine};
 ghost use Rattle.dm_check.specs.declared.verdicts.BadKind.TheVariants.{Form};
 ghost use Rattle.dm_check.specs.FalseRecords.{Rules};
+ghost use Rattle.dm_check.specs.Inside.Sound.{IsSound};
 ghost use Rattle.dm_check.specs.Judged.{AreFlagged, Judges, LogOn, LogsOn};
 
 use crate::faults::{Fault, Stop};
@@ -34,6 +35,7 @@ fn feed_told(lines: &mut Lines, feed: u32) -> Result<u128, Fault>
 impl<'j> Logs<'j> {
     /// The log of this feed, and how many plans there are in it.
     fn next_log(&mut self, lines: &mut Lines, feed: u32) -> Result<usize, Stop>
+        requires { IsSound self.old.replay.journal.setting self.old.replay.journal.history }
         ensures tells { (before : List FeedLog) → length before + 1 ≡ feed
             → LogOn self.old.replay.journal.setting self.old.replay.journal.history before lines.old lines.new
             self.old.named.items self.new.named.items result }
@@ -56,6 +58,7 @@ impl<'j> Logs<'j> {
     /// The logs of so many feeds, and how many plans there are in them.
     pub(crate) fn all_logs(&mut self, lines: &mut Lines, feeds: usize) -> Result<usize, Stop>
         requires few { feeds ≤ FEEDS }
+        requires sound { IsSound self.old.replay.journal.setting self.old.replay.journal.history }
         requires none { AreFlagged [] self.old.named.items }
         ensures tells { LogsOn self.old.replay.journal.setting self.old.replay.journal.history feeds lines.old lines.new
             self.old.named.items self.new.named.items result }

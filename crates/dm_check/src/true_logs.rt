@@ -1,5 +1,5 @@
 //! Logs that are judged as they stand in memory.
-ghost use Rattle.std.specs.Prelude.{ℕ, ◌≡◌, ◌+◌, ◌<◌, ◌≤◌, List, [], ◌↔◌, Bool, IsTrue, All, length, IfOk};
+ghost use Rattle.std.specs.Prelude.{ℕ, ◌≡◌, ◌+◌, ◌<◌, ◌≤◌, List, [], ◌↔◌, Bool, false, IsTrue, All, length, IfOk};
 ghost use Rattle.dm_base.specs.declared.limits.TheConstants.{FEEDS, PENALTY};
 ghost use Rattle.dm_rows.specs.declared.messages.Entry.{Entry as EntryValue};
 ghost use Rattle.dm_rows.specs.Rows.{IsSized};
@@ -9,24 +9,21 @@ ghost use Rattle.dm_cert.specs.declared.limits.TheConstants.{PLANS};
 ghost use Rattle.dm_cert.specs.declared.replies.LogItem.{LogItem as Item};
 ghost use Rattle.dm_cert.specs.declared.replies.LogItem.TheVariants.{Malformed, Answered};
 ghost use Rattle.dm_cert.specs.declared.replies.Reply.TheVariants.{Planned, Solved};
-ghost use Rattle.dm_cert.specs.Answers.{Setting};
+ghost use Rattle.dm_cert.specs.Answers.{Setting, is_plan_reply};
 ghost use Rattle.dm_cert.specs.Logs.{AreTrueLogs};
 ghost use Rattle.dm_cert.specs.RunTexts.{IsSpelledItem, IsSpelledLog, IsSpelledReply};
-ghost use Rattle.dm_records.specs.Readings.{reply_of};
 ghost use Rattle.dm_check_answers.specs.Judging.{IsPast, IsRunSetting, setting_of};
 ghost use Rattle.dm_check.specs.Judged.{AreFlagged};
 ghost use Rattle.dm_check.specs.Inside.TrueLogs.{IsNextOn, LogIsOn};
 
 use crate::logged_claims::replay_over;
 use crate::named::{are_all, flag_named};
-use crate::replies::{Told, told_in};
 use crate::told_items::{Logs, is_next_answer, is_next_plan, is_next_solution, keep_plan};
 use dm_cert::{FeedLog, LogItem, Reply};
 use dm_check_answers::{Asked, Journal, Past, RunSetting};
 use dm_feed::Line;
 use dm_network::Network;
 use dm_parts::PlanByParts;
-use dm_records::Answer;
 use dm_rows::{Entry, Rows};
 use dm_tree::Plan;
 use std::alloc::{AllocError, Global};
@@ -102,19 +99,20 @@ fn is_true_malformed(past: &mut Past, line: u32) -> bool
 }
 
 impl<'j> Logs<'j> {
-    /// Whether an answer of one line is the next item of the log of this feed.
+    /// Whether a reply of one line is the next item of the log of this feed.
     fn is_true_answer(
         &mut self,
         past: &mut Past,
         feed: u32,
         line: u32,
         said: &Line,
-        answer: &Answer,
+        reply: &Reply,
     ) -> Result<bool, AllocError>
-        requires { IsSpelledLine said.now }
+        requires said { IsSpelledLine said.now }
+        requires one_line { is_plan_reply reply.now ≡ false }
         ensures tells { (before : List Item) → IsPast before past.old
             → IfOk result (IsNextOn self.old.replay.journal.setting self.old.replay.journal.history feed before
-            (Answered line said.now (reply_of answer.now)) past.new self.old.named.items self.new.named.items) }
+            (Answered line said.now reply.now) past.new self.old.named.items self.new.named.items) }
         ensures same { self.new.replay.journal ≡ self.old.replay.journal }
     {
         let asked = Asked {
@@ -123,10 +121,10 @@ impl<'j> Logs<'j> {
             line,
             said,
         };
-        match is_next_answer(&mut self.replay, &asked, answer) {
+        match is_next_answer(&mut self.replay, &asked, reply) {
             Ok(true) => {
-                past.add_answer(line, answer);
-                flag_named(&mut self.named, answer);
+                past.add_answer(line, reply);
+                flag_named(&mut self.named, reply);
                 Ok(true)
             }
             Ok(false) => Ok(false),
@@ -135,7 +133,7 @@ impl<'j> Logs<'j> {
     }
 
     /// Whether a plan is the next item of the log of this feed.
-    fn is_true_plan(
+    pub(crate) fn is_true_plan(
         &mut self,
         past: &mut Past,
         feed: u32,
@@ -143,7 +141,6 @@ impl<'j> Logs<'j> {
         said: &Line,
         plan: &Plan,
     ) -> Result<bool, AllocError>
-        requires { IsSpelledLine said.now }
         ensures tells { (before : List Item) → IsPast before past.old
             → IfOk result (IsNextOn self.old.replay.journal.setting self.old.replay.journal.history feed before
             (Answered line said.now (Planned plan.now)) past.new self.old.named.items self.new.named.items) }
@@ -168,7 +165,7 @@ impl<'j> Logs<'j> {
     }
 
     /// Whether a plan by parts is the next item of the log of this feed.
-    fn is_true_solution(
+    pub(crate) fn is_true_solution(
         &mut self,
         past: &mut Past,
         feed: u32,
@@ -176,8 +173,7 @@ impl<'j> Logs<'j> {
         said: &Line,
         plan: &PlanByParts,
     ) -> Result<bool, AllocError>
-        requires said { IsSpelledLine said.now }
-        requires few { ids_of plan.now.parts ≤ most_ids }
+        requires { ids_of plan.now.parts ≤ most_ids }
         ensures tells { (before : List Item) → IsPast before past.old
             → IfOk result (IsNextOn self.old.replay.journal.setting self.old.replay.journal.history feed before
             (Answered line said.now (Solved plan.now)) past.new self.old.named.items self.new.named.items) }
@@ -217,17 +213,15 @@ impl<'j> Logs<'j> {
             (Answered line said.now reply.now) past.new self.old.named.items self.new.named.items) }
         ensures same { self.new.replay.journal ≡ self.old.replay.journal }
     {
-        let alloc = self.replay.journal().setting.alloc;
-        match told_in(alloc, reply) {
-            Ok(Told::Answer(answer)) => self.is_true_answer(past, feed, line, said, &answer),
-            Ok(Told::Plan(plan)) => self.is_true_plan(past, feed, line, said, plan),
-            Ok(Told::Solved(plan)) => self.is_true_solution(past, feed, line, said, plan),
-            Err(AllocError) => Err(AllocError),
+        match reply {
+            Reply::Planned(plan) => self.is_true_plan(past, feed, line, said, plan),
+            Reply::Solved(plan) => self.is_true_solution(past, feed, line, said, plan),
+            _ => self.is_true_answer(past, feed, line, said, reply),
         }
     }
 
     /// Whether an item is the next one of the log of this feed.
-    fn is_true_item(
+    pub(crate) fn is_true_item(
         &mut self,
         past: &mut Past,
         feed: u32,

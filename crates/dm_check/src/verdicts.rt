@@ -1,4 +1,5 @@
 //! What is told of a text.
+ghost use Rattle.std.specs.Prelude.{◌≡◌};
 
 /// What is wrong with a record.
 #[derive(Clone, Copy, PartialEq, Eq)]
@@ -29,6 +30,27 @@ pub enum BadKind {
 
     /// The final cost is not that of the rows.
     Cost,
+}
+
+impl BadKind {
+    ghost use Rattle.dm_check.specs.KindWords.{kind_word};
+
+    /// What is wrong, in a word.
+    pub fn word(self) -> &'static str
+        ensures { result.now ≡ kind_word self }
+    {
+        match self {
+            BadKind::Form => "form",
+            BadKind::Truncated => "truncated",
+            BadKind::Entry => "entry",
+            BadKind::Reply => "reply",
+            BadKind::Plan => "plan",
+            BadKind::Unnamed => "unnamed",
+            BadKind::Board => "board",
+            BadKind::Time => "time",
+            BadKind::Cost => "cost",
+        }
+    }
 }
 
 /// What is told of a text.

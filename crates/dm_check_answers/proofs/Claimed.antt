@@ -3,7 +3,6 @@ use Rattle.std.proofs.Common.{◌≡◌, ℕ, ◌<◌, Bool, List, length, Optio
 use Rattle.std.specs.Prelude.{slice_set, slice_index_or, All, IfSome}
 use Rattle.std.proofs.lemmas.Bool.{cases_eq}
 use Rattle.dm_rows.specs.declared.messages.Entry.{Entry}
-use Rattle.dm_records.specs.Readings.{reply_of}
 use Rattle.dm_cert.specs.Answers.{Setting}
 use Rattle.dm_check_rows.specs.Claims.{Tells}
 use Rattle.dm_check_answers.specs.Claims.{IsTrueClaim, IsSpelledAnswer, AreRightly, IsKnown}
@@ -11,7 +10,7 @@ use Rattle.dm_check_answers.specs.declared.claims.Answered.{Answered}
 use Rattle.dm_check_answers.specs.declared.known.Known.{Known}
 
 abbrev IsTrue : Setting → List Entry → Answered → Type 0
-IsTrue s history a = IsTrueClaim s history a.said (reply_of a.answer)
+IsTrue s history a = IsTrueClaim s history a.said a.reply
 
 module _ (s : Setting) (history : List Entry) (claims : List Answered) where
   pub one_judged : (verdicts : List (Option Bool)) (place : ℕ) (c : Answered) (b : Bool) → place < length verdicts → slice_get claims place ≡ Some c → Tells (IsTrue s history c) b → AreRightly s history claims verdicts →

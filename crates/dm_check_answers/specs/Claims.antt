@@ -7,7 +7,6 @@ use Rattle.dm_feed.specs.declared.grammar.Line.TheVariants.{Say, Time as AskTime
 use Rattle.dm_cert.specs.declared.replies.Reply.{Reply}
 use Rattle.dm_cert.specs.declared.replies.Reply.TheVariants.{Refused, Time, Cost}
 use Rattle.dm_cert.specs.Answers.{Setting, IsTimeAt, IsCostAt, IsRefused}
-use Rattle.dm_records.specs.Readings.{reply_of}
 use Rattle.dm_check_rows.specs.Claims.{Tells}
 use Rattle.dm_check_answers.specs.declared.claims.Answered.{Answered}
 use Rattle.dm_check_answers.specs.declared.known.Known.{Known}
@@ -34,7 +33,7 @@ IsSpelledAnswer a = IsSpelledLine a.said
 abbrev pub AreRightly : Setting → List Entry → List Answered → List (Option Bool) → Type 0
 AreRightly s history claims verdicts =
     (k : ℕ) (a : Answered) → slice_get claims k ≡ Some a →
-    IfSome (slice_index_or verdicts k None) (Tells (IsTrueClaim s history a.said (reply_of a.answer)))
+    IfSome (slice_index_or verdicts k None) (Tells (IsTrueClaim s history a.said a.reply))
 
 -- the lines of the claims are spelled, and the verdicts are right
 pub record IsKnown (s : Setting) (history : List Entry) (known : Known) : Type 0 where

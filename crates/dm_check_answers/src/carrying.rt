@@ -3,15 +3,14 @@ ghost use Rattle.std.specs.Prelude.{◌≡◌, ◌≤◌, ◌<◌, List, length,
 ghost use Rattle.dm_feed.specs.declared.grammar.Line.TheVariants.{Carry as AskCarry};
 ghost use Rattle.dm_cert.specs.declared.replies.LogItem.{LogItem};
 ghost use Rattle.dm_cert.specs.Answers.{IsCarried, IsRefused, IsTrueReply, carried};
-ghost use Rattle.dm_records.specs.Readings.{reply_of, reason_of};
 ghost use Rattle.dm_check_rows.specs.Claims.{Tells};
 ghost use Rattle.dm_check_answers.specs.Judging.{IsPast};
 
 use crate::asked::Asked;
 use crate::matching::is_entered;
 use crate::replay::Replay;
-use dm_records::{Answer, Reason};
-use dm_rows::{Decision, Message, free_among};
+use dm_cert::Reply;
+use dm_rows::{Decision, Message, Refusal, free_among};
 use std::alloc::AllocError;
 
 impl<'a> Replay<'a> {
@@ -19,20 +18,20 @@ impl<'a> Replay<'a> {
     pub(crate) fn is_true_of_carry(
         &mut self,
         asked: &Asked<'_>,
-        answer: &Answer,
+        reply: &Reply,
     ) -> Result<bool, AllocError>
         ensures tells { (before : List LogItem) → IsPast before asked.now.past.now
             → IfOk result (Tells (IsTrueReply self.old.journal.setting self.old.journal.history asked.now.feed before asked.now.line
-            AskCarry (reply_of answer.now))) }
+            AskCarry reply.now)) }
         ensures same { self.new.journal ≡ self.old.journal }
     {
         let Some(plan) = &asked.past.latest else {
-            return Ok(matches!(answer, Answer::NoPlan));
+            return Ok(matches!(reply, Reply::NoPlan));
         };
         let choices = plan.choices.as_slice();
-        match answer {
-            Answer::Ok(number) => self.is_carried(asked.feed, asked.line, choices, *number),
-            Answer::Refused(number, why) => self.is_carry_refused(choices, *number, why),
+        match reply {
+            Reply::Ok(number) => self.is_carried(asked.feed, asked.line, choices, *number),
+            Reply::Refused(at) => self.is_carry_refused(choices, at.entry, &at.why),
             _ => Ok(false),
         }
     }
@@ -66,10 +65,10 @@ impl<'a> Replay<'a> {
         &mut self,
         choices: &[Decision],
         number: u32,
-        why: &Reason,
+        why: &Refusal,
     ) -> Result<bool, AllocError>
         ensures tells { IfOk result (Tells (IsRefused self.old.journal.setting self.old.journal.history number
-            (carried self.old.journal.setting self.old.journal.history number choices.now) (reason_of why.now))) }
+            (carried self.old.journal.setting self.old.journal.history number choices.now) why.now)) }
         ensures same { self.new.journal ≡ self.old.journal }
     {
         match self.carried_at(number, choices) {

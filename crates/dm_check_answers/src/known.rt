@@ -2,14 +2,13 @@
 ghost use Rattle.std.specs.Prelude.{◌≡◌, List, true, Some, None, IfSome, slice_get, slice_index_or};
 ghost use Rattle.dm_rows.specs.declared.messages.Entry.{Entry};
 ghost use Rattle.dm_cert.specs.Answers.{Setting};
-ghost use Rattle.dm_records.specs.Readings.{reply_of};
 ghost use Rattle.dm_check_rows.specs.Claims.{Tells};
 ghost use Rattle.dm_check_answers.specs.Claims.{IsKnown, IsTrueClaim};
 
 use crate::claims::Answered;
 use crate::matching::is_claim;
+use dm_cert::Reply;
 use dm_feed::Line;
-use dm_records::Answer;
 use std::alloc::Global;
 
 /// Claims in the order of a text, with the verdict on each that was judged, and the place of the next one.
@@ -42,13 +41,13 @@ impl Known {
     }
 
     /// The verdict on what an answer claims, where that is the next claim and has its verdict. It goes on to the next claim then.
-    pub(crate) fn verdict(&mut self, said: &Line, answer: &Answer) -> Option<bool>
+    pub(crate) fn verdict(&mut self, said: &Line, reply: &Reply) -> Option<bool>
         ensures tells { (s : Setting) (history : List Entry) → IsKnown s history self.old
-            → IfSome result (Tells (IsTrueClaim s history said.now (reply_of answer.now))) }
+            → IfSome result (Tells (IsTrueClaim s history said.now reply.now)) }
         ensures claims { self.new.claims ≡ self.old.claims }
         ensures verdicts { self.new.verdicts ≡ self.old.verdicts }
     {
-        if !self.is_next(said, answer) {
+        if !self.is_next(said, reply) {
             return None;
         }
         let verdict = self.next_verdict();
@@ -57,12 +56,12 @@ impl Known {
     }
 
     /// Whether this is the next claim.
-    fn is_next(&self, said: &Line, answer: &Answer) -> bool
+    fn is_next(&self, said: &Line, reply: &Reply) -> bool
         ensures { result ≡ true
-            → slice_get self.now.claims.items self.now.next ≡ Some (record { said = said.now; answer = answer.now }) }
+            → slice_get self.now.claims.items self.now.next ≡ Some (record { said = said.now; reply = reply.now }) }
     {
         match self.claims.get(self.next) {
-            Some(claim) => is_claim(claim, said, answer),
+            Some(claim) => is_claim(claim, said, reply),
             None => false,
         }
     }

@@ -80,7 +80,7 @@ fn judge_at(replay: &mut Replay<'_>, known: &mut Known, place: usize) -> Result<
     let Some(claim) = known.claims.get(place) else {
         return Ok(());
     };
-    let is_true = match replay.is_true_claim(&claim.said, &claim.answer) {
+    let is_true = match replay.is_true_claim(&claim.said, &claim.reply) {
         Ok(is_true) => is_true,
         Err(AllocError) => return Err(AllocError),
     };

@@ -1,6 +1,6 @@
 //! Whether the answers of a log are true.
 //!
-//! It stands on dm_check_rows for what is claimed of rows, and on dm_records for what a text says.
+//! It stands on dm_check_rows for what is claimed of rows, and on dm_cert for what replies tell.
 //!
 //! A [`Journal`] is what answers are judged by: the entries, and the [`RunSetting`] that they began with. A [`Replay`] goes over
 //! a journal, so that the rows at rising entry numbers cost one walk. It knows the verdicts on claims that were judged before.

@@ -1,18 +1,17 @@
 //! What the next answer of a feed needs of the items before it.
-ghost use Rattle.std.specs.Prelude.{◌≡◌, ◌++◌, [], ◌∷◌, ◌<◌, List, true};
+ghost use Rattle.std.specs.Prelude.{◌≡◌, ◌++◌, [], ◌∷◌, ◌<◌, List, true, false};
 ghost use Rattle.dm_cert.specs.declared.limits.TheConstants.{PLANS};
 ghost use Rattle.dm_feed.specs.declared.grammar.Line.{Line as Said};
 ghost use Rattle.dm_cert.specs.declared.replies.LogItem.{LogItem};
 ghost use Rattle.dm_cert.specs.declared.replies.LogItem.TheVariants.{Malformed, Answered};
-ghost use Rattle.dm_cert.specs.Answers.{reply_with};
+ghost use Rattle.dm_cert.specs.Answers.{is_plan_reply, reply_with};
 ghost use Rattle.dm_cert.specs.Logs.{kind_of_reply, Follows};
-ghost use Rattle.dm_records.specs.Readings.{reply_of};
 ghost use Rattle.dm_parts.specs.declared.kinds.AnyPlan.{AnyPlan as Given};
 ghost use Rattle.dm_parts.specs.Kinds.{chosen_of};
 ghost use Rattle.dm_check_rows.specs.Claims.{Tells};
 ghost use Rattle.dm_check_answers.specs.Judging.{IsPast, line_before, number_before};
 
-use dm_records::Answer;
+use dm_cert::Reply;
 use dm_tree::Chosen;
 
 /// The line and the entry number that were last, or 0, what an adoption takes of the latest plan, and how many plans there were.
@@ -55,18 +54,20 @@ impl Past {
     }
 
     /// Whether the entry number of an answer, where it has one, is in order.
-    pub fn is_in_order(&self, answer: &Answer) -> bool
+    pub fn is_in_order(&self, reply: &Reply) -> bool
         ensures { (before : List LogItem) → IsPast before self.now
-            → Tells (Follows (number_before before) (kind_of_reply (reply_of answer.now))) result }
+            → Tells (Follows (number_before before) (kind_of_reply reply.now)) result }
     {
-        match answer {
-            Answer::Ok(n) => self.number < *n,
-            Answer::Read(n) => self.number <= *n,
-            Answer::Old(n) => self.number <= *n,
-            Answer::Time(n, _) => self.number <= *n,
-            Answer::Cost(n, _) => self.number <= *n,
-            Answer::Refused(n, _) => self.number <= *n,
-            Answer::NoPlan | Answer::Plans | Answer::Range(_) => true,
+        match reply {
+            Reply::Ok(n) => self.number < *n,
+            Reply::Read(n) => self.number <= *n,
+            Reply::Old(n) => self.number <= *n,
+            Reply::Time(n, _) => self.number <= *n,
+            Reply::Cost(n, _) => self.number <= *n,
+            Reply::Refused(at) => self.number <= at.entry,
+            Reply::Planned(plan) => self.number <= plan.entry,
+            Reply::Solved(plan) => self.number <= plan.entry,
+            Reply::NoPlan | Reply::Plans | Reply::Range(_) => true,
         }
     }
 
@@ -78,19 +79,21 @@ impl Past {
     }
 
     /// An answer of one line comes behind.
-    pub fn add_answer(&mut self, line: u32, answer: &Answer)
+    pub fn add_answer(&mut self, line: u32, reply: &Reply)
+        requires { is_plan_reply reply.now ≡ false }
         ensures { (before : List LogItem) (said : Said) → IsPast before self.old
-            → IsPast (before ++ Answered line said (reply_of answer.now) ∷ []) self.new }
+            → IsPast (before ++ Answered line said reply.now ∷ []) self.new }
     {
         self.line = line;
-        match answer {
-            Answer::Ok(n) => self.number = *n,
-            Answer::Read(n) => self.number = *n,
-            Answer::Old(n) => self.number = *n,
-            Answer::Time(n, _) => self.number = *n,
-            Answer::Cost(n, _) => self.number = *n,
-            Answer::Refused(n, _) => self.number = *n,
-            Answer::NoPlan | Answer::Plans | Answer::Range(_) => (),
+        match reply {
+            Reply::Ok(n) => self.number = *n,
+            Reply::Read(n) => self.number = *n,
+            Reply::Old(n) => self.number = *n,
+            Reply::Time(n, _) => self.number = *n,
+            Reply::Cost(n, _) => self.number = *n,
+            Reply::Refused(at) => self.number = at.entry,
+            Reply::Planned(_) | Reply::Solved(_) => (),
+            Reply::NoPlan | Reply::Plans | Reply::Range(_) => (),
         }
     }
 

@@ -4,44 +4,43 @@ ghost use Rattle.dm_base.specs.declared.limits.TheConstants.{PENALTY};
 ghost use Rattle.dm_feed.specs.Lines.{IsSpelledLine};
 ghost use Rattle.dm_rows.specs.declared.messages.Entry.{Entry};
 ghost use Rattle.dm_cert.specs.Answers.{Setting, IsRefused, IsTimeAt, IsUnknownAt, IsCostAt, rows_after};
-ghost use Rattle.dm_records.specs.Readings.{reply_of, reason_of};
 ghost use Rattle.dm_check_rows.specs.Claims.{AreCheckedRowsOf, Tells};
 ghost use Rattle.dm_check_answers.specs.Claims.{IsTrueClaim};
 ghost use Rattle.dm_check_answers.specs.Judging.{setting_of, history_of};
 
 use crate::journal::Journal;
 use crate::replay::Replay;
-use dm_base::{Cost, EventId};
+use dm_base::{Cost, EventId, Secs};
+use dm_cert::Reply;
 use dm_check_rows::{CheckedRows, is_refused};
 use dm_check_times::HeldCycle;
 use dm_feed::Line;
 use dm_network::Network;
-use dm_records::{Answer, Reason};
-use dm_rows::Message;
+use dm_rows::{Message, Refusal};
 use std::alloc::AllocError;
 
 impl<'a> Replay<'a> {
     /// Whether the answer to a line claims something of the rows at an entry, and that is true. It is told from what is known of
     /// claims, or else from the rows.
-    pub(crate) fn is_true_claim(&mut self, said: &Line, answer: &Answer) -> Result<bool, AllocError>
+    pub(crate) fn is_true_claim(&mut self, said: &Line, reply: &Reply) -> Result<bool, AllocError>
         requires { IsSpelledLine said.now }
-        ensures tells { IfOk result (Tells (IsTrueClaim self.old.journal.setting self.old.journal.history said.now (reply_of answer.now))) }
+        ensures tells { IfOk result (Tells (IsTrueClaim self.old.journal.setting self.old.journal.history said.now reply.now)) }
         ensures same { self.new.journal ≡ self.old.journal }
     {
-        if let Some(verdict) = self.known.verdict(said, answer) {
+        if let Some(verdict) = self.known.verdict(said, reply) {
             return Ok(verdict);
         }
         match said {
-            Line::Say(message) => match answer {
-                Answer::Refused(number, why) => self.is_refused_at(*number, message, why),
+            Line::Say(message) => match reply {
+                Reply::Refused(at) => self.is_refused_at(at.entry, message, &at.why),
                 _ => Ok(false),
             },
-            Line::Time(event) => match answer {
-                Answer::Time(number, time) => self.is_time_at(*number, *event, *time),
+            Line::Time(event) => match reply {
+                Reply::Time(number, time) => self.is_time_at(*number, *event, *time),
                 _ => Ok(false),
             },
-            Line::CostNow => match answer {
-                Answer::Cost(number, cost) => self.is_cost_at(*number, *cost),
+            Line::CostNow => match reply {
+                Reply::Cost(number, cost) => self.is_cost_at(*number, *cost),
                 _ => Ok(false),
             },
             Line::Plan(_) | Line::Solve(_) | Line::Adopt | Line::Carry | Line::Read => Ok(false),
@@ -53,10 +52,10 @@ impl<'a> Replay<'a> {
         &mut self,
         number: u32,
         message: &Message,
-        why: &Reason,
+        why: &Refusal,
     ) -> Result<bool, AllocError>
         ensures tells { IfOk result (Tells (IsRefused self.old.journal.setting self.old.journal.history number message.now
-            (reason_of why.now))) }
+            why.now)) }
         ensures same { self.new.journal ≡ self.old.journal }
     {
         match self.reach(number) {
@@ -74,7 +73,7 @@ impl<'a> Replay<'a> {
     }
 
     /// Whether this is the time of the event after so many entries.
-    fn is_time_at(&mut self, number: u32, event: EventId, time: u128) -> Result<bool, AllocError>
+    fn is_time_at(&mut self, number: u32, event: EventId, time: Secs) -> Result<bool, AllocError>
         ensures tells { IfOk result (Tells (IsTimeAt self.old.journal.setting self.old.journal.history number event time)) }
         ensures same { self.new.journal ≡ self.old.journal }
     {
@@ -100,7 +99,7 @@ impl<'a> Replay<'a> {
 }
 
 /// Whether this is the time of an event in the least timetable of rows. Where they have none, no time is.
-fn is_time(net: &Network, checked: &mut CheckedRows, event: EventId, time: u128) -> bool
+fn is_time(net: &Network, checked: &mut CheckedRows, event: EventId, time: Secs) -> bool
     requires { AreCheckedRowsOf net.now checked.old }
     ensures tells { (s : Setting) (history : List Entry) (n : ℕ) → s.net ≡ net.now → n ≤ length history
         → checked.old.rows ≡ rows_after s history n → Tells (IsTimeAt s history n event time) result }
@@ -112,7 +111,7 @@ fn is_time(net: &Network, checked: &mut CheckedRows, event: EventId, time: u128)
     };
     net.reveal();
     match checked.settle_times(net) {
-        Ok(()) => checked.is_time(place, time),
+        Ok(()) => checked.is_time(place, time as u128),
         Err(HeldCycle) => false,
     }
 }
@@ -138,9 +137,9 @@ pub(crate) fn is_unknown_at(
     journal: &Journal<'_>,
     number: u32,
     event: EventId,
-    why: &Reason,
+    why: &Refusal,
 ) -> bool
-    ensures { Tells (IsUnknownAt (setting_of journal.now.setting) (history_of journal.now) number event (reason_of why.now)) result }
+    ensures { Tells (IsUnknownAt (setting_of journal.now.setting) (history_of journal.now) number event why.now) result }
 {
     if number as usize > journal.entries.len() {
         return false;
@@ -149,7 +148,7 @@ pub(crate) fn is_unknown_at(
         return false;
     }
     match why {
-        Reason::UnknownEvent(said) => said.0 == event.0,
+        Refusal::UnknownEvent(said) => said.0 == event.0,
         _ => false,
     }
 }

@@ -32,6 +32,3 @@ module _ {K : Type 0} (number : K → ℕ) (ids : List K) (k : ℕ) (d e : K) (s
       let f = get_or-map number ids (k - 1) d 0 (omega (arith, below)) in
       let g = get_or-map number ids k e 0 below in
       omega (arith, f, g, up', down)
-
-pub all_rise : {K : Type 0} (number : K → ℕ) (ids : List K) (k : ℕ) → length ids ≤ k → RisesTo (map number ids) k → IsStrictlyIncreasing (map number ids)
-all_rise number ids k past was j lt = let size = length-map ids number in was j (omega (arith, size, lt, past))

@@ -1,7 +1,6 @@
 //! What a decision holds and charges for, flagged or no longer.
 ghost use Rattle.std.specs.Prelude.{◌≡◌, ◌<◌, Bool, List, length, slice_set, MatchBool};
 ghost use Rattle.dm_network.specs.Net.{activity_at};
-ghost use Rattle.dm_network.specs.Start.{first_event};
 ghost use Rattle.dm_rows.specs.Relax.{is_of_pair};
 ghost use Rattle.dm_rows.specs.Rows.{IsSized};
 ghost use Rattle.dm_check_times.specs.KeptCosts.{IsKeptCostOf, IsPricedFor};
@@ -13,7 +12,7 @@ ghost use Rattle.dm_paths.specs.Decisions.{is_directed, is_held_by, is_charged_b
 use crate::held_timetable::HeldTimetable;
 use dm_check_times::{Charges, KeptCost, row_out_of};
 use dm_network::Network;
-use dm_rows::{Flip, Rows};
+use dm_rows::{Flip, Rows, first_event};
 
 /// Makes held and flags what a decision holds and charges for, or lets it go and takes the flags away.
 pub fn turn(
@@ -108,15 +107,4 @@ pub fn is_headway_of(net: &Network, a: usize, pair: usize) -> bool
         None => false,
         Some(its) => its == pair,
     }
-}
-
-/// The event that goes first in a pair.
-fn first_event(net: &Network, pair: usize, small: bool) -> usize
-    requires { pair < length net.now.pairs }
-    ensures first { result ≡ first_event net.now pair small }
-    ensures is_event { result < length net.now.events }
-{
-    net.reveal();
-    let pair = net.pair(pair);
-    if small { pair.small } else { pair.large }
 }

@@ -6,31 +6,14 @@ use Rattle.dm_rows.specs.declared.messages.Refusal.{Refusal}
 use Rattle.dm_rows.specs.declared.messages.Refusal.TheVariants as refusal
 use Rattle.dm_rows.specs.Rows.{RowsValue}
 use Rattle.dm_rows.specs.Refuse.{Refuses, RefusesAtOnce, RefusesAdmission}
-use Rattle.dm_check_rows.specs.Claims.{IsOfOneRow, Tells}
-use Rattle.dm_check_rows.proofs.AtOnce.{no_cycle_at_once, no_full_at_once, no_memory_at_once, refuses_at_once}
+use Rattle.dm_check_rows.specs.Claims.{Tells}
+use Rattle.dm_check_rows.proofs.AtOnce.{refuses_at_once}
 use Rattle.dm_check_rows.proofs.OneCause.{one_cause}
 
 -- what is refused not for want of memory is refused at once
 pub at_once : (net : Net) (rows : RowsValue) (m : Message) (r : Refusal) → (r ≡ refusal.OutOfMemory → ⊥) → RefusesAdmission net rows m r → RefusesAtOnce net rows m r
 at_once net rows m r other (inl once) = once
 at_once net rows m r other (inr want) = absurd (other want.1)
-
-pub of_one_row : (net : Net) (rows : RowsValue) (m : Message) (r : Refusal) → RefusesAtOnce net rows m r → IsOfOneRow r
-of_one_row net rows m (refusal.Cycle ids) once = no_cycle_at_once net rows m ids once
-of_one_row net rows m (refusal.Full k) once = no_full_at_once net rows m k once
-of_one_row net rows m refusal.OutOfMemory once = no_memory_at_once net rows m once
-of_one_row net rows m (refusal.Range v) once = tt
-of_one_row net rows m (refusal.UnknownEvent e) once = tt
-of_one_row net rows m (refusal.UnknownActivity a) once = tt
-of_one_row net rows m (refusal.UnknownChange a) once = tt
-of_one_row net rows m (refusal.UnknownPair i j) once = tt
-of_one_row net rows m (refusal.Passed e t) once = tt
-of_one_row net rows m (refusal.NotPassed e) once = tt
-of_one_row net rows m (refusal.Back c) once = tt
-of_one_row net rows m (refusal.Cancelled e) once = tt
-of_one_row net rows m (refusal.NotCancelled e) once = tt
-of_one_row net rows m (refusal.Locked c) once = tt
-of_one_row net rows m (refusal.NotLocked c) once = tt
 
 -- beside a refusal at once there is no other
 one_refusal : (net : Net) (rows : RowsValue) (n : ℕ) (m : Message) (r s : Refusal) → RefusesAtOnce net rows m r → Refuses net rows n m s → r ≡ s

@@ -4,7 +4,6 @@ use Rattle.dm_network.specs.Net.{Net}
 use Rattle.dm_rows.specs.declared.messages.Change.{Change}
 use Rattle.dm_rows.specs.declared.messages.Message.{Message}
 use Rattle.dm_rows.specs.declared.messages.Refusal.{Refusal}
-use Rattle.dm_rows.specs.declared.messages.Refusal.TheVariants.{Cycle, Full, OutOfMemory}
 use Rattle.dm_rows.specs.Rows.{RowsValue, IsSized}
 use Rattle.dm_rows.specs.Active.{HasNoCycle}
 use Rattle.dm_rows.specs.Cost.{is_lost_change}
@@ -114,12 +113,3 @@ pub record AreCheckedRowsOf (net : Net) (d : CheckedRowsValue) : Type 0 where
   pub noted : IsNoted d.timetable d.kept_cost d.moved d.is_priced
   pub as_many_moved : length d.moved.flags ≡ length net.events
   pub settled : IsSettledIf net d.rows d.timetable d.kept_cost d.is_settled
-
--- ---- refusals
-
--- the refusal is no cycle, no full history and no want of memory
-abbrev pub IsOfOneRow : Refusal → Type 0
-IsOfOneRow (Cycle ids) = ⊥
-IsOfOneRow (Full k) = ⊥
-IsOfOneRow OutOfMemory = ⊥
-IsOfOneRow _ = Unit {0}

@@ -3,8 +3,7 @@ ghost use Rattle.dm_rows.specs.Rows.{IsSized};
 ghost use Rattle.dm_check_rows.specs.Claims.{IsKnownFree};
 
 use dm_network::Network;
-use dm_records::Reason;
-use dm_rows::{Message, Rows};
+use dm_rows::{Message, Refusal, Rows};
 
 /// What is claimed: that rows, which may be known to have no cycle, refuse a message at so many entries for this reason.
 #[derive(Clone, Copy)]
@@ -14,7 +13,7 @@ pub(crate) struct ClaimedRefusal<'c> {
     pub is_free: bool,
     pub entries: u32,
     pub message: &'c Message,
-    pub why: &'c Reason,
+    pub why: &'c Refusal,
     ghost sized: { IsSized net.now rows.now },
     ghost free: { IsKnownFree net.now rows.now is_free },
 }

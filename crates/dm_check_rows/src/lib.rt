@@ -1,6 +1,6 @@
 //! Claims about the rows of a network, tested apart from all that answers feeds.
 //!
-//! It stands on dm_check_times for the least timetables of rows and their costs, and on dm_records for what a text says.
+//! It stands on dm_check_times for the least timetables of rows and their costs.
 //!
 //! # What is promised
 //!
@@ -11,7 +11,8 @@
 //! costs are true of any rows and their least timetable.
 //!
 //! [`is_refused`] tells exactly whether a message is refused for the reason that is said. A cycle may be any cycle of the rows
-//! after the message ([`shows_cycle`]).
+//! after the message ([`shows_cycle`]). [`is_same_refusal`] tells exactly whether two refusals are one, and
+//! [`copy_of_refusal`] gives one once more.
 //!
 //! Where the rows are known to have no cycle, none is looked for after delays, passed and cancelled events, dropped changes,
 //! locks and clocks. A proof says that these make none. A clock looks at the events that are scheduled before it. `settle_times`
@@ -26,10 +27,11 @@ mod checked_rows;
 mod claimed;
 mod costs;
 mod cycles;
-mod reasons;
+mod refusals;
 mod refusing;
 
 pub use checked_rows::CheckedRows;
 pub use costs::is_cost_of;
 pub use cycles::shows_cycle;
+pub use refusals::{copy_of_refusal, is_same_refusal};
 pub use refusing::is_refused;

@@ -6,19 +6,17 @@ ghost use Rattle.dm_rows.specs.Active.{HasNoCycle};
 ghost use Rattle.dm_rows.specs.Reach.{Reaches};
 ghost use Rattle.dm_rows.specs.Resolve.{change_named, after, after_change};
 ghost use Rattle.dm_rows.specs.Refuse.{Refuses, RefusesAdmission, PassesAtOnce};
-ghost use Rattle.dm_records.specs.Readings.{reason_of};
 ghost use Rattle.dm_check_rows.specs.Claims.{AreCheckedRowsOf, Tells};
 ghost use Rattle.dm_check_rows.specs.Inside.Claimed.{IsRefused};
 
 use crate::checked_rows::{CheckedRows, is_now, stays_free};
 use crate::claimed::ClaimedRefusal;
 use crate::cycles::shows_cycle;
-use crate::reasons::is_said_by;
+use crate::refusals::is_same_refusal;
 use dm_base::limits::ENTRIES;
 use dm_check_times::{HeldCycle, KeptTimetable};
 use dm_marks::PlaceSet;
 use dm_network::Network;
-use dm_records::Reason;
 use dm_rows::{Change, Message, Refusal, Rows, admit};
 use std::alloc::{AllocError, Global};
 
@@ -29,10 +27,10 @@ pub fn is_refused(
     checked: &CheckedRows,
     entries: u32,
     message: &Message,
-    why: &Reason,
+    why: &Refusal,
 ) -> Result<bool, AllocError>
     requires { AreCheckedRowsOf net.now checked.now }
-    ensures { IfOk result (Tells (Refuses net.now checked.now.rows entries message.now (reason_of why.now))) }
+    ensures { IfOk result (Tells (Refuses net.now checked.now.rows entries message.now why.now)) }
 {
     let claimed = ClaimedRefusal {
         net,
@@ -62,7 +60,7 @@ impl ClaimedRefusal<'_> {
     {
         match refusal {
             Refusal::OutOfMemory => Err(AllocError),
-            _ => Ok(is_said_by(refusal, self.why)),
+            _ => Ok(is_same_refusal(refusal, self.why)),
         }
     }
 
@@ -74,7 +72,7 @@ impl ClaimedRefusal<'_> {
         ensures { IfOk result (Tells (IsRefused self.now)) }
     {
         match self.why {
-            Reason::Cycle(ids) => {
+            Refusal::Cycle(ids) => {
                 if is_now(self.message) {
                     return Ok(false);
                 }
@@ -83,8 +81,8 @@ impl ClaimedRefusal<'_> {
                     Err(AllocError) => Err(AllocError),
                 }
             }
-            Reason::Full => {
-                if self.entries != ENTRIES {
+            Refusal::Full(entries) => {
+                if self.entries != ENTRIES || *entries != ENTRIES {
                     return Ok(false);
                 }
                 if is_now(self.message) {

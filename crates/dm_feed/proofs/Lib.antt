@@ -8,4 +8,5 @@ pub mod Hearing
 pub mod Imagined
 pub mod Joining
 pub mod Messaging
+pub mod Printed
 pub mod Spelling

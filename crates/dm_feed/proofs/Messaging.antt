@@ -81,7 +81,7 @@ parts_plain : (parts : List Part) → All Fits parts → list_all is_plain_word 
 parts_plain [] fits = refl
 parts_plain (p ∷ ps) fits = let e = part_plain p (All-head Fits p ps fits) in rw e (parts_plain ps (All-tail Fits p ps fits))
 
-spelling_plain : (p : Part) (ps : List Part) → All Fits (p ∷ ps) → is_plain (spelling_of_parts (p ∷ ps)) ≡ true
+pub spelling_plain : (p : Part) (ps : List Part) → All Fits (p ∷ ps) → is_plain (spelling_of_parts (p ∷ ps)) ≡ true
 spelling_plain p ps fits = ap (list_all is_plain_word) (pieces_of_parts p ps fits) ∙ parts_plain (p ∷ ps) fits
 
 -- ---- a plain text is a spelling
@@ -131,10 +131,10 @@ joined_parts p [] = sym (append-nil (spelling_of_part p))
 joined_parts p (q ∷ qs) = ap (λ (l : List ℕ). spelling_of_part p ++ 32 ∷ l) (joined_parts q qs)
 
 -- a message has a first part
-record HasFirst (parts : List Part) : Type 0 where
-  first : Part
-  rest : List Part
-  are : parts ≡ first ∷ rest
+pub record HasFirst (parts : List Part) : Type 0 where
+  pub first : Part
+  pub rest : List Part
+  pub are : parts ≡ first ∷ rest
 
 message_first : (m : Message) → HasFirst (parts_of_message m)
 message_first (message.DelayEvent e d) = record { first = _; rest = _; are = refl }
@@ -151,7 +151,7 @@ message_first (message.Lock c) = record { first = _; rest = _; are = refl }
 message_first (message.Unlock c) = record { first = _; rest = _; are = refl }
 message_first (message.Adopt ds) = record { first = _; rest = _; are = refl }
 
-spelled_so : (parts : List Part) (bytes : List ℕ) → HasFirst parts → StandForAll parts (words_of bytes) → is_plain bytes ≡ true → (All Fits parts) × (bytes ≡ spelling_of_parts parts)
+pub spelled_so : (parts : List Part) (bytes : List ℕ) → HasFirst parts → StandForAll parts (words_of bytes) → is_plain bytes ≡ true → (All Fits parts) × (bytes ≡ spelling_of_parts parts)
 spelled_so parts bytes has h plain =
     let kept : words_of bytes ≡ pieces bytes = plain_words (pieces bytes) plain in
     let s = parts_spelled parts (pieces bytes) (subst (StandForAll parts) kept h) plain in
@@ -182,7 +182,7 @@ message_stands m bytes h =
 
 -- ---- a message by its first word
 
-same_word : (v w : Word) (first : List ℕ) → first ≡ spelling_of_word v → first ≡ spelling_of_word w → v ≡ w
+pub same_word : (v w : Word) (first : List ℕ) → first ≡ spelling_of_word v → first ≡ spelling_of_word w → v ≡ w
 same_word v w first is other = let same : Some v ≡ Some w = sym (named first v is) ∙ named first w other in cc
 
 other_word : {A : Type 0} (v w : Word) (first : List ℕ) → first ≡ spelling_of_word v → word_named first ≡ Some w → v ≢ w → A
@@ -301,7 +301,7 @@ choice_in_order (choice.Change a) texts sorted e (inr h) = h
 choice_in_order (choice.Pair i j) texts sorted e (inr h) = turned_same i j texts sorted (ids_sorted j.0 i.0 texts e h) h
 
 -- a line whose ids are in order has its parts in theirs
-in_order : (m : Message) (w : Word) (first : List ℕ) (rest : List (List ℕ)) → IsSaid m → first ≡ spelling_of_word w → are_sorted w rest ≡ true →
+pub in_order : (m : Message) (w : Word) (first : List ℕ) (rest : List (List ℕ)) → IsSaid m → first ≡ spelling_of_word w → are_sorted w rest ≡ true →
     StandEither (line.Say m) (first ∷ rest) → StandForMessage (first ∷ rest) m
 in_order (message.Lock c) w first rest said is in_print h =
     let lock : StandForAll (parts_of_choice c) rest ⊎ StandForAll (turned_choice c) rest = elim h [ inl p ↦ inl p.1 | inr p ↦ inr p.1 ] in
@@ -326,13 +326,13 @@ in_order (message.Restore e) w first rest said is in_print h = record { parts = 
 in_order (message.Adopt ds) w first rest said is in_print h = absurd said
 
 -- where the ids are read out of order, the texts stand for no message
-not_sorted : (v w : Word) (first : List ℕ) (rest : List (List ℕ)) → first ≡ spelling_of_word v → word_named first ≡ Some w → are_sorted w rest ≡ false → are_sorted v rest ≡ true → ⊥
+pub not_sorted : (v w : Word) (first : List ℕ) (rest : List (List ℕ)) → first ≡ spelling_of_word v → word_named first ≡ Some w → are_sorted w rest ≡ false → are_sorted v rest ≡ true → ⊥
 not_sorted v w first rest is n unsorted sorted =
     let same : v ≡ w = same_word v w first is (word_found first w n) in
     let apart : true ≡ false = sym sorted ∙ (ap (λ (u : Word). are_sorted u rest) same ∙ unsorted) in
     cc
 
-unsorted_stand : (m : Message) (w : Word) (first : List ℕ) (rest : List (List ℕ)) → word_named first ≡ Some w → are_sorted w rest ≡ false → StandForMessage (first ∷ rest) m → ⊥
+pub unsorted_stand : (m : Message) (w : Word) (first : List ℕ) (rest : List (List ℕ)) → word_named first ≡ Some w → are_sorted w rest ≡ false → StandForMessage (first ∷ rest) m → ⊥
 unsorted_stand (message.DelayEvent e d) w first rest n unsorted h = not_sorted Delay w first rest h.parts.0 n unsorted refl
 unsorted_stand (message.DelayActivity a d) w first rest n unsorted h = not_sorted Delay w first rest h.parts.0 n unsorted refl
 unsorted_stand (message.Pass e t) w first rest n unsorted h = not_sorted Pass w first rest h.parts.0 n unsorted refl

@@ -1,5 +1,5 @@
 -- What lines and messages say, by the parts that they have: a kind of line is a line of these tables.
-use Rattle.std.specs.Prelude.{ℕ, ◌≡◌, ◌≤◌, ◌⊎◌, List, [], ◌∷◌, length, All}
+use Rattle.std.specs.Prelude.{ℕ, ◌≡◌, ◌≤◌, ◌⊎◌, List, [], ◌∷◌, length, All, Option, Some, None}
 use Rattle.std.specs.List.{flat_map}
 use Rattle.dm_base.specs.declared.limits.TheConstants.{LINE}
 use Rattle.dm_rows.specs.declared.messages.Decision.{Decision}
@@ -156,3 +156,14 @@ pub record IsMessageOf (said : Message) (bytes : List ℕ) : Type 0 where
 -- the bytes are no message's spelling
 abbrev pub IsNoMessage : List ℕ → Type 0
 IsNoMessage bytes = (said : Message) → IsMessageOf said bytes → ⊥
+
+-- the bytes are the line's spelling; its numbers are not too large, and of a pair to lock or unlock the smaller id stands first
+pub record IsPrintedLine (said : Line) (bytes : List ℕ) : Type 0 where
+  pub fits : All Fits (parts_of_line said)
+  pub said_so : IsSpelledLine said
+  pub spelled : bytes ≡ spelling_of_line said
+
+-- the line whose spelling the bytes are, or they are no line's
+abbrev pub ReadsPrinted : List ℕ → Option Line → Type 0
+ReadsPrinted bytes (Some said) = IsPrintedLine said bytes
+ReadsPrinted bytes None = (said : Line) → IsPrintedLine said bytes → ⊥

@@ -9,8 +9,9 @@
 //! [`read_line`] hears exactly what any bytes say: nothing (a blank line or a comment), the line whose parts they have, or that
 //! they are in no form. [`print_line`] and [`print_message`] write the one spelling, or a proper front of it where a write
 //! failed. [`put_line`], [`put_message`] and [`put_choice`] do so behind other text. [`read_message`] reads exactly the spellings
-//! of messages, adopted lists too. Only [`read_message`] takes memory. A feed may name the two ids of a pair to lock or unlock
-//! either way round. In a message, and so in print, the smaller stands first.
+//! of messages, adopted lists too, and [`read_printed`] those of lines. [`copy_of_line`] and [`copy_of_message`] give what a line says once more. Only
+//! [`read_message`] takes memory. A feed may name the two ids of a pair to lock or unlock either way round. In a message, and so
+//! in print, the smaller stands first.
 //!
 //! [`LineReader`] reads a feed from a source. `LineReader::next` gives the due items of its feed in order, with their numbers and
 //! meanings. Where the source tells what is left, the clauses `in_order` and `exactly` determine the answer, unless a read fails.
@@ -32,6 +33,7 @@
 #![tactic(auto)]
 
 mod buffer;
+mod copying;
 mod feed;
 mod first_line;
 mod grammar;
@@ -44,10 +46,11 @@ mod reading;
 mod vocabulary;
 mod words;
 
+pub use copying::{copy_of_line, copy_of_message};
 pub use feed::{FeedStop, Next};
 pub use first_line::hear_first;
 pub use grammar::{Heard, Line};
-pub use messages::{MessageFault, read_message};
+pub use messages::{MessageFault, read_message, read_printed};
 pub use printing::{print_line, print_message, put_choice, put_line, put_message};
 pub use reader::LineReader;
 pub use reading::read_line;

@@ -1,10 +1,10 @@
-//! Messages read from print.
+//! Messages and lines read from print.
 ghost use Rattle.std.specs.Prelude.{◌≡◌, ◌⊎◌, IfOk, Some};
 ghost use Rattle.std.specs.Option.{option_map};
 ghost use Rattle.dm_feed.specs.Words.{words_of};
-ghost use Rattle.dm_feed.specs.Lines.{IsMessageOf, IsNoMessage};
+ghost use Rattle.dm_feed.specs.Lines.{IsMessageOf, IsNoMessage, ReadsPrinted};
 ghost use Rattle.dm_feed.specs.Inside.Reading.{is_plain_word, is_plain, message_of, are_sorted, next_id, first_behind, decision_behind, next_decision};
-ghost use Rattle.dm_feed.specs.Inside.Deciding.{ReadsDecisions, ReadsParts};
+ghost use Rattle.dm_feed.specs.Inside.Deciding.{ReadsDecisions, ReadsLine, ReadsParts};
 
 use crate::grammar::Line;
 use crate::numbers::id_of;
@@ -174,4 +174,30 @@ pub fn read_message(alloc: Global, bytes: &[u8]) -> Result<Message, MessageFault
         return Err(MessageFault::Form);
     }
     message_with(alloc, bytes)
+}
+
+// The line that the words say as they are printed.
+fn printed_line(words: &[u8]) -> Option<Line>
+    ensures { ReadsLine (words_of words.now) result }
+{
+    let Some((first, rest)) = next_word(words) else {
+        return None;
+    };
+    let Some(word) = word_of(first) else {
+        return None;
+    };
+    if !are_sorted(word, rest) {
+        return None;
+    }
+    line_behind(word, rest)
+}
+
+/// The line whose printed spelling the bytes are. It takes no memory.
+pub fn read_printed(bytes: &[u8]) -> Option<Line>
+    ensures { ReadsPrinted bytes.now result }
+{
+    if !is_plain(bytes) {
+        return None;
+    }
+    printed_line(bytes)
 }

@@ -455,6 +455,13 @@ told_none version n line kinds plans solved cycles (of_cycle ids) is = cycles id
 told_none version n line kinds plans solved cycles (of_plan h) is = plans h is
 told_none version n line kinds plans solved cycles (of_solved h) is = solved h is
 
+pub row_is_kind : (version n : ℕ) (line : List ℕ) (k : ToldKind) (a b : ℕ) → Some (k, a, b) ≡ whole (row_in told_text told_shape TOLD line) → IsToldAs version n line (answered (told_reply n k a b))
+row_is_kind version n line k a b e = kind_is version n line (told_reply n k a b) (ap (option_map (λ p. told_reply n p.0 p.1 p.2)) e)
+
+pub no_row_told : (version : ℕ) (line : List ℕ) → None ≡ whole (row_in told_text told_shape TOLD line) →
+    ((h : Heading) → TellsPlan version h line → ⊥) → ((h : SolvedHeading) → TellsSolved version h line → ⊥) → ((ids : List ActId) → TellsCycle ids line → ⊥) → (t : Told) → IsToldLine version t line → ⊥
+no_row_told version line e = told_none version 0 line (ap (option_map (λ p. told_reply 0 p.0 p.1 p.2)) e)
+
 -- ---- whole answers
 
 pub kind_ends : (k : ToldKind) (rest : List ℕ) → EndsNumber (told_text k ++ rest)
@@ -489,6 +496,9 @@ free_is version line r e =
     subst (λ (x : Reply). IsAnswerLine version (answered x) line) found.is
     (free_spelled version found.kind found.one found.two ∙ ap (λ xs. xs ++ line_end) found.line_is, free_formed found.kind found.one found.two found.fits)
 
+pub row_is_free : (version : ℕ) (line : List ℕ) (k : FreeKind) (a b : ℕ) → Some (k, a, b) ≡ whole (row_in free_text free_shape FREE line) → IsAnswerLine version (answered (free_reply k a b)) line
+row_is_free version line k a b e = free_is version line (free_reply k a b) (ap (option_map (λ p. free_reply p.0 p.1 p.2)) e)
+
 pub entry_number : (version : ℕ) (s : Saying) (line : List ℕ) → (at : AtEntry version s line) → number_behind largest_id [] line ≡ Some (at.number, at.tail)
 entry_number version s line at =
     ap (number_behind largest_id []) (sym at.line_is)
@@ -496,6 +506,9 @@ entry_number version s line at =
 
 abbrev pub NoFree : List ℕ → Type 0
 NoFree line = None ≡ option_map (λ p. free_reply p.0 p.1 p.2) (whole (row_in free_text free_shape FREE line))
+
+pub no_free_row : (line : List ℕ) → None ≡ whole (row_in free_text free_shape FREE line) → NoFree line
+no_free_row line e = ap (option_map (λ p. free_reply p.0 p.1 p.2)) e
 
 not_free : (s : Saying) (line : List ℕ) → NoFree line → AsFree s line → ⊥
 not_free s line none way = no_row free_text free_shape FREE free_reply line free_small free_apart none way.kind way.one way.two way.line_is way.fits

@@ -1,23 +1,22 @@
 -- The first line of an item is read where it stands, and nothing else.
-use Rattle.std.proofs.Common.{◌≡◌, ℕ, ◌≤◌, true, false, eqb, inl, inr, List, [], ◌∷◌, ◌++◌, Option, Some, None, All, refl, sym, ap, subst, ◌∙◌, arith, append_assoc, append-nil, codes}
-use Rattle.std.specs.Prelude.{IfOk, Result, Ok, Err, not}
+use Rattle.std.proofs.Common.{◌≡◌, ℕ, ◌+◌, ◌-◌, ◌<◌, ◌≤◌, true, false, cond, ltb, eqb, inl, inr, List, [], ◌∷◌, ◌++◌, length, take, drop, Option, Some, None, All, refl, sym, ap, subst, ◌∙◌, arith, append_assoc, append-nil, length-append, codes}
+use Rattle.std.specs.Prelude.{not, position, option_and_then}
+use Rattle.std.specs.List.{position_or_len}
 use Rattle.std.specs.Option.{option_map}
 use Rattle.std.specs.Fmt.{decimal}
-use Rattle.std.proofs.lemmas.Bool.{both_ways}
-use Rattle.std.proofs.lemmas.List.{append_cancel_right}
-use Rattle.std.proofs.lemmas.List.Elements.{All-nil, All-cons, All-tail}
+use Rattle.std.proofs.Math.Seq.{take-append_seam, drop-append_seam}
+use Rattle.std.proofs.lemmas.Bool.{both_ways, lt-ltb}
+use Rattle.std.proofs.lemmas.List.{append_cancel_right, take-append-drop}
+use Rattle.std.proofs.lemmas.List.Elements.{All-head, All-tail}
 use Rattle.dm_text.specs.Inside.Parts.{behind}
 use Rattle.dm_text.proofs.Reading.{EndsNumber, behind_back, behind_is}
-use Rattle.dm_rows.specs.declared.messages.Choice.{Choice as ChoiceOfRows}
-use Rattle.dm_rows.specs.declared.messages.Choice.TheVariants as choice
-use Rattle.dm_rows.specs.declared.messages.Message.{Message}
-use Rattle.dm_rows.specs.declared.messages.Message.TheVariants as message
+use Rattle.dm_feed.specs.declared.grammar.Heard.TheVariants as heard
 use Rattle.dm_feed.specs.declared.grammar.Line.{Line}
 use Rattle.dm_feed.specs.declared.grammar.Line.TheVariants as line
-use Rattle.dm_feed.specs.declared.vocabulary.Word.{Word}
-use Rattle.dm_feed.specs.declared.vocabulary.Word.TheVariants as named
-use Rattle.dm_feed.specs.Parts.{Part, Fits, id, value, word, largest_id}
-use Rattle.dm_feed.specs.Lines.{parts_of_choice, spelling_of_choice, spelling_of_line}
+use Rattle.dm_feed.specs.Parts.{largest_id}
+use Rattle.dm_feed.specs.Lines.{Hears, IsPrintedLine, spelling_of_line}
+use Rattle.dm_feed.proofs.Spelling.{printed_is_heard, one_meaning}
+use Rattle.dm_feed.proofs.Printed.{IsDashless, line_dashless}
 use Rattle.dm_cert.specs.declared.plan_lines.Heading.{Heading}
 use Rattle.dm_cert.specs.declared.replies.LogItem.TheVariants.{Malformed, Answered}
 use Rattle.dm_cert.specs.declared.replies.Reply.{Reply}
@@ -30,227 +29,95 @@ use Rattle.dm_cert.proofs.DecisionsRead.{number_behind_back, number_behind_is}
 use Rattle.dm_cert.proofs.HeadingsRead.{front_text, heading_spelled}
 use Rattle.dm_cert.proofs.SolvedLinesRead.{solved_front, solved_spelled}
 use Rattle.dm_records.specs.RunLines.{ItemLine, lone, planned, solved, IsFormedSaid, IsFormedReply, IsItemLine}
-use Rattle.dm_records.specs.Readings.{IsRead, item_of}
-use Rattle.dm_records.specs.declared.items.LogLine.{LogLine}
-use Rattle.dm_records.specs.declared.kinds.TheConstants.{SAID}
-use Rattle.dm_records.specs.declared.kinds.SaidKind.{SaidKind}
-use Rattle.dm_records.specs.declared.kinds.SaidKind.TheVariants as said
-use Rattle.dm_records.specs.Inside.Fields.{number_behind, numbers_text, NumbersFit, kind_in_front, row_in}
-use Rattle.dm_records.specs.Inside.Kinds.{choice_with, said_text, said_shape, said_line, knows_kind}
+use Rattle.dm_records.specs.Inside.Fields.{number_behind}
 use Rattle.dm_records.specs.Inside.Answers.{Saying, answered, opened, opened_by_parts, IsAnswerLine}
-use Rattle.dm_records.specs.Inside.Items.{item_with, SaysThere, IsSaidAs, ReadsSaid}
-use Rattle.dm_records.proofs.ChoicesRead.{formed_choice, choice_ids, choice_spelled}
-use Rattle.dm_records.proofs.KindsRead.{IsSmall, ends_arrow, row_back, row_is}
+use Rattle.dm_records.specs.Inside.Items.{item_with, SaysThere, SaysLine, knows_line, around, parted}
 use Rattle.dm_records.proofs.AnswersRead.{reply_body}
 
--- ---- what feeds say
+-- ---- what is said, and where the arrow stands
 
-said_apart : (k : SaidKind) (rest : List ℕ) → kind_in_front said_text SAID (said_text k ++ rest) ≡ Some k
-unfolding behind
-said_apart said.DelayEvent rest = refl
-said_apart said.DelayActivity rest = refl
-said_apart said.Pass rest = refl
-said_apart said.Recall rest = refl
-said_apart said.Keep rest = refl
-said_apart said.Drop rest = refl
-said_apart said.First rest = refl
-said_apart said.Now rest = refl
-said_apart said.Cancel rest = refl
-said_apart said.Restore rest = refl
-said_apart said.Lock rest = refl
-said_apart said.Unlock rest = refl
-said_apart said.Time rest = refl
-said_apart said.Cost rest = refl
-said_apart said.Read rest = refl
-said_apart said.Plan rest = refl
-said_apart said.Solve rest = refl
-said_apart said.Adopt rest = refl
-said_apart said.Carry rest = refl
+-- bytes are the printed spelling of one line
+pub printed_one : (bytes : List ℕ) (l k : Line) → IsPrintedLine l bytes → IsPrintedLine k bytes → l ≡ k
+printed_one bytes l k p q =
+    let one : Hears bytes (heard.Line l) = subst (λ (xs : List ℕ). Hears xs (heard.Line l)) (sym p.spelled) (printed_is_heard l p.said_so p.fits) in
+    let other : Hears bytes (heard.Line k) = subst (λ (xs : List ℕ). Hears xs (heard.Line k)) (sym q.spelled) (printed_is_heard k q.said_so q.fits) in
+    let same = one_meaning bytes (heard.Line l) (heard.Line k) one other in
+    cc
 
-said_small : (k : SaidKind) → IsSmall (said_shape k)
-said_small said.DelayEvent = (omega arith, omega arith)
-said_small said.DelayActivity = (omega arith, omega arith)
-said_small said.Pass = (omega arith, omega arith)
-said_small said.Recall = omega arith
-said_small said.Keep = omega arith
-said_small said.Drop = omega arith
-said_small said.First = (omega arith, omega arith)
-said_small said.Now = omega arith
-said_small said.Cancel = omega arith
-said_small said.Restore = omega arith
-said_small said.Lock = tt
-said_small said.Unlock = tt
-said_small said.Time = omega arith
-said_small said.Cost = tt
-said_small said.Read = tt
-said_small said.Plan = omega arith
-said_small said.Solve = omega arith
-said_small said.Adopt = tt
-said_small said.Carry = tt
+dash_place : (front tail : List ℕ) → IsDashless front → position_or_len (λ b. eqb b 45) (front ++ (codes " -> " ++ tail)) ≡ length front + 1
+dash_place [] tail dashless = refl
+dash_place (c ∷ cs) tail dashless =
+    let here : eqb c 45 ≡ false = All-head (λ b. eqb b 45 ≡ false) c cs dashless in
+    let rest = dash_place cs tail (All-tail (λ b. eqb b 45 ≡ false) c cs dashless) in
+    rw here (ap (λ n. 1 + n) rest ∙ (omega arith))
 
-lock_spelled : (c : ChoiceOfRows) → spelling_of_line (line.Say (message.Lock c)) ≡ codes "lock " ++ spelling_of_choice c
-unfolding spelling_of_line
-lock_spelled (choice.Change a) = refl
-lock_spelled (choice.Pair i j) = refl
+around_there : (front tail : List ℕ) → around (front ++ (codes " -> " ++ tail)) (length front + 1) ≡ Some (front, tail)
+around_there front tail =
+    let less : length front + 1 - 1 ≡ length front = omega arith in
+    let cut : drop (length front + 1 - 1) (front ++ (codes " -> " ++ tail)) ≡ codes " -> " ++ tail = ap (λ n. drop n (front ++ (codes " -> " ++ tail))) less ∙ drop-append_seam front (codes " -> " ++ tail) in
+    let kept : take (length front + 1 - 1) (front ++ (codes " -> " ++ tail)) ≡ front = ap (λ n. take n (front ++ (codes " -> " ++ tail))) less ∙ take-append_seam front (codes " -> " ++ tail) in
+    let found : behind (codes " -> ") (drop (length front + 1 - 1) (front ++ (codes " -> " ++ tail))) ≡ Some tail = ap (behind (codes " -> ")) cut ∙ behind_back (codes " -> ") tail in
+    rw (found, kept) refl
 
-unlock_spelled : (c : ChoiceOfRows) → spelling_of_line (line.Say (message.Unlock c)) ≡ codes "unlock " ++ spelling_of_choice c
-unfolding spelling_of_line
-unlock_spelled (choice.Change a) = refl
-unlock_spelled (choice.Pair i j) = refl
+pub parted_there : (front tail : List ℕ) → IsDashless front → parted (front ++ (codes " -> " ++ tail)) ≡ Some (front, tail)
+parted_there front tail dashless =
+    let bytes : List ℕ = front ++ (codes " -> " ++ tail) in
+    let place = dash_place front tail dashless in
+    let inside : length front + 1 < length bytes = omega (arith, length-append front (codes " -> " ++ tail)) in
+    let found : position (λ b. eqb b 45) bytes ≡ Some (length front + 1) =
+    ap (λ n. cond (ltb n (length bytes)) (Some n) None) place ∙ ap (λ b. cond b (Some (length front + 1)) None) (lt-ltb (length front + 1) (length bytes) inside) in
+    ap (option_and_then (around bytes)) found ∙ around_there front tail
 
-said_spelled : (k : SaidKind) (a b : ℕ) → spelling_of_line (said_line k a b) ≡ said_text k ++ numbers_text (said_shape k) a b
-unfolding spelling_of_line
-said_spelled said.DelayEvent a b = simp append-nil
-said_spelled said.DelayActivity a b = simp append-nil
-said_spelled said.Pass a b = simp append-nil
-said_spelled said.Recall a b = simp append-nil
-said_spelled said.Keep a b = simp append-nil
-said_spelled said.Drop a b = simp append-nil
-said_spelled said.First a b = simp append-nil
-said_spelled said.Now a b = simp append-nil
-said_spelled said.Cancel a b = simp append-nil
-said_spelled said.Restore a b = simp append-nil
-said_spelled said.Lock a b = lock_spelled (choice_with a b) ∙ ap (λ xs. codes "lock " ++ xs) (choice_spelled a b)
-said_spelled said.Unlock a b = unlock_spelled (choice_with a b) ∙ ap (λ xs. codes "unlock " ++ xs) (choice_spelled a b)
-said_spelled said.Time a b = simp append-nil
-said_spelled said.Cost a b = refl
-said_spelled said.Read a b = refl
-said_spelled said.Plan a b = simp append-nil
-said_spelled said.Solve a b = simp append-nil
-said_spelled said.Adopt a b = refl
-said_spelled said.Carry a b = refl
+pair_is : (o : Option (List ℕ)) (xs front tail : List ℕ) → option_map {U = List ℕ × List ℕ} (λ (ys : List ℕ). (xs, ys)) o ≡ Some (front, tail) → (xs ≡ front) × (o ≡ Some tail)
+pair_is None xs front tail e = absurd cc
+pair_is (Some ys) xs front tail e = let p = some_pair xs front ys tail e in (p.0, ap (λ (zs : List ℕ). Some zs) p.1)
 
--- parts that fit, behind one word or two
-one : (w : Word) (p : Part) → Fits p → All Fits (word w ∷ p ∷ [])
-one w p f = All-cons Fits (word w) (p ∷ []) tt (All-cons Fits p [] f (All-nil Fits))
+around_is : (bytes front tail : List ℕ) (i : ℕ) → around bytes i ≡ Some (front, tail) → front ++ (codes " -> " ++ tail) ≡ bytes
+around_is bytes front tail i e =
+    let both = pair_is (behind (codes " -> ") (drop (i - 1) bytes)) (take (i - 1) bytes) front tail e in
+    ap (λ xs. xs ++ (codes " -> " ++ tail)) (sym both.0)
+    ∙ (ap (λ xs. take (i - 1) bytes ++ xs) (sym (behind_is (codes " -> ") (drop (i - 1) bytes) tail both.1)) ∙ take-append-drop (i - 1) bytes)
 
-two : (w : Word) (p q : Part) → Fits p → Fits q → All Fits (word w ∷ p ∷ q ∷ [])
-two w p q f h = All-cons Fits (word w) (p ∷ q ∷ []) tt (All-cons Fits p (q ∷ []) f (All-cons Fits q [] h (All-nil Fits)))
+parted_at : (bytes front tail : List ℕ) (o : Option ℕ) → option_and_then (around bytes) o ≡ Some (front, tail) → front ++ (codes " -> " ++ tail) ≡ bytes
+parted_at bytes front tail None e = absurd cc
+parted_at bytes front tail (Some i) e = around_is bytes front tail i e
 
-lone_word : (w : Word) → All Fits (word w ∷ [])
-lone_word w = All-cons Fits (word w) [] tt (All-nil Fits)
+-- what a printed line says before an arrow stands there
+pub said_apart : (l : Line) (tail line : List ℕ) → IsFormedSaid l → spelling_of_line l ++ (codes " -> " ++ tail) ≡ line → parted line ≡ Some (spelling_of_line l, tail)
+said_apart l tail line formed e = ap parted (sym e) ∙ parted_there (spelling_of_line l) tail (line_dashless l formed.fits)
 
-said_formed : (k : SaidKind) (a b : ℕ) → NumbersFit (said_shape k) a b → IsFormedSaid (said_line k a b)
-said_formed said.DelayEvent a b f = record { spelled = tt; fits = All-cons Fits (word named.Delay) (word named.Event ∷ id a ∷ value b ∷ []) tt (two named.Event (id a) (value b) f.0 f.1) }
-said_formed said.DelayActivity a b f = record { spelled = tt; fits = All-cons Fits (word named.Delay) (word named.Activity ∷ id a ∷ value b ∷ []) tt (two named.Activity (id a) (value b) f.0 f.1) }
-said_formed said.Pass a b f = record { spelled = tt; fits = two named.Pass (id a) (value b) f.0 f.1 }
-said_formed said.Recall a b f = record { spelled = tt; fits = one named.Recall (id a) f.0 }
-said_formed said.Keep a b f = record { spelled = tt; fits = one named.Keep (id a) f.0 }
-said_formed said.Drop a b f = record { spelled = tt; fits = one named.Drop (id a) f.0 }
-said_formed said.First a b f = record { spelled = tt; fits = two named.First (id a) (id b) f.0 f.1 }
-said_formed said.Now a b f = record { spelled = tt; fits = one named.Now (value a) f.0 }
-said_formed said.Cancel a b f = record { spelled = tt; fits = one named.Cancel (id a) f.0 }
-said_formed said.Restore a b f = record { spelled = tt; fits = one named.Restore (id a) f.0 }
-said_formed said.Lock a b f =
-    let c = formed_choice a b f in record { spelled = c.1; fits = All-cons Fits (word named.Lock) (parts_of_choice (choice_with a b)) tt c.0 }
-said_formed said.Unlock a b f =
-    let c = formed_choice a b f in record { spelled = c.1; fits = All-cons Fits (word named.Unlock) (parts_of_choice (choice_with a b)) tt c.0 }
-said_formed said.Time a b f = record { spelled = tt; fits = one named.Time (id a) f.0 }
-said_formed said.Cost a b f = record { spelled = tt; fits = lone_word named.Cost }
-said_formed said.Read a b f = record { spelled = tt; fits = lone_word named.Read }
-said_formed said.Plan a b f = record { spelled = tt; fits = one named.Plan (value a) f.0 }
-said_formed said.Solve a b f = record { spelled = tt; fits = one named.Solve (value a) f.0 }
-said_formed said.Adopt a b f = record { spelled = tt; fits = lone_word named.Adopt }
-said_formed said.Carry a b f = record { spelled = tt; fits = lone_word named.Carry }
-
-record OfKind (l : Line) : Type 0 where
-  kind : SaidKind
-  a : ℕ
-  b : ℕ
-  is : said_line kind a b ≡ l
-  fits : NumbersFit (said_shape kind) a b
-
-kind_of_message : (m : Message) → IsFormedSaid (line.Say m) → OfKind (line.Say m)
-kind_of_message (message.DelayEvent e d) f = record { kind = said.DelayEvent; a = e.0; b = d; is = refl; fits = (f.fits 2 (id 0) (omega arith), f.fits 3 (id 0) (omega arith)) }
-kind_of_message (message.DelayActivity e d) f = record { kind = said.DelayActivity; a = e.0; b = d; is = refl; fits = (f.fits 2 (id 0) (omega arith), f.fits 3 (id 0) (omega arith)) }
-kind_of_message (message.Pass e t) f = record { kind = said.Pass; a = e.0; b = t; is = refl; fits = (f.fits 1 (id 0) (omega arith), f.fits 2 (id 0) (omega arith)) }
-kind_of_message (message.Recall e) f = record { kind = said.Recall; a = e.0; b = 0; is = refl; fits = (f.fits 1 (id 0) (omega arith), refl) }
-kind_of_message (message.Keep x) f = record { kind = said.Keep; a = x.0; b = 0; is = refl; fits = (f.fits 1 (id 0) (omega arith), refl) }
-kind_of_message (message.Drop x) f = record { kind = said.Drop; a = x.0; b = 0; is = refl; fits = (f.fits 1 (id 0) (omega arith), refl) }
-kind_of_message (message.First i j) f = record { kind = said.First; a = i.0; b = j.0; is = refl; fits = (f.fits 1 (id 0) (omega arith), f.fits 2 (id 0) (omega arith)) }
-kind_of_message (message.Adopt ds) f = absurd f.spelled
-kind_of_message (message.Cancel e) f = record { kind = said.Cancel; a = e.0; b = 0; is = refl; fits = (f.fits 1 (id 0) (omega arith), refl) }
-kind_of_message (message.Restore e) f = record { kind = said.Restore; a = e.0; b = 0; is = refl; fits = (f.fits 1 (id 0) (omega arith), refl) }
-kind_of_message (message.Lock c) f =
-    let ids = choice_ids c (All-tail Fits (word named.Lock) (parts_of_choice c) f.fits, f.spelled) in
-    record { kind = said.Lock; a = ids.one; b = ids.two; is = ap (λ (k : ChoiceOfRows). line.Say (message.Lock k)) ids.is; fits = ids.fits }
-kind_of_message (message.Unlock c) f =
-    let ids = choice_ids c (All-tail Fits (word named.Unlock) (parts_of_choice c) f.fits, f.spelled) in
-    record { kind = said.Unlock; a = ids.one; b = ids.two; is = ap (λ (k : ChoiceOfRows). line.Say (message.Unlock k)) ids.is; fits = ids.fits }
-kind_of_message (message.Now t) f = record { kind = said.Now; a = t; b = 0; is = refl; fits = (f.fits 1 (id 0) (omega arith), refl) }
-
-kind_of_line : (l : Line) → IsFormedSaid l → OfKind l
-kind_of_line (line.Say m) f = kind_of_message m f
-kind_of_line (line.Time e) f = record { kind = said.Time; a = e.0; b = 0; is = refl; fits = (f.fits 1 (id 0) (omega arith), refl) }
-kind_of_line line.CostNow f = record { kind = said.Cost; a = 0; b = 0; is = refl; fits = (refl, refl) }
-kind_of_line (line.Plan n) f = record { kind = said.Plan; a = n; b = 0; is = refl; fits = (f.fits 1 (id 0) (omega arith), refl) }
-kind_of_line (line.Solve n) f = record { kind = said.Solve; a = n; b = 0; is = refl; fits = (f.fits 1 (id 0) (omega arith), refl) }
-kind_of_line line.Adopt f = record { kind = said.Adopt; a = 0; b = 0; is = refl; fits = (refl, refl) }
-kind_of_line line.Carry f = record { kind = said.Carry; a = 0; b = 0; is = refl; fits = (refl, refl) }
-kind_of_line line.Read f = record { kind = said.Read; a = 0; b = 0; is = refl; fits = (refl, refl) }
-
--- the row that is read where something is said and answered
-pub record ReadsRow (l : Line) (tail line : List ℕ) : Type 0 where
-  pub row : SaidKind × ℕ × ℕ
-  pub is : said_line row.0 row.1 row.2 ≡ l
-  pub read : row_in said_text said_shape SAID line ≡ Some (row, codes " -> " ++ tail)
-
-pub row_there : (l : Line) (tail line : List ℕ) → IsFormedSaid l → spelling_of_line l ++ (codes " -> " ++ tail) ≡ line → ReadsRow l tail line
-row_there l tail line formed same =
-    let k = kind_of_line l formed in
-    let spelled : spelling_of_line l ≡ said_text k.kind ++ numbers_text (said_shape k.kind) k.a k.b = ap spelling_of_line (sym k.is) ∙ said_spelled k.kind k.a k.b in
-    let body : said_text k.kind ++ (numbers_text (said_shape k.kind) k.a k.b ++ (codes " -> " ++ tail)) ≡ line =
-    sym (append_assoc (said_text k.kind) (numbers_text (said_shape k.kind) k.a k.b) (codes " -> " ++ tail)) ∙ (ap (λ xs. xs ++ (codes " -> " ++ tail)) (sym spelled) ∙ same) in
-    record {
-      row = (k.kind, k.a, k.b);
-      is = k.is;
-      read = ap (row_in said_text said_shape SAID) (sym body)
-          ∙ row_back said_text said_shape SAID k.kind k.a k.b (codes " -> " ++ tail) (said_apart k.kind (numbers_text (said_shape k.kind) k.a k.b ++ (codes " -> " ++ tail))) (said_small k.kind) k.fits refl (ends_arrow tail);
-    }
+as_printed : (l : Line) (bytes : List ℕ) → IsFormedSaid l → bytes ≡ spelling_of_line l → IsPrintedLine l bytes
+as_printed l bytes formed e = record { fits = formed.fits; said_so = formed.spelled; spelled = e }
 
 -- the versions that have the words of a line
-kind_known : (version : ℕ) (k : SaidKind) (a b : ℕ) → KnowsLine version (said_line k a b) → knows_kind version k ≡ true
-kind_known version said.DelayEvent a b known = refl
-kind_known version said.DelayActivity a b known = refl
-kind_known version said.Pass a b known = refl
-kind_known version said.Recall a b known = refl
-kind_known version said.Keep a b known = refl
-kind_known version said.Drop a b known = refl
-kind_known version said.First a b known = refl
-kind_known version said.Now a b known = refl
-kind_known version said.Cancel a b known = refl
-kind_known version said.Restore a b known = refl
-kind_known version said.Lock a b known = refl
-kind_known version said.Unlock a b known = refl
-kind_known version said.Carry a b known = refl
-kind_known version said.Time a b known = refl
-kind_known version said.Cost a b known = refl
-kind_known version said.Read a b known = refl
-kind_known version said.Plan a b known = refl
-kind_known version said.Solve a b known = ap (λ v. not (eqb v 1)) known
-kind_known version said.Adopt a b known = refl
+known_line : (version : ℕ) (l : Line) → KnowsLine version l → knows_line version l ≡ true
+known_line version (line.Say m) known = refl
+known_line version (line.Time e) known = refl
+known_line version line.CostNow known = refl
+known_line version (line.Plan n) known = refl
+known_line version (line.Solve n) known = ap (λ v. not (eqb v 1)) known
+known_line version line.Adopt known = refl
+known_line version line.Carry known = refl
+known_line version line.Read known = refl
 
-line_known : (version : ℕ) → IsVersion version → (k : SaidKind) (a b : ℕ) → knows_kind version k ≡ true → KnowsLine version (said_line k a b)
-line_known version is said.DelayEvent a b known = tt
-line_known version is said.DelayActivity a b known = tt
-line_known version is said.Pass a b known = tt
-line_known version is said.Recall a b known = tt
-line_known version is said.Keep a b known = tt
-line_known version is said.Drop a b known = tt
-line_known version is said.First a b known = tt
-line_known version is said.Now a b known = tt
-line_known version is said.Cancel a b known = tt
-line_known version is said.Restore a b known = tt
-line_known version is said.Lock a b known = tt
-line_known version is said.Unlock a b known = tt
-line_known version is said.Carry a b known = tt
-line_known version is said.Time a b known = tt
-line_known version is said.Cost a b known = tt
-line_known version is said.Read a b known = tt
-line_known version is said.Plan a b known = tt
-line_known version (inl first) said.Solve a b known = let e : not (eqb version 1) ≡ false = ap (λ v. not (eqb v 1)) first in absurd (both_ways (not (eqb version 1)) e known)
-line_known version (inr second) said.Solve a b known = second
-line_known version is said.Adopt a b known = tt
+line_known : (version : ℕ) → IsVersion version → (l : Line) → knows_line version l ≡ true → KnowsLine version l
+line_known version is (line.Say m) known = tt
+line_known version is (line.Time e) known = tt
+line_known version is line.CostNow known = tt
+line_known version is (line.Plan n) known = tt
+line_known version (inl first) (line.Solve n) known = let e : not (eqb version 1) ≡ false = ap (λ v. not (eqb v 1)) first in absurd (both_ways (not (eqb version 1)) e known)
+line_known version (inr second) (line.Solve n) known = second
+line_known version is line.Adopt known = tt
+line_known version is line.Carry known = tt
+line_known version is line.Read known = tt
+
+pub says_line : (version : ℕ) (l : Line) (bytes : List ℕ) → IsVersion version → IsPrintedLine l bytes → knows_line version l ≡ true → SaysLine version l bytes
+says_line version l bytes is printed known = record { printed = printed; known = line_known version is l known }
+
+pub says_unknown : (version : ℕ) (l : Line) (bytes : List ℕ) → IsPrintedLine l bytes → knows_line version l ≡ false → (k : Line) → SaysLine version k bytes → ⊥
+says_unknown version l bytes printed unknown k says =
+    let same : k ≡ l = printed_one bytes k l says.printed printed in
+    both_ways (knows_line version l) unknown (known_line version l (subst (KnowsLine version) same says.known))
 
 -- version 2 has all words
 pub known_in_second : (version : ℕ) (l : Line) → version ≡ 2 → KnowsLine version l
@@ -277,54 +144,30 @@ formed_is_known version reply.NoPlan f = tt
 formed_is_known version reply.Plans f = tt
 formed_is_known version (reply.Range b) f = tt
 
-pub said_no_row : (version : ℕ) (line : List ℕ) → None ≡ row_in said_text said_shape SAID line → (l : Line) (s : Saying) → SaysThere version l s line → ⊥
-said_no_row version line none l s there = none_some (none ∙ (row_there l there.tail line there.formed there.spelled).read)
+pub said_no_arrow : (version : ℕ) (line : List ℕ) → None ≡ parted line → (l : Line) (s : Saying) → SaysThere version l s line → ⊥
+said_no_arrow version line none l s there = none_some (none ∙ said_apart l there.tail line there.formed there.spelled)
 
-pub said_unknown : (version : ℕ) (line rest : List ℕ) (k : SaidKind) (a b : ℕ) → Some ((k, a, b), rest) ≡ row_in said_text said_shape SAID line → knows_kind version k ≡ false →
-    (l : Line) (s : Saying) → SaysThere version l s line → ⊥
-said_unknown version line rest k a b e unknown l s there =
-    let r = row_there l there.tail line there.formed there.spelled in
-    let same = some_pair (k, a, b) r.row rest (codes " -> " ++ there.tail) (e ∙ r.read) in
-    let is : said_line k a b ≡ l = ap (λ (q : SaidKind × ℕ × ℕ). said_line q.0 q.1 q.2) same.0 ∙ r.is in
-    both_ways (knows_kind version k) unknown (kind_known version k a b (subst (KnowsLine version) (sym is) there.known))
+pub said_no_line : (version : ℕ) (line front tail : List ℕ) → Some (front, tail) ≡ parted line → ((l : Line) → SaysLine version l front → ⊥) → (l : Line) (s : Saying) → SaysThere version l s line → ⊥
+said_no_line version line front tail e none l s there =
+    let same = some_pair front (spelling_of_line l) tail there.tail (e ∙ said_apart l there.tail line there.formed there.spelled) in
+    none l (record { printed = as_printed l front there.formed same.0; known = there.known })
 
-pub said_no_arrow : (version : ℕ) (line rest : List ℕ) (row : SaidKind × ℕ × ℕ) → Some (row, rest) ≡ row_in said_text said_shape SAID line → None ≡ behind (codes " -> ") rest →
-    (l : Line) (s : Saying) → SaysThere version l s line → ⊥
-said_no_arrow version line rest row e none l s there =
-    let r = row_there l there.tail line there.formed there.spelled in
-    let same = some_pair row r.row rest (codes " -> " ++ there.tail) (e ∙ r.read) in
-    none_some (none ∙ (ap (behind (codes " -> ")) same.1 ∙ behind_back (codes " -> ") there.tail))
+pub said_no_answer : (version : ℕ) (line front tail : List ℕ) → Some (front, tail) ≡ parted line → ((s : Saying) → IsAnswerLine version s tail → ⊥) → (l : Line) (s : Saying) → SaysThere version l s line → ⊥
+said_no_answer version line front tail e none l s there =
+    let same = some_pair front (spelling_of_line l) tail there.tail (e ∙ said_apart l there.tail line there.formed there.spelled) in
+    none s (subst (λ xs. IsAnswerLine version s xs) (sym same.1) there.answers)
+
+pub said_is : (version : ℕ) (line front tail : List ℕ) (l : Line) (s : Saying) → Some (front, tail) ≡ parted line → SaysLine version l front → IsAnswerLine version s tail → SaysThere version l s line
+said_is version line front tail l s e says answers = record {
+  tail = tail;
+  spelled = ap (λ xs. xs ++ (codes " -> " ++ tail)) (sym says.printed.spelled) ∙ parted_at line front tail (position (λ b. eqb b 45) line) (sym e);
+  formed = record { spelled = says.printed.said_so; fits = says.printed.fits };
+  known = says.known;
+  answers = answers;
+}
 
 some_is : (x y : List ℕ) → (◌≡◌ {A = Option (List ℕ)} (Some x) (Some y)) → x ≡ y
 some_is x y e = cc
-
-pub said_no_answer : (version : ℕ) (line rest tail : List ℕ) (row : SaidKind × ℕ × ℕ) → Some (row, rest) ≡ row_in said_text said_shape SAID line → Some tail ≡ behind (codes " -> ") rest →
-    ((s : Saying) → IsAnswerLine version s tail → ⊥) → (l : Line) (s : Saying) → SaysThere version l s line → ⊥
-said_no_answer version line rest tail row e front none l s there =
-    let r = row_there l there.tail line there.formed there.spelled in
-    let same = some_pair row r.row rest (codes " -> " ++ there.tail) (e ∙ r.read) in
-    let tails = some_is tail there.tail (front ∙ (ap (behind (codes " -> ")) same.1 ∙ behind_back (codes " -> ") there.tail)) in
-    none s (subst (λ xs. IsAnswerLine version s xs) (sym tails) there.answers)
-
-pub said_is : (version n : ℕ) (line rest tail : List ℕ) (k : SaidKind) (a b : ℕ) (s : Saying) → Some ((k, a, b), rest) ≡ row_in said_text said_shape SAID line → Some tail ≡ behind (codes " -> ") rest →
-    IsVersion version → knows_kind version k ≡ true → IsAnswerLine version s tail → IsSaidAs version n line (item_with n (said_line k a b) s)
-said_is version n line rest tail k a b s e front is_version known answers =
-    let has = row_is said_text said_shape SAID line k a b rest said_small (sym e) in
-    let arrow : rest ≡ codes " -> " ++ tail = behind_is (codes " -> ") rest tail (sym front) in
-    record {
-      said = said_line k a b;
-      saying = s;
-      is = refl;
-      there = record {
-        tail = tail;
-        spelled = ap (λ xs. xs ++ (codes " -> " ++ tail)) (said_spelled k a b)
-            ∙ (append_assoc (said_text k) (numbers_text (said_shape k) a b) (codes " -> " ++ tail)
-            ∙ (ap (λ xs. said_text k ++ (numbers_text (said_shape k) a b ++ xs)) (sym arrow) ∙ sym has.line_is));
-        formed = said_formed k a b has.fits;
-        known = line_known version is_version k a b known;
-        answers = answers;
-      };
-    }
 
 -- ---- items
 
@@ -529,18 +372,15 @@ stands_none version (sound l s) rest tail unformed front none is =
     let tails = some_is tail is.0 (front ∙ (ap (behind (codes " ")) (sym is.1) ∙ behind_back (codes " ") is.0)) in
     none l s (subst (λ xs. SaysThere version l s xs) (sym tails) is.2)
 
-item_read : (version n : ℕ) (line rest tail : List ℕ) (read : Option LogLine) → Some (n, rest) ≡ number_behind largest_id [] line → (codes " malformed" ≡ rest → ⊥) → Some tail ≡ behind (codes " ") rest →
-    ReadsSaid version n tail (option_map item_of read) → IsRead (IsItemLine version) item_of line read
-item_read version n line rest tail (Some x) e unformed front told =
+pub item_said : (version n : ℕ) (line rest tail : List ℕ) (l : Line) (s : Saying) → Some (n, rest) ≡ number_behind largest_id [] line → Some tail ≡ behind (codes " ") rest → SaysThere version l s tail →
+    IsItemLine version (item_with n l s) line
+item_said version n line rest tail l s e front there =
     let has = number_behind_is largest_id n [] line rest (omega arith) (sym e) in
-    subst (λ (i : ItemLine). IsItemLine version i line) told.is
-    (item_back version n told.said told.saying line has.fits tail (has.line_is ∙ ap (λ xs. decimal n ++ xs) (behind_is (codes " ") rest tail (sym front))) told.there)
-item_read version n line rest tail None e unformed front told = λ i is.
+    item_back version n l s line has.fits tail (has.line_is ∙ ap (λ xs. decimal n ++ xs) (behind_is (codes " ") rest tail (sym front))) there
+
+pub item_unsaid : (version n : ℕ) (line rest tail : List ℕ) → Some (n, rest) ≡ number_behind largest_id [] line → (codes " malformed" ≡ rest → ⊥) → Some tail ≡ behind (codes " ") rest →
+    ((l : Line) (s : Saying) → SaysThere version l s tail → ⊥) → (i : ItemLine) → IsItemLine version i line → ⊥
+item_unsaid version n line rest tail e unformed front none i is =
     let at = item_there version i line is in
     let same = some_pair n at.number rest at.rest (e ∙ item_number version i line at) in
-    stands_none version at.item rest tail unformed front told (subst (λ xs. StandsItem version at.item xs) (sym same.1) at.stands)
-
-pub item_reads : {E : Type 0} (version n : ℕ) (line rest tail : List ℕ) (r : Result (Option LogLine) E) → Some (n, rest) ≡ number_behind largest_id [] line → (codes " malformed" ≡ rest → ⊥) →
-    Some tail ≡ behind (codes " ") rest → IfOk r (λ read. ReadsSaid version n tail (option_map item_of read)) → IfOk r (IsRead (IsItemLine version) item_of line)
-item_reads version n line rest tail (Ok read) e unformed front told = item_read version n line rest tail read e unformed front told
-item_reads version n line rest tail (Err fault) e unformed front told = tt
+    stands_none version at.item rest tail unformed front none (subst (λ xs. StandsItem version at.item xs) (sym same.1) at.stands)

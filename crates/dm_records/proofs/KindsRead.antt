@@ -34,10 +34,6 @@ pub ends_line : (rest : List ℕ) → EndsChoice (line_end ++ rest)
 unfolding behind
 ends_line rest = refl
 
-pub ends_arrow : (rest : List ℕ) → EndsChoice (codes " -> " ++ rest)
-unfolding behind number_in_front
-ends_arrow rest = refl
-
 one_id_back : (a : ℕ) (rest : List ℕ) → a ≤ largest_id → EndsNumber rest → EndsChoice rest → numbers_in Choice (decimal a ++ rest) ≡ Some ((a, no_id), rest)
 one_id_back a rest low ends last = rw (number_back largest_id a rest low (omega arith) ends, last) refl
 

@@ -13,3 +13,5 @@ pub mod LinesOnce
 pub mod Each
 pub mod Named
 pub mod LinesSpelled
+pub mod ItemLines
+pub mod SmallItems

@@ -13,7 +13,11 @@ use Rattle.dm_parts.specs.declared.parts.PlanByParts.{PlanByParts}
 use Rattle.dm_feed.specs.declared.feed.FeedStop.{FeedStop}
 use Rattle.dm_feed.specs.declared.feed.FeedStop.TheVariants as stop
 use Rattle.dm_feed.specs.declared.grammar.Line.{Line}
-use Rattle.dm_feed.specs.Parts.{largest_id}
+use Rattle.dm_feed.specs.declared.vocabulary.Word.{Word}
+use Rattle.dm_feed.specs.declared.vocabulary.Word.TheVariants as named
+use Rattle.dm_feed.specs.Words.{spelling_of_word}
+use Rattle.dm_feed.specs.Parts.{largest_id, spaced, spelling_of_parts}
+use Rattle.dm_feed.proofs.Hearing.{begins}
 use Rattle.dm_feed.specs.Lines.{spelling_of_line}
 use Rattle.dm_cert.specs.declared.replies.Reply.{Reply}
 use Rattle.dm_cert.specs.declared.replies.Reply.TheVariants as reply
@@ -29,18 +33,17 @@ use Rattle.dm_cert.proofs.SpelledPlans.{plans_have_own_texts}
 use Rattle.dm_cert.proofs.SpelledSolved.{solved_have_own_texts}
 use Rattle.dm_records.specs.RunLines.{IsFormedSaid}
 use Rattle.dm_records.specs.Laws.{IsHeldReply, IsHeldItem}
-use Rattle.dm_records.specs.declared.kinds.TheConstants.{SAID, TOLD, FREE}
-use Rattle.dm_records.specs.declared.kinds.SaidKind.{SaidKind}
+use Rattle.dm_records.specs.declared.kinds.TheConstants.{TOLD, FREE}
 use Rattle.dm_records.specs.declared.kinds.ToldKind.{ToldKind}
 use Rattle.dm_records.specs.declared.kinds.ToldKind.TheVariants as told
 use Rattle.dm_records.specs.declared.kinds.FreeKind.{FreeKind}
 use Rattle.dm_records.specs.declared.kinds.FreeKind.TheVariants as free
 use Rattle.dm_records.specs.Inside.Fields.{numbers_text, NumbersFit, row_in}
-use Rattle.dm_records.specs.Inside.Kinds.{said_text, said_shape, said_line, told_text, told_shape, told_reply, refused_at, free_text, free_shape, free_reply}
+use Rattle.dm_records.specs.Inside.Kinds.{told_text, told_shape, told_reply, refused_at, free_text, free_shape, free_reply}
 use Rattle.dm_records.proofs.ChoicesRead.{choice_ids}
 use Rattle.dm_records.proofs.KindsRead.{ends_line, row_back}
 use Rattle.dm_records.proofs.AnswersRead.{told_apart, told_small, told_spelled, kind_ends, cycle_spelled, free_apart, free_small, free_spelled}
-use Rattle.dm_records.proofs.ItemsRead.{row_there, malformed_text}
+use Rattle.dm_records.proofs.ItemsRead.{printed_one, said_apart, malformed_text}
 use Rattle.dm_records.proofs.Splitting.{IsSame, Splits, FitsId, end_same, number_splits, ids_split}
 
 -- ---- replies by what they tell
@@ -305,23 +308,48 @@ replies_split version r q rest more f g e =
 
 pub said_same : (l k : Line) (rest more : List ℕ) → IsFormedSaid l → IsFormedSaid k → spelling_of_line l ++ (codes " -> " ++ rest) ≡ spelling_of_line k ++ (codes " -> " ++ more) → IsSame l k rest more
 said_same l k rest more p q e =
-    let one = row_there l rest (spelling_of_line l ++ (codes " -> " ++ rest)) p refl in
-    let other = row_there k more (spelling_of_line l ++ (codes " -> " ++ rest)) q (sym e) in
-    let same = some_pair one.row other.row (codes " -> " ++ rest) (codes " -> " ++ more) (sym one.read ∙ other.read) in
-    let row = same.0 in
-    record { value = sym one.is ∙ (ap (λ (r : SaidKind × ℕ × ℕ). said_line r.0 r.1 r.2) row ∙ other.is); behind = arrow_same same.1 }
-  where
-    arrow_same : {xs ys : List ℕ} → codes " -> " ++ xs ≡ codes " -> " ++ ys → xs ≡ ys
-    arrow_same e = cc
+    let one = said_apart l rest (spelling_of_line l ++ (codes " -> " ++ rest)) p refl in
+    let other = said_apart k more (spelling_of_line l ++ (codes " -> " ++ rest)) q (sym e) in
+    let same = some_pair (spelling_of_line l) (spelling_of_line k) rest more (sym one ∙ other) in
+    record {
+      value =
+          printed_one (spelling_of_line l) l k (record { fits = p.fits; said_so = p.spelled; spelled = refl }) (record { fits = q.fits; said_so = q.spelled; spelled = same.0 });
+      behind = same.1;
+    }
 
-no_row_in_malformed : (xs : List ℕ) → row_in said_text said_shape SAID (codes "malformed" ++ xs) ≡ None
-unfolding behind
-no_row_in_malformed xs = refl
+-- no line begins as a malformed one is told
+no_m : (w : Word) (xs ys : List ℕ) → spelling_of_word w ++ xs ≡ codes "malformed" ++ ys → ⊥
+no_m w xs ys e = apart w (ap (λ (zs : List ℕ). get_or zs 0 0) e)
+  where
+    apart : (w : Word) → get_or (spelling_of_word w ++ xs) 0 0 ≡ 109 → ⊥
+    apart named.Delay h = omega (arith, h)
+    apart named.Event h = omega (arith, h)
+    apart named.Activity h = omega (arith, h)
+    apart named.Pass h = omega (arith, h)
+    apart named.Recall h = omega (arith, h)
+    apart named.Keep h = omega (arith, h)
+    apart named.Drop h = omega (arith, h)
+    apart named.First h = omega (arith, h)
+    apart named.Now h = omega (arith, h)
+    apart named.Cancel h = omega (arith, h)
+    apart named.Restore h = omega (arith, h)
+    apart named.Lock h = omega (arith, h)
+    apart named.Unlock h = omega (arith, h)
+    apart named.Time h = omega (arith, h)
+    apart named.Cost h = omega (arith, h)
+    apart named.Read h = omega (arith, h)
+    apart named.Plan h = omega (arith, h)
+    apart named.Solve h = omega (arith, h)
+    apart named.Adopt h = omega (arith, h)
+    apart named.Carry h = omega (arith, h)
 
 pub malformed_is_no_line : (l : Line) (rest more : List ℕ) → IsFormedSaid l → spelling_of_line l ++ (codes " -> " ++ rest) ≡ codes "malformed" ++ more → ⊥
+unfolding spelling_of_line
 malformed_is_no_line l rest more formed e =
-    let there = row_there l rest (codes "malformed" ++ more) formed e in
-    none_some (sym (no_row_in_malformed more) ∙ there.read)
+    let b = begins l in
+    let spelled : spelling_of_line l ≡ spelling_of_word b.first ++ flat_map spaced b.rest = ap spelling_of_parts b.are in
+    no_m b.first (flat_map spaced b.rest ++ (codes " -> " ++ rest)) more
+    (sym (append_assoc (spelling_of_word b.first) (flat_map spaced b.rest) (codes " -> " ++ rest)) ∙ (ap (λ xs. xs ++ (codes " -> " ++ rest)) (sym spelled) ∙ e))
 
 -- ---- items
 

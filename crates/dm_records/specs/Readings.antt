@@ -1,21 +1,18 @@
 -- What a reader of a line gives.
-use Rattle.std.specs.Prelude.{ℕ, List, Option, Some, None}
-use Rattle.dm_base.specs.declared.limits.TheConstants.{ENTRIES}
+use Rattle.std.specs.Prelude.{ℕ, ◌≡◌, ◌≤◌, List, Option, Some, None}
 use Rattle.dm_rows.specs.declared.messages.Refusal.{Refusal}
 use Rattle.dm_rows.specs.declared.messages.Refusal.TheVariants as refusal
+use Rattle.dm_feed.specs.Parts.{largest_value}
 use Rattle.dm_cert.specs.declared.notes.Note.{Note}
 use Rattle.dm_cert.specs.declared.replies.Reply.{Reply}
 use Rattle.dm_cert.specs.declared.replies.Reply.TheVariants as reply
-use Rattle.dm_records.specs.declared.answers.Reason.{Reason}
-use Rattle.dm_records.specs.declared.answers.Reason.TheVariants as reason
-use Rattle.dm_records.specs.declared.answers.Answer.{Answer}
-use Rattle.dm_records.specs.declared.answers.Answer.TheVariants as answer
+use Rattle.dm_cert.specs.declared.replies.LogItem.{LogItem}
 use Rattle.dm_cert.specs.declared.replies.LogItem.TheVariants.{Malformed, Answered}
 use Rattle.dm_records.specs.declared.items.PlanLine.{PlanLine}
 use Rattle.dm_records.specs.declared.items.SolvedLine.{SolvedLine}
 use Rattle.dm_records.specs.declared.items.LogLine.{LogLine}
 use Rattle.dm_records.specs.declared.items.LogLine.TheVariants as log_line
-use Rattle.dm_records.specs.RunLines.{Numbered, LogOpening, Timed, ItemLine, lone, planned, solved, PlanOpening, SolvedOpening}
+use Rattle.dm_records.specs.RunLines.{Numbered, LogOpening, Timed, ItemLine, lone, planned, solved, PlanOpening, SolvedOpening, IsItemLine}
 use Rattle.dm_records.specs.declared.lines.EntryLine.{EntryLine}
 use Rattle.dm_records.specs.declared.lines.OpeningLine.{OpeningLine}
 use Rattle.dm_records.specs.declared.lines.NoteLine.{NoteLine}
@@ -39,33 +36,6 @@ note l = record { board = l.board; stop = l.stop; entry = l.entry }
 
 abbrev pub timed : TimeLine → Timed
 timed l = record { event = l.event; time = l.time }
-
-abbrev pub reason_of : Reason → Refusal
-reason_of (reason.Range v) = refusal.Range v
-reason_of (reason.UnknownEvent e) = refusal.UnknownEvent e
-reason_of (reason.UnknownActivity a) = refusal.UnknownActivity a
-reason_of (reason.UnknownChange a) = refusal.UnknownChange a
-reason_of (reason.UnknownPair i j) = refusal.UnknownPair i j
-reason_of (reason.Passed e t) = refusal.Passed e t
-reason_of (reason.NotPassed e) = refusal.NotPassed e
-reason_of (reason.Cancelled e) = refusal.Cancelled e
-reason_of (reason.NotCancelled e) = refusal.NotCancelled e
-reason_of (reason.Locked c) = refusal.Locked c
-reason_of (reason.NotLocked c) = refusal.NotLocked c
-reason_of (reason.Back c) = refusal.Back c
-reason_of (reason.Cycle ids) = refusal.Cycle ids
-reason_of reason.Full = refusal.Full ENTRIES
-
-abbrev pub reply_of : Answer → Reply
-reply_of (answer.Ok n) = reply.Ok n
-reply_of (answer.Read n) = reply.Read n
-reply_of (answer.Old n) = reply.Old n
-reply_of (answer.Time n x) = reply.Time n x
-reply_of (answer.Cost n c) = reply.Cost n c
-reply_of (answer.Refused n why) = reply.Refused (record { entry = n; why = reason_of why })
-reply_of answer.NoPlan = reply.NoPlan
-reply_of answer.Plans = reply.Plans
-reply_of (answer.Range b) = reply.Range b
 
 abbrev pub opening_of : PlanLine → PlanOpening
 opening_of p =
@@ -94,8 +64,44 @@ solved_opening_of s =
       nodes = s.nodes;
     }
 
-abbrev pub item_of : LogLine → ItemLine
-item_of (log_line.Malformed line) = lone (Malformed line)
-item_of (log_line.Answered line said answer) = lone (Answered line said (reply_of answer))
-item_of (log_line.Planned plan) = planned (opening_of plan)
-item_of (log_line.Solved plan) = solved (solved_opening_of plan)
+-- ---- what is read of an item's first line
+
+-- a value in it is below 2^64
+abbrev pub IsSmallReason : Refusal → Type 0
+IsSmallReason (refusal.Range v) = v ≤ largest_value
+IsSmallReason (refusal.Passed e t) = t ≤ largest_value
+IsSmallReason (refusal.Back c) = c ≤ largest_value
+IsSmallReason _ = Unit {0}
+
+abbrev pub IsSmallReply : Reply → Type 0
+IsSmallReply (reply.Refused at) = IsSmallReason at.why
+IsSmallReply (reply.Time n x) = x ≤ largest_value
+IsSmallReply (reply.Range b) = b ≤ largest_value
+IsSmallReply _ = Unit {0}
+
+abbrev pub IsSmallItem : LogItem → Type 0
+IsSmallItem (Malformed line) = Unit {0}
+IsSmallItem (Answered line said r) = IsSmallReply r
+
+-- the values of an item of one line are below 2^64; those of the first line of a plan of either kind fit in any case
+abbrev pub IsSmallLine : ItemLine → Type 0
+IsSmallLine (lone answered) = IsSmallItem answered
+IsSmallLine (planned opening) = Unit {0}
+IsSmallLine (solved opening) = Unit {0}
+
+-- what was read is this first line; of an item of one line with a value that is not small no more is told
+abbrev pub IsReadAs : LogLine → ItemLine → Type 0
+IsReadAs (log_line.Item answered) first = (lone answered ≡ first) × IsSmallLine first
+IsReadAs log_line.TooLarge first = IsSmallLine first → ⊥
+IsReadAs (log_line.Planned plan) first = planned (opening_of plan) ≡ first
+IsReadAs (log_line.Solved plan) first = solved (solved_opening_of plan) ≡ first
+
+pub record IsReadItem (version : ℕ) (line : List ℕ) (read : LogLine) : Type 0 where
+  pub first : ItemLine
+  pub spelled : IsItemLine version first line
+  pub is : IsReadAs read first
+
+-- the first line of an item that the line spells, or nothing, and then it spells none
+abbrev pub ReadsItem : ℕ → List ℕ → Option LogLine → Type 0
+ReadsItem version line (Some read) = IsReadItem version line read
+ReadsItem version line None = (first : ItemLine) → IsItemLine version first line → ⊥

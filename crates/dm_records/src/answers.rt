@@ -1,94 +1,31 @@
 //! What a log item's line answers.
-ghost use Rattle.std.specs.Prelude.{◌≡◌, IfOk, MatchOption};
+ghost use Rattle.std.specs.Prelude.{◌≡◌, ◌≤◌, IfOk, IfSome, MatchOption, SomeIff};
 ghost use Rattle.std.specs.Option.{option_map};
+ghost use Rattle.dm_feed.specs.Parts.{largest_value};
 ghost use Rattle.dm_records.specs.declared.fields.Shape.{Shape};
 ghost use Rattle.dm_records.specs.declared.kinds.TheConstants.{TOLD, FREE};
 ghost use Rattle.dm_records.specs.Inside.Fields.{row_in, whole, NumbersFit};
-ghost use Rattle.dm_records.specs.Inside.Kinds.{told_text, told_shape, told_reply, free_text, free_shape, free_reply, choice_with};
-ghost use Rattle.dm_records.specs.Inside.Answers.{IsIds, IsNoIds, TellsPlan, TellsSolved, TellsCycle, ReadsTold, ReadsAnswer, saying};
+ghost use Rattle.dm_records.specs.Inside.Kinds.{told_text, told_shape, told_reply, free_text, free_shape, free_reply, choice_with, refused_at};
+ghost use Rattle.dm_records.specs.Inside.Answers.{IsIds, IsNoIds, TellsPlan, TellsSolved, TellsCycle, ReadsTold, ReadsAnswer, saying, AnswerFits, HoldsReply};
 ghost use Rattle.dm_cert.specs.PlanTexts.{IsVersion};
-ghost use Rattle.dm_records.specs.Readings.{IsRead, reply_of};
+ghost use Rattle.dm_records.specs.Readings.{IsRead};
 
-use crate::fields::{LARGEST_ID, NO_ID, number_behind};
+use crate::fields::{LARGEST_ID, LARGEST_VALUE, NO_ID, number_behind};
 use crate::kinds::{FreeKind, ToldKind, free_row, told_row};
-use dm_base::{ActId, Cost, EventId, Items};
-use dm_cert::{Heading, SolvedHeading, heading_in, solved_heading_in};
-use dm_rows::Choice;
+use dm_base::limits::ENTRIES;
+use dm_base::{ActId, EventId, Items};
+use dm_cert::{Heading, Reply, SolvedHeading, heading_in, solved_heading_in};
+use dm_rows::{At, Choice, Refusal};
 use dm_text::behind;
 use std::alloc::{AllocError, Global};
 
-/// Why a line is said to have been refused. A number may be larger than any that is true.
-pub enum Reason {
-    Range(u128),
-    UnknownEvent(EventId),
-    UnknownActivity(ActId),
-    UnknownChange(ActId),
-    UnknownPair(EventId, EventId),
-    Passed(EventId, u128),
-    NotPassed(EventId),
-    Cancelled(EventId),
-    NotCancelled(EventId),
-    Locked(Choice),
-    NotLocked(Choice),
-    Back(u128),
-    Cycle(Items<ActId>),
-    Full,
-}
-
-impl Drop for Reason {
-    fn drop(self) {
-        match self {
-            Reason::Range(_)
-            | Reason::UnknownEvent(_)
-            | Reason::UnknownActivity(_)
-            | Reason::UnknownChange(_)
-            | Reason::UnknownPair(_, _)
-            | Reason::Passed(_, _)
-            | Reason::NotPassed(_)
-            | Reason::Cancelled(_)
-            | Reason::NotCancelled(_)
-            | Reason::Locked(_)
-            | Reason::NotLocked(_)
-            | Reason::Back(_)
-            | Reason::Cycle(_)
-            | Reason::Full => {}
-        }
-    }
-}
-
-/// An answer of one line. An entry number is how many entries the history is said to have had.
-pub enum Answer {
-    Ok(u32),
-    Read(u32),
-    Old(u32),
-    Time(u32, u128),
-    Cost(u32, Cost),
-    Refused(u32, Reason),
-    NoPlan,
-    Plans,
-    Range(u128),
-}
-
-impl Drop for Answer {
-    fn drop(self) {
-        match self {
-            Answer::Ok(_)
-            | Answer::Read(_)
-            | Answer::Old(_)
-            | Answer::Time(_, _)
-            | Answer::Cost(_, _)
-            | Answer::Refused(_, _)
-            | Answer::NoPlan
-            | Answer::Plans
-            | Answer::Range(_) => {}
-        }
-    }
-}
-
-/// An answer of one line, or the first line of a plan of either kind for the rows at an entry.
+/// What is answered at an entry or at none: a kind with the numbers that the line says, a cycle, or the first line of a plan of
+/// either kind.
 #[derive(Drop)]
 pub(crate) enum AnswerLine {
-    Answer(Answer),
+    Told(u32, ToldKind, u128, u128),
+    Free(FreeKind, u128, u128),
+    Cycle(u32, Items<ActId>),
     Plan(u32, Heading),
     Solved(u32, SolvedHeading),
 }
@@ -105,71 +42,80 @@ pub(crate) fn choice_with(one: u128, two: u128) -> Choice
     }
 }
 
-/// The answer of this kind with these numbers, at an entry.
-fn told_answer(entry: u32, kind: ToldKind, one: u128, two: u128) -> Answer
+/// The number, unless it is too large for a value.
+fn value_of(number: u128) -> Option<u64>
+    ensures { SomeIff result (number ≤ largest_value) number }
+{
+    if number > LARGEST_VALUE {
+        return None;
+    }
+    Some(number as u64)
+}
+
+fn refused(entry: u32, why: Refusal) -> Reply
+    ensures { result ≡ refused_at entry why }
+{
+    Reply::Refused(At { entry, why })
+}
+
+/// The reply of this kind with these numbers, at an entry, unless a value in it is too large.
+pub(crate) fn told_reply(entry: u32, kind: ToldKind, one: u128, two: u128) -> Option<Reply>
     requires { NumbersFit (told_shape kind) one two }
-    ensures { reply_of result ≡ told_reply entry kind one two }
+    ensures { HoldsReply (told_reply entry kind one two) result }
 {
-    match kind {
-        ToldKind::Ok => Answer::Ok(entry),
-        ToldKind::Read => Answer::Read(entry),
-        ToldKind::Old => Answer::Old(entry),
-        ToldKind::Time => Answer::Time(entry, one),
-        ToldKind::Cost => Answer::Cost(entry, one),
-        ToldKind::Range => Answer::Refused(entry, Reason::Range(one)),
-        ToldKind::UnknownEvent => {
-            Answer::Refused(entry, Reason::UnknownEvent(EventId(one as u32)))
-        }
-        ToldKind::UnknownActivity => {
-            Answer::Refused(entry, Reason::UnknownActivity(ActId(one as u32)))
-        }
-        ToldKind::UnknownChange => Answer::Refused(entry, Reason::UnknownChange(ActId(one as u32))),
-        ToldKind::UnknownPair => Answer::Refused(
-            entry,
-            Reason::UnknownPair(EventId(one as u32), EventId(two as u32)),
-        ),
-        ToldKind::Passed => Answer::Refused(entry, Reason::Passed(EventId(one as u32), two)),
-        ToldKind::NotPassed => Answer::Refused(entry, Reason::NotPassed(EventId(one as u32))),
-        ToldKind::Cancelled => Answer::Refused(entry, Reason::Cancelled(EventId(one as u32))),
-        ToldKind::NotCancelled => {
-            Answer::Refused(entry, Reason::NotCancelled(EventId(one as u32)))
-        }
-        ToldKind::Locked => Answer::Refused(entry, Reason::Locked(choice_with(one, two))),
-        ToldKind::NotLocked => Answer::Refused(entry, Reason::NotLocked(choice_with(one, two))),
-        ToldKind::Back => Answer::Refused(entry, Reason::Back(one)),
-        ToldKind::Full => Answer::Refused(entry, Reason::Full),
-    }
+    let why = match kind {
+        ToldKind::Ok => return Some(Reply::Ok(entry)),
+        ToldKind::Read => return Some(Reply::Read(entry)),
+        ToldKind::Old => return Some(Reply::Old(entry)),
+        ToldKind::Time => return Some(Reply::Time(entry, value_of(one)?)),
+        ToldKind::Cost => return Some(Reply::Cost(entry, one)),
+        ToldKind::Range => Refusal::Range(value_of(one)?),
+        ToldKind::UnknownEvent => Refusal::UnknownEvent(EventId(one as u32)),
+        ToldKind::UnknownActivity => Refusal::UnknownActivity(ActId(one as u32)),
+        ToldKind::UnknownChange => Refusal::UnknownChange(ActId(one as u32)),
+        ToldKind::UnknownPair => Refusal::UnknownPair(EventId(one as u32), EventId(two as u32)),
+        ToldKind::Passed => Refusal::Passed(EventId(one as u32), value_of(two)?),
+        ToldKind::NotPassed => Refusal::NotPassed(EventId(one as u32)),
+        ToldKind::Cancelled => Refusal::Cancelled(EventId(one as u32)),
+        ToldKind::NotCancelled => Refusal::NotCancelled(EventId(one as u32)),
+        ToldKind::Locked => Refusal::Locked(choice_with(one, two)),
+        ToldKind::NotLocked => Refusal::NotLocked(choice_with(one, two)),
+        ToldKind::Back => Refusal::Back(value_of(one)?),
+        ToldKind::Full => Refusal::Full(ENTRIES),
+    };
+    Some(refused(entry, why))
 }
 
-/// The answer of this kind with this number, at no entry.
-fn free_answer(kind: FreeKind, one: u128, two: u128) -> Answer
+/// The reply of this kind with this number, at no entry, unless it is too large.
+pub(crate) fn free_reply(kind: FreeKind, one: u128, two: u128) -> Option<Reply>
     requires { NumbersFit (free_shape kind) one two }
-    ensures { reply_of result ≡ free_reply kind one two }
+    ensures { HoldsReply (free_reply kind one two) result }
 {
     match kind {
-        FreeKind::NoPlan => Answer::NoPlan,
-        FreeKind::Plans => Answer::Plans,
-        FreeKind::Range => Answer::Range(one),
+        FreeKind::NoPlan => Some(Reply::NoPlan),
+        FreeKind::Plans => Some(Reply::Plans),
+        FreeKind::Range => Some(Reply::Range(value_of(one)?)),
     }
 }
 
-/// The whole line as an answer at no entry.
-fn free_line(line: &[u8]) -> Option<Answer>
-    ensures { option_map reply_of result ≡ option_map (λ p. free_reply p.0 p.1 p.2) (whole (row_in free_text free_shape FREE line.now)) }
+/// The whole line as a kind of answer at no entry, with its numbers.
+fn free_line(line: &[u8]) -> Option<(FreeKind, u128, u128)>
+    ensures reads { result ≡ whole (row_in free_text free_shape FREE line.now) }
+    ensures fits { IfSome result (λ p. NumbersFit (free_shape p.0) p.1 p.2) }
 {
     match free_row(line) {
-        Some(((kind, one, two), [])) => Some(free_answer(kind, one, two)),
+        Some((row, [])) => Some(row),
         _ => None,
     }
 }
 
-/// The whole line behind an entry's number as an answer.
-fn told_line(entry: u32, line: &[u8]) -> Option<Answer>
-    ensures { option_map reply_of result ≡ option_map (λ p. told_reply entry p.0 p.1 p.2)
-        (whole (row_in told_text told_shape TOLD line.now)) }
+/// The whole line behind an entry's number as a kind of answer, with its numbers.
+fn told_line(line: &[u8]) -> Option<(ToldKind, u128, u128)>
+    ensures reads { result ≡ whole (row_in told_text told_shape TOLD line.now) }
+    ensures fits { IfSome result (λ p. NumbersFit (told_shape p.0) p.1 p.2) }
 {
     match told_row(line) {
-        Some(((kind, one, two), [])) => Some(told_answer(entry, kind, one, two)),
+        Some((row, [])) => Some(row),
         _ => None,
     }
 }
@@ -242,10 +188,11 @@ fn answer_at(
     line: &[u8],
 ) -> Result<Option<AnswerLine>, AllocError>
     requires { IsVersion version }
-    ensures { IfOk result (λ read. ReadsTold version entry line.now (option_map saying read)) }
+    ensures reads { IfOk result (λ read. ReadsTold version entry line.now (option_map saying read)) }
+    ensures fits { IfOk result (λ read. IfSome read AnswerFits) }
 {
-    if let Some(answer) = told_line(entry, line) {
-        return Ok(Some(AnswerLine::Answer(answer)));
+    if let Some((kind, one, two)) = told_line(line) {
+        return Ok(Some(AnswerLine::Told(entry, kind, one, two)));
     }
     if let Some(heading) = plan_line(version, line) {
         return Ok(Some(AnswerLine::Plan(entry, heading)));
@@ -254,7 +201,7 @@ fn answer_at(
         return Ok(Some(AnswerLine::Solved(entry, heading)));
     }
     match cycle_line(alloc, line) {
-        Ok(Some(ids)) => Ok(Some(AnswerLine::Answer(Answer::Refused(entry, Reason::Cycle(ids))))),
+        Ok(Some(ids)) => Ok(Some(AnswerLine::Cycle(entry, ids))),
         Ok(None) => Ok(None),
         Err(AllocError) => Err(AllocError),
     }
@@ -267,10 +214,11 @@ pub(crate) fn answer_line(
     line: &[u8],
 ) -> Result<Option<AnswerLine>, AllocError>
     requires { IsVersion version }
-    ensures { IfOk result (λ read. ReadsAnswer version line.now (option_map saying read)) }
+    ensures reads { IfOk result (λ read. ReadsAnswer version line.now (option_map saying read)) }
+    ensures fits { IfOk result (λ read. IfSome read AnswerFits) }
 {
-    if let Some(answer) = free_line(line) {
-        return Ok(Some(AnswerLine::Answer(answer)));
+    if let Some((kind, one, two)) = free_line(line) {
+        return Ok(Some(AnswerLine::Free(kind, one, two)));
     }
     let Some((entry, rest)) = number_behind(line, "", LARGEST_ID) else {
         return Ok(None);

@@ -1,21 +1,21 @@
 //! The first lines of a log's items.
-ghost use Rattle.std.specs.Prelude.{◌≡◌, IfOk};
+ghost use Rattle.std.specs.Prelude.{◌≡◌, ◌==◌, ◌<◌, length, position, IfOk, IfSome};
 ghost use Rattle.std.specs.Option.{option_map};
-ghost use Rattle.dm_records.specs.RunLines.{IsItemLine};
-ghost use Rattle.dm_records.specs.Inside.Fields.{NumbersFit};
+ghost use Rattle.dm_cert.specs.declared.replies.Reply.{Reply as Replied};
+ghost use Rattle.dm_cert.specs.declared.replies.LogItem.TheVariants.{Answered};
 ghost use Rattle.dm_cert.specs.PlanTexts.{IsVersion};
-ghost use Rattle.dm_records.specs.Inside.Kinds.{said_shape, said_line, knows_kind};
-ghost use Rattle.dm_records.specs.Inside.Answers.{saying};
-ghost use Rattle.dm_records.specs.Inside.Items.{item_with, ReadsSaid};
-ghost use Rattle.dm_records.specs.Readings.{IsRead, item_of};
+ghost use Rattle.dm_records.specs.RunLines.{lone};
+ghost use Rattle.dm_records.specs.Inside.Answers.{saying, AnswerFits, HoldsReply};
+ghost use Rattle.dm_records.specs.Inside.Items.{item_with, ReadsSaid, ReadsLineIn, exchanged, knows_line, around, parted};
+ghost use Rattle.dm_records.specs.Readings.{IsReadAs, ReadsItem};
 
-use crate::answers::{Answer, AnswerLine, answer_line, choice_with};
+use crate::answers::{AnswerLine, answer_line, free_reply, told_reply};
 use crate::fields::{LARGEST_ID, number_behind};
-use crate::kinds::{SaidKind, said_row};
 use crate::lines::is_word_line;
-use dm_base::{ActId, Cost, EventId};
-use dm_feed::Line;
-use dm_rows::Message;
+use dm_base::Cost;
+use dm_cert::{LogItem, Reply};
+use dm_feed::{Line, read_printed};
+use dm_rows::{At, Refusal};
 use dm_text::behind;
 use dm_tree::Mark;
 use std::alloc::{AllocError, Global};
@@ -48,53 +48,58 @@ pub struct SolvedLine {
     pub nodes: u128,
 }
 
-/// The first line of an item: a whole item of one line, or the first line of a plan of either kind.
+/// The first line of an item.
 #[derive(Drop)]
 pub enum LogLine {
-    Malformed(u32),
-    Answered {
-        line: u32,
-        said: Line,
-        answer: Answer,
-    },
+    /// A whole item of one line.
+    Item(LogItem),
+
+    /// A whole item of one line, with a value that is too large for its type.
+    TooLarge,
+
+    /// The first line of a plan.
     Planned(PlanLine),
+
+    /// The first line of a plan by parts.
     Solved(SolvedLine),
 }
 
-/// The line of this kind with these numbers.
-fn said_line(kind: SaidKind, one: u128, two: u128) -> Line
-    requires { NumbersFit (said_shape kind) one two }
-    ensures { result ≡ said_line kind one two }
+/// What is said and answered in the first line of an item.
+#[derive(Drop)]
+pub(crate) struct Exchange {
+    pub(crate) said: Line,
+    pub(crate) answer: AnswerLine,
+}
+
+/// The item of one line that answers with this reply, unless a value in that is too large.
+fn item_of(line: u32, said: Line, reply: Option<Reply>) -> LogLine
+    ensures { (r : Replied) → HoldsReply r reply → IsReadAs result (lone (Answered line said r)) }
 {
-    match kind {
-        SaidKind::DelayEvent => Line::Say(Message::DelayEvent(EventId(one as u32), two as u64)),
-        SaidKind::DelayActivity => Line::Say(Message::DelayActivity(ActId(one as u32), two as u64)),
-        SaidKind::Pass => Line::Say(Message::Pass(EventId(one as u32), two as u64)),
-        SaidKind::Recall => Line::Say(Message::Recall(EventId(one as u32))),
-        SaidKind::Keep => Line::Say(Message::Keep(ActId(one as u32))),
-        SaidKind::Drop => Line::Say(Message::Drop(ActId(one as u32))),
-        SaidKind::First => Line::Say(Message::First(EventId(one as u32), EventId(two as u32))),
-        SaidKind::Now => Line::Say(Message::Now(one as u64)),
-        SaidKind::Cancel => Line::Say(Message::Cancel(EventId(one as u32))),
-        SaidKind::Restore => Line::Say(Message::Restore(EventId(one as u32))),
-        SaidKind::Lock => Line::Say(Message::Lock(choice_with(one, two))),
-        SaidKind::Unlock => Line::Say(Message::Unlock(choice_with(one, two))),
-        SaidKind::Time => Line::Time(EventId(one as u32)),
-        SaidKind::Cost => Line::CostNow,
-        SaidKind::Read => Line::Read,
-        SaidKind::Plan => Line::Plan(one as u64),
-        SaidKind::Solve => Line::Solve(one as u64),
-        SaidKind::Adopt => Line::Adopt,
-        SaidKind::Carry => Line::Carry,
+    match reply {
+        Some(reply) => LogLine::Item(LogItem::Answered { line, said, reply }),
+        None => LogLine::TooLarge,
     }
 }
 
-/// The item of this line that says and answers so.
-fn log_line(line: u32, said: Line, answer: AnswerLine) -> LogLine
-    ensures { item_of result ≡ item_with line said (saying answer) }
+/// The first line of the item of this line that says and answers so.
+fn log_line(line: u32, exchange: Exchange) -> LogLine
+    requires { AnswerFits exchange.answer }
+    ensures { IsReadAs result (item_with line exchange.said (saying exchange.answer)) }
 {
+    let Exchange { said, answer } = exchange;
     match answer {
-        AnswerLine::Answer(answer) => LogLine::Answered { line, said, answer },
+        AnswerLine::Told(entry, kind, one, two) => {
+            item_of(line, said, told_reply(entry, kind, one, two))
+        }
+        AnswerLine::Free(kind, one, two) => item_of(line, said, free_reply(kind, one, two)),
+        AnswerLine::Cycle(entry, ids) => LogLine::Item(LogItem::Answered {
+            line,
+            said,
+            reply: Reply::Refused(At {
+                entry,
+                why: Refusal::Cycle(ids),
+            }),
+        }),
         AnswerLine::Plan(entry, heading) => LogLine::Planned(PlanLine {
             line,
             said,
@@ -119,37 +124,79 @@ fn log_line(line: u32, said: Line, answer: AnswerLine) -> LogLine
     }
 }
 
-/// Whether a version has the words of a kind of line: version 1 has none for plans by parts.
-fn has_words(version: u32, kind: SaidKind) -> bool
-    ensures { result ≡ knows_kind version kind }
+/// Whether a version has the words of a line: version 1 has none for plans by parts.
+fn has_words(version: u32, said: &Line) -> bool
+    ensures { result ≡ knows_line version said.now }
 {
-    match kind {
-        SaidKind::Solve => version != 1,
+    match said {
+        Line::Solve(_) => version != 1,
         _ => true,
     }
+}
+
+/// The line that the bytes say, where the version has its words.
+fn line_said(version: u32, bytes: &[u8]) -> Option<Line>
+    requires { IsVersion version }
+    ensures { ReadsLineIn version bytes.now result }
+{
+    let Some(said) = read_printed(bytes) else {
+        return None;
+    };
+    if has_words(version, &said) {
+        Some(said)
+    } else {
+        None
+    }
+}
+
+/// What stands before an arrow that begins in front of this byte, and what stands behind it.
+fn around(bytes: &[u8], dash: usize) -> Option<(&[u8], &[u8])>
+    requires { dash < length bytes.now }
+    ensures { option_map (λ p. (p.0.now, p.1.now)) result ≡ around bytes.now dash }
+{
+    let front = dash.saturating_sub(1);
+    let Some(tail) = behind(&bytes[front..], " -> ") else {
+        return None;
+    };
+    Some((&bytes[..front], tail))
+}
+
+/// The place of the first dash.
+fn first_dash(bytes: &[u8]) -> Option<usize>
+    ensures is { result ≡ position (λ b. b == 45) bytes.now }
+    ensures within { IfSome result (λ place. place < length bytes.now) }
+{
+    bytes.iter().position(|byte| *byte == b'-')
+}
+
+/// What stands before and behind the arrow, where the first dash is in one.
+fn parted(bytes: &[u8]) -> Option<(&[u8], &[u8])>
+    ensures { option_map (λ p. (p.0.now, p.1.now)) result ≡ parted bytes.now }
+{
+    let Some(dash) = first_dash(bytes) else {
+        return None;
+    };
+    around(bytes, dash)
 }
 
 /// What is said and answered behind an item's number.
 fn said_and_answered(
     alloc: Global,
     version: u32,
-    number: u32,
     line: &[u8],
-) -> Result<Option<LogLine>, AllocError>
+) -> Result<Option<Exchange>, AllocError>
     requires { IsVersion version }
-    ensures { IfOk result (λ read. ReadsSaid version number line.now (option_map item_of read)) }
+    ensures reads { IfOk result (λ read. ReadsSaid version line.now (option_map exchanged read)) }
+    ensures fits { IfOk result (λ read. IfSome read (λ e. AnswerFits e.answer)) }
 {
-    let Some(((kind, one, two), rest)) = said_row(line) else {
+    let Some((front, tail)) = parted(line) else {
         return Ok(None);
     };
-    if !has_words(version, kind) {
-        return Ok(None);
-    }
-    let Some(rest) = behind(rest, " -> ") else {
+    let Some(said) = line_said(version, front) else {
         return Ok(None);
     };
-    match answer_line(alloc, version, rest) {
-        Ok(Some(answer)) => Ok(Some(log_line(number, said_line(kind, one, two), answer))),
+    match answer_line(alloc, version, tail) {
+        Ok(Some(answer)) => Ok(Some(Exchange { said, answer })),
         Ok(None) => Ok(None),
         Err(AllocError) => Err(AllocError),
     }
@@ -158,16 +205,21 @@ fn said_and_answered(
 /// The first line of an item, in a version. `Err` is want of memory alone.
 pub fn item_line(alloc: Global, version: u32, line: &[u8]) -> Result<Option<LogLine>, AllocError>
     requires { IsVersion version }
-    ensures { IfOk result (IsRead (IsItemLine version) item_of line.now) }
+    ensures { IfOk result (ReadsItem version line.now) }
 {
     let Some((number, rest)) = number_behind(line, "", LARGEST_ID) else {
         return Ok(None);
     };
+    let line = number as u32;
     if let Some(()) = is_word_line(rest, " malformed") {
-        return Ok(Some(LogLine::Malformed(number as u32)));
+        return Ok(Some(LogLine::Item(LogItem::Malformed { line })));
     }
     let Some(rest) = behind(rest, " ") else {
         return Ok(None);
     };
-    said_and_answered(alloc, version, number as u32, rest)
+    match said_and_answered(alloc, version, rest) {
+        Ok(Some(exchange)) => Ok(Some(log_line(line, exchange))),
+        Ok(None) => Ok(None),
+        Err(AllocError) => Err(AllocError),
+    }
 }

@@ -1,16 +1,16 @@
-//! The kinds of feed lines and of answers: their words and their numbers.
+//! The kinds of answers: their words and their numbers.
 ghost use Rattle.std.specs.Prelude.{◌≡◌, ℕ, List, is_some, IfSome};
 ghost use Rattle.std.specs.Option.{option_map};
 ghost use Rattle.dm_text.specs.Inside.Parts.{behind};
 ghost use Rattle.dm_records.specs.Inside.Fields.{kind_in_front, row_in, NumbersFit};
 ghost use Rattle.dm_records.specs.declared.fields.Shape.{Shape};
-ghost use Rattle.dm_records.specs.declared.kinds.TheConstants.{SAID, TOLD, FREE};
-ghost use Rattle.dm_records.specs.Inside.Kinds.{said_text, said_shape, told_text, told_shape, free_text, free_shape};
+ghost use Rattle.dm_records.specs.declared.kinds.TheConstants.{TOLD, FREE};
+ghost use Rattle.dm_records.specs.Inside.Kinds.{told_text, told_shape, free_text, free_shape};
 
-use crate::fields::{LARGEST_ID, LARGEST_VALUE, Shape, numbers_in};
+use crate::fields::{LARGEST_ID, Shape, numbers_in};
 use dm_text::behind;
 
-/// A kind of line: its words, and the numbers behind them.
+/// A kind of answer: its words, and the numbers behind them.
 pub(crate) trait Kind: Copy {
     /// The words.
     ghost words: { Self → List ℕ };
@@ -25,30 +25,6 @@ pub(crate) trait Kind: Copy {
     /// The numbers behind the words.
     fn shape(self) -> Shape
         ensures { result ≡ numbers self };
-}
-
-/// A kind of line that a feed says.
-#[derive(Clone, Copy)]
-pub(crate) enum SaidKind {
-    DelayEvent,
-    DelayActivity,
-    Pass,
-    Recall,
-    Keep,
-    Drop,
-    First,
-    Now,
-    Cancel,
-    Restore,
-    Lock,
-    Unlock,
-    Time,
-    Cost,
-    Read,
-    Plan,
-    Solve,
-    Adopt,
-    Carry,
 }
 
 /// A kind of answer at an entry.
@@ -82,29 +58,6 @@ pub(crate) enum FreeKind {
     Range,
 }
 
-/// Every kind of line.
-pub(crate) const SAID: [SaidKind; 19] = [
-    SaidKind::DelayEvent,
-    SaidKind::DelayActivity,
-    SaidKind::Pass,
-    SaidKind::Recall,
-    SaidKind::Keep,
-    SaidKind::Drop,
-    SaidKind::First,
-    SaidKind::Now,
-    SaidKind::Cancel,
-    SaidKind::Restore,
-    SaidKind::Lock,
-    SaidKind::Unlock,
-    SaidKind::Time,
-    SaidKind::Cost,
-    SaidKind::Read,
-    SaidKind::Plan,
-    SaidKind::Solve,
-    SaidKind::Adopt,
-    SaidKind::Carry,
-];
-
 /// Every kind of answer at an entry.
 pub(crate) const TOLD: [ToldKind; 18] = [
     ToldKind::Ok,
@@ -129,58 +82,6 @@ pub(crate) const TOLD: [ToldKind; 18] = [
 
 /// Every kind of answer at no entry.
 pub(crate) const FREE: [FreeKind; 3] = [FreeKind::NoPlan, FreeKind::Plans, FreeKind::Range];
-
-impl Kind for SaidKind {
-    ghost words = { said_text };
-
-    ghost numbers = { said_shape };
-
-    fn text(self) -> &'static str
-        ensures { result.now ≡ said_text self }
-    {
-        match self {
-            SaidKind::DelayEvent => "delay event ",
-            SaidKind::DelayActivity => "delay activity ",
-            SaidKind::Pass => "pass ",
-            SaidKind::Recall => "recall ",
-            SaidKind::Keep => "keep ",
-            SaidKind::Drop => "drop ",
-            SaidKind::First => "first ",
-            SaidKind::Now => "now ",
-            SaidKind::Cancel => "cancel ",
-            SaidKind::Restore => "restore ",
-            SaidKind::Lock => "lock ",
-            SaidKind::Unlock => "unlock ",
-            SaidKind::Time => "time ",
-            SaidKind::Cost => "cost",
-            SaidKind::Read => "read",
-            SaidKind::Plan => "plan ",
-            SaidKind::Solve => "solve ",
-            SaidKind::Adopt => "adopt",
-            SaidKind::Carry => "carry",
-        }
-    }
-
-    fn shape(self) -> Shape
-        ensures { result ≡ said_shape self }
-    {
-        match self {
-            SaidKind::DelayEvent | SaidKind::DelayActivity | SaidKind::Pass => {
-                Shape::Double(LARGEST_ID, LARGEST_VALUE)
-            }
-            SaidKind::First => Shape::Double(LARGEST_ID, LARGEST_ID),
-            SaidKind::Recall
-            | SaidKind::Cancel
-            | SaidKind::Restore
-            | SaidKind::Keep
-            | SaidKind::Drop
-            | SaidKind::Time => Shape::Single(LARGEST_ID),
-            SaidKind::Lock | SaidKind::Unlock => Shape::Choice,
-            SaidKind::Now | SaidKind::Plan | SaidKind::Solve => Shape::Single(LARGEST_VALUE),
-            SaidKind::Cost | SaidKind::Read | SaidKind::Adopt | SaidKind::Carry => Shape::Bare,
-        }
-    }
-}
 
 impl Kind for ToldKind {
     ghost words = { told_text };
@@ -256,14 +157,6 @@ impl Kind for FreeKind {
             FreeKind::Range => Shape::Single(u128::MAX),
         }
     }
-}
-
-/// A kind of line with its numbers, and what stands behind them.
-pub(crate) fn said_row(line: &[u8]) -> Option<((SaidKind, u128, u128), &[u8])>
-    ensures reads { option_map (λ p. (p.0, p.1.now)) result ≡ row_in said_text said_shape SAID line.now }
-    ensures fits { IfSome result (λ p. NumbersFit (said_shape p.0.0) p.0.1 p.0.2) }
-{
-    row_in(&SAID, line)
 }
 
 /// A kind of answer with its numbers, and what stands behind them.

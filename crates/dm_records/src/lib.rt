@@ -1,14 +1,15 @@
 //! The records of a run's text, each read from its line.
 //!
-//! It stands on dm_cert for how runs and plans are spelled, and on dm_text for words and numbers at the front of a line.
-//! `specs/RunLines` says which bytes spell what.
+//! It stands on dm_cert for how runs and plans are spelled, on dm_feed for messages and lines in print, and on dm_text for words
+//! and numbers at the front of a line. `specs/RunLines` says which bytes spell what.
 //!
 //! # What is promised
 //!
 //! The readers read the records of a run's text, from the opening lines to the times and notes: [`version_line`],
 //! [`number_line`], [`is_word_line`], [`entry_line`], [`opening_line`], [`item_line`], [`stop_line`], [`note_line`] and
 //! [`time_line`]. Each gives the one value that a line spells, exactly where the line spells one. They take memory for lists
-//! alone (choices, cycles). `EntryLine::into_entry` is the entry of a line.
+//! alone (choices, cycles). `EntryLine::into_entry` is the entry of a line. `item_line` gives an item of one line in the types of
+//! logs. Where a value in that is too large for its type, it tells this alone.
 //!
 //! Laws, in [`laws`]:
 //!
@@ -26,7 +27,6 @@ mod kinds;
 pub mod laws;
 mod lines;
 
-pub use answers::{Answer, Reason};
 pub use items::{LogLine, PlanLine, SolvedLine, item_line};
 pub use lines::{
     EntryLine, NoteLine, OpeningLine, TimeLine, entry_line, is_word_line, note_line, number_line,

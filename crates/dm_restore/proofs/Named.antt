@@ -223,9 +223,6 @@ same_sorted before now same are = subst AreSorted (sym same) are
 
 -- ---- the items of a log
 
-pub none_noted : (net : Net) (start : RowsValue) (history : List Entry) (old : List (Option Named)) → Agrees net start history old → Notes net start history [] old old
-none_noted net start history old agrees = record { agrees = agrees; kept = λ place has. has; all = λ n some low named. absurd (omega (arith, named)) }
-
 module _ (s : Setting) (history : List Entry) (feed : ℕ) (before : List LogItem) (answered : LogItem) (first old now : List (Option Named)) (few : length history ≤ ENTRIES)
     (is : IsTrueAnswer s history feed before answered) (so_far : Notes s.net s.start history before first old) where
   -- what is named among the items and the one more
@@ -350,26 +347,6 @@ all_noted s history logs entries are noted = record {
 
 -- ---- places
 
-pub keeps_all : (entries : List (Option Named)) → KeepsEntries entries entries
-keeps_all entries = record { kept = λ place entry at. at; none_else = λ place entry at. at }
-
-at_append : (xs : List (Option Named)) (place : ℕ) (entry : Named) → IsAt xs place entry → IsAt (xs ++ None ∷ []) place entry
-at_append [] place entry at = absurd (none-some (Some entry) at)
-at_append (x ∷ xs) zero entry at = at
-at_append (x ∷ xs) (suc place) entry at = at_append xs place entry at
-
-at_before : (xs : List (Option Named)) (place : ℕ) (entry : Named) → IsAt (xs ++ None ∷ []) place entry → IsAt xs place entry
-at_before [] zero entry at = absurd (let inner : ◌≡◌ {A = Option Named} None (Some entry) = same_Some None (Some entry) at in none-some entry inner)
-at_before [] (suc place) entry at = absurd (none-some (Some entry) at)
-at_before (x ∷ xs) zero entry at = at
-at_before (x ∷ xs) (suc place) entry at = at_before xs place entry at
-
-pub one_place : (old mid now : List (Option Named)) → KeepsEntries old mid → now ≡ mid ++ None ∷ [] → KeepsEntries old now
-one_place old mid now keeps is = record {
-  kept = λ place entry at. subst (λ (xs : List (Option Named)). IsAt xs place entry) (sym is) (at_append mid place entry (keeps.kept place entry at));
-  none_else = λ place entry at. keeps.none_else place entry (at_before mid place entry (subst (λ (xs : List (Option Named)). IsAt xs place entry) is at));
-}
-
 pub put_there : (old mid now : List (Option Named)) (number : ℕ) (entry : Named) → KeepsEntries old mid → 0 < number → number ≤ length mid → now ≡ set mid (number - 1) (Some entry) → HasPutOne old now number entry
 put_there old mid now number entry keeps some low is = record {
   here = λ p q. there;
@@ -387,9 +364,6 @@ put_there old mid now number entry keeps some low is = record {
     there =
         ap (λ (xs : List (Option Named)). slice_get xs (number - 1)) is
         ∙ get_set_same mid (number - 1) (get_or mid (number - 1) None) (Some entry) (slice_get-get_or mid (number - 1) None (omega (arith, some, low)))
-
-pub passed_over : (old : List (Option Named)) (number : ℕ) (entry : Named) → (0 < number → number ≤ ENTRIES → ⊥) → HasPutOne old old number entry
-passed_over old number entry out = record { here = λ p q. absurd (out p q); kept = λ place has. has; none_else = λ place other at. inl at }
 
 -- ---- one entry more
 

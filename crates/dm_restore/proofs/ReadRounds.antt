@@ -1,22 +1,19 @@
 -- Rounds that are read one after another.
 use Rattle.std.proofs.Common.{◌≡◌, ℕ, suc, ◌+◌, ◌<◌, ◌≤◌, List, [], ◌∷◌, ◌++◌, length, map, fold, get_or, set, refl, sym, ap, ◌∙◌, arith, append-nil, length-append, All, Vec, Global}
 use Rattle.std.specs.List.{flat_map}
-use Rattle.std.specs.Fmt.{decimal}
 use Rattle.std.proofs.lemmas.List.{map-append, map-set, get_or-map, length-map, length-replicate}
 use Rattle.std.proofs.lemmas.List.Elements.{All-nil, All-cons, All-head, All-tail, All-append, All-replicate, All-push}
 use Rattle.std.proofs.lemmas.List.Sums.{fold_push}
 use Rattle.std.proofs.Math.ListN.{replicate}
 use Rattle.dm_cert.specs.declared.replies.LogItem.{LogItem}
 use Rattle.dm_cert.specs.RunTexts.{IsSpelledItem}
-use Rattle.dm_store.specs.Blocks.{block, IsEnd}
+use Rattle.dm_store.specs.Blocks.{block}
 use Rattle.dm_store.proofs.Standing.{one_more}
 use Rattle.dm_tape.specs.Laws.{IsKeptPart}
 use Rattle.dm_tape.specs.Rounds.{round_text, IsTapeRound}
 use Rattle.dm_tape.specs.Told.{BeginsWithRound}
-use Rattle.dm_items.specs.Holding.{IsHeldPart}
 use Rattle.dm_book.specs.Books.{with_round, logs_after}
-use Rattle.dm_restore.specs.Restoring.{IsNoRound}
-use Rattle.dm_restore.specs.Inside.Reading.{IsWholeRound, AreWholeRounds, HasRounds, HasNoRound}
+use Rattle.dm_restore.specs.Inside.Reading.{IsWholeRound, AreWholeRounds}
 
 -- ---- logs with a round behind them
 
@@ -86,18 +83,6 @@ spelled_after feeds rounds tape =
 pub begins_whole : (feeds : ℕ) (content : List ℕ) (round : List (List LogItem)) → length round ≡ feeds → IsTapeRound round → content ≡ round_text round → BeginsWithRound feeds content round (length (round_text round))
 begins_whole feeds content round size tape text = record { rest = []; text = text ∙ sym (append-nil (round_text round)); used = refl; feeds_are = size; items = tape }
 
-pub whole_round : (feeds : ℕ) (content : List ℕ) (round : List (List LogItem)) → content ≡ round_text round → length round ≡ feeds → IsTapeRound round →
-    All IsHeldPart round → IsWholeRound feeds content round
-whole_round feeds content round text whole tape held = record {
-  text = text;
-  whole = whole;
-  tape = tape;
-  kept = λ k d low. record {
-    size = (held k d low).size;
-    items_are = λ i e below. record { in_print = tape k d low i e below; held = (held k d low).held i e below };
-  };
-}
-
 -- ---- blocks of rounds, one after another
 
 pub record HasRead (feeds : ℕ) (bytes rest : List ℕ) (logs : List (List LogItem)) (number : ℕ) : Type 0 where
@@ -108,29 +93,7 @@ pub record HasRead (feeds : ℕ) (bytes rest : List ℕ) (logs : List (List LogI
   pub number_is : number ≡ length rounds + 2
   pub few : number + length rest ≤ length bytes + 2
 
-pub read_none : (feeds : ℕ) (bytes : List ℕ) (logs : List (List LogItem)) → logs ≡ replicate feeds [] → HasRead feeds bytes bytes logs 2
-read_none feeds bytes logs none = record {
-  rounds = [];
-  split = refl;
-  are_whole = record { whole = All-nil (λ round. length round ≡ feeds); tape = All-nil IsTapeRound; kept = All-nil (All IsKeptPart) };
-  logs_are = none;
-  number_is = refl;
-  few = omega arith;
-}
-
-block_is_some : (content : List ℕ) → 0 < length (block content)
-block_is_some content = omega arith
-
 module _ (feeds : ℕ) (bytes rest content more : List ℕ) (logs : List (List LogItem)) (number : ℕ) (h : HasRead feeds bytes rest logs number) (split : rest ≡ block content ++ more) where
-  pub shorter : length content ≤ length bytes
-  shorter =
-      let size = ap length split in
-      let parts = length-append (block content) more in
-      let whole = ap length h.split in
-      let all = length-append (flat_map block (map round_text h.rounds)) rest in
-      let inner = length-append (decimal (length content)) (10 ∷ content) in
-      omega (arith, size, parts, whole, all, inner)
-
   pub read_more : (round now : List (List LogItem)) → IsWholeRound feeds content round → now ≡ with_round logs round → HasRead feeds bytes more now (number + 1)
   read_more round now w is =
       let size = ap length split in
@@ -150,35 +113,8 @@ module _ (feeds : ℕ) (bytes rest content more : List ℕ) (logs : List (List L
         few = omega (arith, h.few, size, parts);
       }
 
-  pub read_misshapen : IsNoRound feeds content → HasNoRound feeds bytes number
-  read_misshapen none = record {
-    rounds = h.rounds;
-    content = content;
-    rest = more;
-    split = h.split ∙ ap (λ (l : List ℕ). flat_map block (map round_text h.rounds) ++ l) split;
-    are_whole = h.are_whole;
-    number_is = h.number_is;
-    misshapen = none;
-  }
-
-  pub goes_on : number < length bytes + 2
-  goes_on =
-      let size = ap length split in
-      let parts = length-append (block content) more in
-      omega (arith, h.few, size, parts)
-
 -- there are as many logs as a round has parts
 pub as_many : (feeds : ℕ) (bytes rest : List ℕ) (logs : List (Vec LogItem Global)) (number : ℕ) (content : List ℕ) (round : List (List LogItem)) → HasRead feeds bytes rest (map (λ (l : Vec LogItem Global). l.items) logs) number → IsWholeRound feeds content round →
     length round ≡ length logs
 as_many feeds bytes rest logs number content round h w =
     w.whole ∙ (sym (length-logs_after feeds h.rounds) ∙ (ap length (sym h.logs_are) ∙ length-map logs (λ (l : Vec LogItem Global). l.items)))
-
-pub read_all : (feeds : ℕ) (bytes rest : List ℕ) (logs : List (List LogItem)) (number : ℕ) → HasRead feeds bytes rest logs number → IsEnd rest → HasRounds feeds bytes logs
-read_all feeds bytes rest logs number h end = record {
-  rounds = h.rounds;
-  end = rest;
-  split = h.split;
-  is_end = end;
-  are_whole = h.are_whole;
-  logs_are = h.logs_are;
-}

@@ -2,6 +2,7 @@
 ghost use Rattle.std.specs.Prelude.{◌≡◌, ◌-◌, ◌<◌, ◌≤◌, ◌^◌, false, [], List, All, length, IfOk, OnOk, Some};
 ghost use Rattle.std.specs.Option.{option_copied};
 ghost use Rattle.dm_rows.specs.declared.messages.Entry.{Entry as AnEntry};
+ghost use Rattle.dm_feed.specs.Lines.{IsSpelledLine};
 ghost use Rattle.dm_cert.specs.Answers.{Setting};
 ghost use Rattle.dm_cert.specs.Logs.{AreTrueAnswers, AreTrueLogs};
 ghost use Rattle.dm_rows.specs.History.{IsLegal};
@@ -13,7 +14,7 @@ use dm_base::Items;
 use dm_base::limits::ENTRIES;
 use dm_cert::{FeedLog, LogItem, Reply};
 use dm_desk::Desk;
-use dm_feed::Line;
+use dm_feed::{Line, copy_of_message};
 use dm_rows::{At, Decision, Entry, Message, Refusal};
 use dm_table_desk::TableDesk;
 use std::alloc::{AllocError, Global};
@@ -33,10 +34,11 @@ pub(crate) enum Named {
 
 /// The entries of logs, each at the place before its number. Where no item names an entry of this number there is none.
 pub(crate) fn entries_of(alloc: Global, logs: &[FeedLog]) -> Result<Vec<Option<Named>>, AllocError>
-    requires { length logs.now < 2 ^ 32 }
+    requires few { length logs.now < 2 ^ 32 }
+    requires spelled { All IsSpelledLog logs.now }
     ensures entries { IfOk result (λ entries. (s : Setting) (history : List AnEntry) → IsLegal s.net s.start history
         → AreTrueLogs s history logs.now → AreEntries s.net s.start history entries.items) }
-    ensures sorted { IfOk result (λ entries. All IsSpelledLog logs.now → AreNamedSorted entries.items) }
+    ensures sorted { IfOk result (λ entries. AreNamedSorted entries.items) }
 {
     let mut entries = Vec::new(alloc);
     for (place, log) in logs.iter().enumerate() {
@@ -52,10 +54,11 @@ fn note_log(
     feed: u32,
     items: &[LogItem],
 ) -> Result<(), AllocError>
+    requires { All IsSpelledItem items.now }
     ensures notes { OnOk result ((s : Setting) (history : List AnEntry) → length history ≤ ENTRIES
         → AreTrueAnswers s history feed [] items.now → Agrees s.net s.start history entries.old.items
         → Notes s.net s.start history items.now entries.old.items entries.new.items) }
-    ensures sorted { OnOk result (All IsSpelledItem items.now → AreNamedSorted entries.old.items → AreNamedSorted entries.new.items) }
+    ensures sorted { OnOk result (AreNamedSorted entries.old.items → AreNamedSorted entries.new.items) }
 {
     let mut latest = None;
     for item in items {
@@ -73,6 +76,7 @@ fn note_item(
     latest: Option<&Items<Decision>>,
     item: &LogItem,
 ) -> Result<(), AllocError>
+    requires { IsSpelledItem item.now }
     ensures { OnOk result (HasPut entries.old.items entries.new.items (entry_in feed (option_copied latest.entry) item.now)) }
 {
     let Some((number, entry)) = entry_in(alloc, feed, latest, item)? else {
@@ -109,6 +113,7 @@ fn entry_in(
     latest: Option<&Items<Decision>>,
     item: &LogItem,
 ) -> Result<Option<(u32, Named)>, AllocError>
+    requires { IsSpelledItem item.now }
     ensures { IfOk result (λ found. found ≡ entry_in feed (option_copied latest.entry) item.now) }
 {
     let LogItem::Answered {
@@ -133,11 +138,12 @@ fn named_by(
     latest: Option<&Items<Decision>>,
     said: &Line,
 ) -> Result<Option<Named>, AllocError>
+    requires { IsSpelledLine said.now }
     ensures { IfOk result (λ named. named ≡ named_by feed line (option_copied latest.entry) said.now) }
 {
     match (said, latest) {
         (Line::Say(message), _) => {
-            let message = copy_of(alloc, message)?;
+            let message = copy_of_message(message);
             Ok(Some(Named::Entry(Entry {
                 feed,
                 line,
@@ -145,7 +151,7 @@ fn named_by(
             })))
         }
         (Line::Adopt, Some(choices)) => {
-            let message = Message::Adopt(decisions(alloc, choices.as_slice())?);
+            let message = Message::Adopt(Items::from_slice(alloc, choices.as_slice())?);
             Ok(Some(Named::Entry(Entry {
                 feed,
                 line,
@@ -153,7 +159,7 @@ fn named_by(
             })))
         }
         (Line::Carry, Some(choices)) => {
-            let choices = decisions(alloc, choices.as_slice())?;
+            let choices = Items::from_slice(alloc, choices.as_slice())?;
             Ok(Some(Named::Carry {
                 feed,
                 line,
@@ -162,33 +168,6 @@ fn named_by(
         }
         _ => Ok(None),
     }
-}
-
-fn copy_of(alloc: Global, message: &Message) -> Result<Message, AllocError>
-    ensures { IfOk result (λ copy. copy ≡ message.now) }
-{
-    Ok(match message {
-        Message::DelayEvent(event, delay) => Message::DelayEvent(*event, *delay),
-        Message::DelayActivity(act, delay) => Message::DelayActivity(*act, *delay),
-        Message::Pass(event, time) => Message::Pass(*event, *time),
-        Message::Recall(event) => Message::Recall(*event),
-        Message::Keep(act) => Message::Keep(*act),
-        Message::Drop(act) => Message::Drop(*act),
-        Message::First(first, second) => Message::First(*first, *second),
-        Message::Adopt(list) => Message::Adopt(decisions(alloc, list.as_slice())?),
-        Message::Now(time) => Message::Now(*time),
-        Message::Cancel(event) => Message::Cancel(*event),
-        Message::Restore(event) => Message::Restore(*event),
-        Message::Lock(choice) => Message::Lock(*choice),
-        Message::Unlock(choice) => Message::Unlock(*choice),
-    })
-}
-
-/// Equal decisions.
-fn decisions(alloc: Global, decisions: &[Decision]) -> Result<Items<Decision>, AllocError>
-    ensures { IfOk result (λ items. items ≡ decisions.now) }
-{
-    Ok(Items::from_vec(Vec::from_slice(alloc, decisions)?))
 }
 
 /// Puts an entry at the place before its number. A number that no history has is passed over.

@@ -145,11 +145,12 @@ fn new_desk<'n>(
 /// Enters what the items of logs name as entered. `Err` is want of memory alone.
 fn enter_logs(alloc: Global, desk: &mut TableDesk<'_>, logs: &[FeedLog]) -> Result<(), AllocError>
     requires few { length logs.now ≤ 64 }
+    requires spelled { All IsSpelledLog logs.now }
     ensures setting { setting_of desk.new.plans desk.new.table ≡ setting_of desk.old.plans desk.old.table }
     ensures enters { OnOk result (desk.old.table.history ≡ [] → (history : List AnEntry)
         → IsLegal desk.old.table.network desk.old.table.start history
         → AreTrueLogs (setting_of desk.old.plans desk.old.table) history logs.now → desk.new.table.history ≡ history) }
-    ensures sorted { All IsSpelledLog logs.now → AreSorted desk.old.table.history → AreSorted desk.new.table.history }
+    ensures sorted { AreSorted desk.old.table.history → AreSorted desk.new.table.history }
 {
     let entries = entries_of(alloc, logs)?;
     enter_all(desk, entries)

@@ -1,4 +1,3 @@
-pub mod ItemLines
 pub mod Leading
 pub mod OwnTexts
 pub mod Placed

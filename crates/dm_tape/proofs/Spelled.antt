@@ -26,7 +26,7 @@ use Rattle.dm_cert.proofs.ToldTexts.{line_told, plan_told}
 use Rattle.dm_records.specs.RunLines.{PlanOpening, SolvedOpening, ItemLine, lone, planned, solved, heading_of, solved_item, solved_opening_text, IsFormedReason, IsFormedReply, IsFormedItem}
 use Rattle.dm_tape.specs.Rounds.{part_text, parts_text, round_text, NamesSome, ShowsSome, IsTapeItem, IsTapeRound}
 use Rattle.dm_tape.specs.Told.{IsFirstLine, IsFeedLine, TellsBehind, TellsItem, TellsPart, TellsRound}
-use Rattle.dm_tape.proofs.ItemLines.{front_of, item_is, opening_is, solution_is, solved_opening_is, opening_same}
+use Rattle.dm_records.proofs.ItemLines.{front_of, item_is, opening_is, solution_is, solved_opening_is, opening_same}
 
 -- ---- several values
 
@@ -124,7 +124,7 @@ solved_same o plan place next read =
     let first : List ℕ = solved_heading_text (heading_of o) in
     let front : List ℕ = front_of o.line o.said o.entry in
     let behind : List ℕ = behind_first plan in
-    solution_is o.line o.said plan next.left
+    solution_is 2 o.line o.said plan next.left
     ∙ (ap (λ n. front_of o.line o.said n ++ (spelling_of_solved plan ++ next.left)) read.entry_is
     ∙ (ap (λ xs. front ++ (xs ++ next.left)) read.whole
     ∙ (ap (λ xs. front ++ xs) (append_assoc first behind next.left)

@@ -8,7 +8,6 @@ use Rattle.dm_text.specs.Places.{Place}
 use Rattle.dm_text.specs.Judging.{Times}
 use Rattle.dm_rows.specs.declared.messages.Decision.{Decision}
 use Rattle.dm_rows.specs.declared.messages.Refusal.{Refusal}
-use Rattle.dm_rows.specs.declared.messages.Refusal.TheVariants as refusal
 use Rattle.dm_feed.specs.declared.grammar.Line.{Line}
 use Rattle.dm_feed.specs.Parts.{largest_id}
 use Rattle.dm_feed.specs.Lines.{spelling_of_line}
@@ -25,17 +24,17 @@ use Rattle.dm_cert.specs.declared.replies.LogItem.TheVariants.{Malformed, Answer
 use Rattle.dm_cert.specs.PlanTexts.{line_end, largest_cost, choice_text, node_text, spelling_of_plan, FitsDecision, FitsNode, FitsPlan}
 use Rattle.dm_cert.specs.PlansRead.{IsChoiceLine, IsNodeLine, BeginsWithPlan}
 use Rattle.dm_cert.specs.SolvedTexts.{spelling_of_solved, IsSpelledSolved, FitsSolved}
-use Rattle.dm_cert.specs.RunTexts.{feed_text, item_text, reply_text, FitsReason, FitsItem, IsSpelledReason}
+use Rattle.dm_cert.specs.RunTexts.{feed_text, item_text, reply_text, FitsItem}
 use Rattle.dm_cert.proofs.HeadingsRead.{front_text, heading_spelled}
 use Rattle.dm_cert.proofs.LineFeeds.{has_no_feed}
 use Rattle.dm_cert.proofs.SpelledPlans.{HasLine, line_stands, plan_stands, IsCounted, begun_is_told}
 use Rattle.dm_cert.proofs.SpelledSolved.{few_solved, solved_stands}
 use Rattle.dm_cert.proofs.ToldTexts.{times_told}
-use Rattle.dm_records.specs.RunLines.{PlanOpening, SolvedOpening, lone, planned, solved, solved_opening_text, IsFormedReason, IsFormedReply, IsFormedSaid}
+use Rattle.dm_records.specs.RunLines.{PlanOpening, SolvedOpening, lone, planned, solved, solved_opening_text, IsFormedReply, IsFormedSaid}
 use Rattle.dm_tape.specs.Rounds.{part_text, parts_text, NamesSome, IsTapeItem}
 use Rattle.dm_tape.specs.Told.{IsFirstLine, IsFeedLine, TellsItem, TellsPart, plan_item}
-use Rattle.dm_records.proofs.ItemsRead.{known_in_second}
-use Rattle.dm_tape.proofs.ItemLines.{ItemHasLine, malformed_line, answered_line, front_of, item_is, opening_at, opening_is, front_no_feed, solution_is, solved_opening_at, solved_opening_is, opening_line}
+use Rattle.dm_records.proofs.ItemsRead.{known_in_second, formed_is_known}
+use Rattle.dm_records.proofs.ItemLines.{ItemHasLine, malformed_line, answered_line, front_of, item_is, opening_at, opening_is, front_no_feed, solution_is, solved_opening_at, solved_opening_is, opening_line, formed_reason}
 
 -- the value is told at the place, and this is left behind what it was read from
 pub record Told {V : Type 0} (tells : Place → Result (V × Place) CertFault → Type 0) (v : V) (place : Place) (rest : List ℕ) : Type 0 where
@@ -47,23 +46,6 @@ abbrev IsShort : Place → Type 0
 IsShort place = length place.left ≤ 536870912
 
 -- ---- items of one line
-
-formed_reason : (why : Refusal) → FitsReason why → IsSpelledReason why → NamesSome why → IsFormedReason why
-formed_reason (refusal.Range v) fits spelled some = omega (arith, fits)
-formed_reason (refusal.UnknownEvent e) fits spelled some = fits
-formed_reason (refusal.UnknownActivity a) fits spelled some = fits
-formed_reason (refusal.UnknownChange a) fits spelled some = fits
-formed_reason (refusal.UnknownPair i j) fits spelled some = fits
-formed_reason (refusal.Passed e t) fits spelled some = let low = fits.1 in (fits.0, omega (arith, low))
-formed_reason (refusal.NotPassed e) fits spelled some = fits
-formed_reason (refusal.Cancelled e) fits spelled some = fits
-formed_reason (refusal.NotCancelled e) fits spelled some = fits
-formed_reason (refusal.Locked c) fits spelled some = (fits, spelled)
-formed_reason (refusal.NotLocked c) fits spelled some = (fits, spelled)
-formed_reason (refusal.Back c) fits spelled some = omega (arith, fits)
-formed_reason (refusal.Cycle ids) fits spelled some = (some, fits)
-formed_reason (refusal.Full n) fits spelled some = spelled
-formed_reason refusal.OutOfMemory fits spelled some = absurd spelled
 
 lone_told : (answered : LogItem) → ItemHasLine 2 answered → FitsItem answered → (place : Place) (rest : List ℕ) → place.left ≡ item_text 2 answered ++ rest → Told TellsItem answered place rest
 lone_told answered has fits place rest left =
@@ -77,7 +59,7 @@ lone_told answered has fits place rest left =
 
 alone : (line : ℕ) (said : Line) (r : Reply) → IsTapeItem (Answered line said r) → IsFormedReply r → (place : Place) (rest : List ℕ) → place.left ≡ item_text 2 (Answered line said r) ++ rest → Told TellsItem (Answered line said r) place rest
 alone line said r is formed place rest left =
-    lone_told (Answered line said r) (answered_line 2 line said r refl is.fits.0 (record { spelled = is.spelled.0; fits = is.fits.1 }) formed) is.fits place rest left
+    lone_told (Answered line said r) (answered_line 2 line said r is.fits.0 (record { spelled = is.spelled.0; fits = is.fits.1 }) formed (known_in_second 2 said refl, formed_is_known 2 r formed)) is.fits place rest left
 
 -- ---- items with a plan
 
@@ -161,7 +143,7 @@ solution_told : (line : ℕ) (said : Line) (plan : PlanByParts) → line ≤ lar
 solution_told line said plan low formed at fits spelled place rest short left =
     let text : List ℕ = spelling_of_solved plan in
     let front : List ℕ = front_of line said plan.entry in
-    let is : place.left ≡ front ++ (text ++ rest) = left ∙ solution_is line said plan rest in
+    let is : place.left ≡ front ++ (text ++ rest) = left ∙ solution_is 2 line said plan rest in
     let counted = few_solved plan (text ++ rest) rest fits spelled (omega (arith, short, ap length is, length-append front (text ++ rest))) refl in
     let stands = solved_stands plan (record { left = text ++ rest; line = place.line }) rest fits spelled counted refl in
     let told = stands.told in
@@ -213,7 +195,7 @@ pub item_told : (x : LogItem) → IsTapeItem x → (place : Place) (rest : List 
 item_told (Malformed line) is place rest short left = lone_told (Malformed line) (malformed_line 2 line is.fits) is.fits place rest left
 item_told (Answered line said (reply.Ok n)) is place rest short left = alone line said (reply.Ok n) is is.fits.2 place rest left
 item_told (Answered line said (reply.Refused at)) is place rest short left =
-    alone line said (reply.Refused at) is (is.fits.2.0, formed_reason at.why is.fits.2.1 is.spelled.1 is.some) place rest left
+    alone line said (reply.Refused at) is (is.fits.2.0, formed_reason at.why is.fits.2.1 is.spelled.1 (λ ids e. subst (λ (why : Refusal). NamesSome why) e is.some)) place rest left
 item_told (Answered line said (reply.Time n x)) is place rest short left =
     let low = is.fits.2.1 in alone line said (reply.Time n x) is (is.fits.2.0, omega (arith, low)) place rest left
 item_told (Answered line said (reply.Cost n c)) is place rest short left = alone line said (reply.Cost n c) is is.fits.2 place rest left

@@ -1,14 +1,13 @@
 //! The items of a round, read line by line.
 ghost use Rattle.std.specs.Prelude.{◌≡◌};
-ghost use Rattle.dm_text.specs.Judging.{Line, Then, Gives};
+ghost use Rattle.dm_text.specs.Judging.{Then, Gives};
 ghost use Rattle.dm_records.specs.RunLines.{planned, solved_item, heading_of};
-ghost use Rattle.dm_records.specs.Readings.{opening_of, solved_opening_of, item_of};
-ghost use Rattle.dm_cert.specs.PlansRead.{Answers, cut_line, misshapen_line};
+ghost use Rattle.dm_records.specs.Readings.{opening_of, solved_opening_of};
+ghost use Rattle.dm_cert.specs.PlansRead.{Answers, misshapen_line};
 ghost use Rattle.dm_cert.specs.SolvedRead.{TellsSolvedBehind};
-ghost use Rattle.dm_tape.specs.Told.{IsFirstLine, TellsNodesOf, TellsBehind, TellsItem, fault_of, plan_item};
-ghost use Rattle.dm_tape.specs.Inside.Typed.{line_of_front, IsFrontOf};
+ghost use Rattle.dm_tape.specs.Told.{TellsNodesOf, TellsBehind, TellsItem, fault_of, plan_item};
+ghost use Rattle.dm_tape.specs.Inside.Fronts.{ReadsFront};
 
-use crate::typed::{Front, front_in};
 use dm_base::Items;
 use dm_cert::{
     CertFault, CertKind, LogItem, Reply, SolvedHeading, read_choices, read_tree, solved_behind,
@@ -30,8 +29,8 @@ pub(crate) const WANT_OF_MEMORY: CertFault = CertFault {
 };
 
 /// The next line, which should be the first of an item.
-fn front_at(alloc: Global, lines: &mut Lines) -> Result<Front, CertFault>
-    ensures { Answers (Line cut_line misshapen_line IsFirstLine) line_of_front lines.old lines.new result }
+fn front_at(alloc: Global, lines: &mut Lines) -> Result<LogLine, CertFault>
+    ensures { ReadsFront lines.old lines.new result }
 {
     let number = lines.line();
     let Some(bytes) = lines.next_line() else {
@@ -40,32 +39,21 @@ fn front_at(alloc: Global, lines: &mut Lines) -> Result<Front, CertFault>
             kind: CertKind::Truncated,
         });
     };
-    let form = CertFault {
-        line: number,
-        kind: CertKind::Form,
-    };
-    let line = match item_line(alloc, VERSION, bytes) {
-        Ok(line) => line,
-        Err(AllocError) => return Err(WANT_OF_MEMORY),
-    };
-    let Some(line) = line else {
-        return Err(form);
-    };
-    typed(alloc, line, form)
+    match item_line(alloc, VERSION, bytes) {
+        Ok(Some(front)) => Ok(front),
+        Ok(None) => Err(misshapen(number)),
+        Err(AllocError) => Err(WANT_OF_MEMORY),
+    }
 }
 
-/// What the line says, or this fault where a value in it is too large.
-fn typed(alloc: Global, line: LogLine, form: CertFault) -> Result<Front, CertFault>
-    ensures { IsFrontOf (item_of line) form result }
+/// This line is not as the format says.
+fn misshapen(line: u32) -> CertFault
+    ensures { result ≡ misshapen_line line }
 {
-    let front = match front_in(alloc, line) {
-        Ok(front) => front,
-        Err(AllocError) => return Err(WANT_OF_MEMORY),
-    };
-    let Some(front) = front else {
-        return Err(form);
-    };
-    Ok(front)
+    CertFault {
+        line,
+        kind: CertKind::Form,
+    }
 }
 
 /// Where the fault of a plan's lines is told, whose item begins at this line.
@@ -204,8 +192,9 @@ pub(crate) fn item_at(alloc: Global, lines: &mut Lines) -> Result<LogItem, CertF
         Err(fault) => return Err(fault),
     };
     match front {
-        Front::Whole(item) => Ok(item),
-        Front::Plan(opening) => plan_behind(alloc, lines, first, opening),
-        Front::Solved(opening) => solution_behind(alloc, lines, opening),
+        LogLine::Item(item) => Ok(item),
+        LogLine::TooLarge => Err(misshapen(first)),
+        LogLine::Planned(opening) => plan_behind(alloc, lines, first, opening),
+        LogLine::Solved(opening) => solution_behind(alloc, lines, opening),
     }
 }

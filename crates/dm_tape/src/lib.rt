@@ -27,7 +27,6 @@ mod items;
 pub mod laws;
 mod printing;
 mod rounds;
-mod typed;
 
 pub use faults::RoundFault;
 pub use printing::{put_part, put_round};

@@ -6,31 +6,18 @@ use Rattle.dm_feed.specs.declared.feed.FeedStop.{FeedStop}
 use Rattle.dm_feed.specs.declared.feed.FeedStop.TheVariants as stop
 use Rattle.dm_cert.specs.declared.notes.Note.{Note}
 use Rattle.dm_cert.specs.PlanTexts.{line_end, largest_cost}
-use Rattle.dm_cert.specs.RunTexts.{feed_text, stop_text, note_text, FitsNote}
+use Rattle.dm_cert.specs.RunTexts.{stop_text, note_text, FitsNote}
 use Rattle.dm_feed.specs.Parts.{largest_id}
 use Rattle.dm_cert.proofs.LineFeeds.{NoFeed, has_no_feed, no_feed_append}
 use Rattle.dm_cert.proofs.SpelledPlans.{HasLine}
-use Rattle.dm_records.specs.RunLines.{LogOpening, Timed, IsOpeningLine, IsStopLine, IsNoteLine, IsTimeLine, IsWordLine}
+use Rattle.dm_records.specs.RunLines.{Timed, IsStopLine, IsNoteLine, IsTimeLine, IsWordLine}
 use Rattle.dm_records.proofs.LinesSpelled.{number_then}
-use Rattle.dm_check.proofs.Spelled.{opening_same, timed_line}
+use Rattle.dm_check.proofs.Spelled.{timed_line}
 
 pub word_line : (words : List ℕ) → NoFeed words → HasLine (IsWordLine words) (λ said. words ++ line_end) tt
 word_line words none = record { line = words; text_is = refl; one_line = has_no_feed words none; spelled = refl }
 
 -- ---- logs
-
-pub opening_line : (o : LogOpening) → o.feed ≤ largest_cost → o.items ≤ largest_cost → HasLine IsOpeningLine (λ o. feed_text o.feed o.items) o
-opening_line o feed items =
-    let tail : List ℕ = codes " " ++ (decimal o.items ++ []) in
-    let line : List ℕ = codes "feed " ++ (decimal o.feed ++ tail) in
-    let is : IsOpeningLine o line = record { spelled = refl; feed = feed; items = items } in
-    let a : NoFeed tail = no_feed_append (codes " ") (decimal o.items ++ []) refl (number_then o.items [] items refl) in
-    record {
-      line = line;
-      text_is = opening_same o line is;
-      one_line = has_no_feed line (no_feed_append (codes "feed ") (decimal o.feed ++ tail) refl (number_then o.feed tail feed a));
-      spelled = is;
-    }
 
 pub stop_line : (s : FeedStop) → HasLine IsStopLine stop_text s
 unfolding stop_text

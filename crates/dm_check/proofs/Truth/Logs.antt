@@ -23,7 +23,8 @@ use Rattle.dm_check.proofs.Spelled.{same_each, log_same, timed_text}
 use Rattle.dm_records.proofs.Each.{Each, each_of_splits, each_both, all_there}
 use Rattle.dm_check.proofs.Truth.Items.{IsPrinted, item_told}
 use Rattle.dm_records.proofs.LinesSpelled.{entry_line}
-use Rattle.dm_check.proofs.Truth.Lines.{opening_line, stop_line, note_line, time_line}
+use Rattle.dm_check.proofs.Truth.Lines.{stop_line, note_line, time_line}
+use Rattle.dm_records.proofs.ItemLines.{opening_line}
 use Rattle.dm_records.proofs.Named.{IsTrueBehind}
 use Rattle.dm_check.proofs.Truth.Standing.{IsTold, line_stands, rule_stands, then_stands, all_stand}
 use Rattle.dm_check.proofs.Truth.Truths.{numbered_next, items_next, timed_next}

@@ -5,8 +5,7 @@ use Rattle.std.proofs.lemmas.Option.{option_and_then_some}
 use Rattle.dm_base.specs.declared.ids.ActId.{ActId}
 use Rattle.dm_base.specs.declared.ids.EventId.{EventId}
 use Rattle.dm_base.specs.declared.limits.TheConstants.{ENTRIES, PASSED_TIME}
-use Rattle.dm_network.specs.Net.{Net, event_place, activity_place, IsWithinLimits}
-use Rattle.dm_network.specs.Start.{IsNetwork}
+use Rattle.dm_network.specs.Net.{Net, event_place, activity_place}
 use Rattle.dm_rows.specs.declared.messages.At.{At}
 use Rattle.dm_rows.specs.declared.messages.Entry.{Entry}
 use Rattle.dm_rows.specs.declared.messages.Choice.TheVariants as choice
@@ -19,7 +18,6 @@ use Rattle.dm_rows.specs.declared.messages.Refusal.TheVariants as refusal
 use Rattle.dm_rows.specs.Rows.{RowsValue, RowsAreWithinLimits, passed_at}
 use Rattle.dm_rows.specs.Carry.{free_among}
 use Rattle.dm_rows.specs.Refuse.{Refuses, RefusesChange, RefusesFirst, RefusesDecision, passed_time, HeadHasPassed}
-use Rattle.dm_rows.specs.History.{IsLegal}
 use Rattle.dm_feed.specs.Parts.{Fits, id, largest_value}
 use Rattle.dm_feed.specs.Lines.{parts_of_message, IsSaid}
 use Rattle.dm_feed.specs.declared.grammar.Line.{Line}
@@ -28,9 +26,14 @@ use Rattle.dm_tree.specs.declared.adopting.Chosen.{Chosen}
 use Rattle.dm_cert.specs.declared.replies.Reply.{Reply}
 use Rattle.dm_cert.specs.declared.replies.Reply.TheVariants as reply
 use Rattle.dm_cert.specs.declared.replies.LogItem.{LogItem}
+use Rattle.dm_cert.specs.declared.replies.LogItem.TheVariants.{Malformed, Answered}
 use Rattle.dm_cert.specs.Answers.{Setting, rows_after, latest_plan, HasNoRoom, IsRefused, carried, IsTrueReply}
 use Rattle.dm_cert.specs.RunTexts.{FitsReason, FitsReply, IsSpelledReason, IsSpelledReply}
-use Rattle.dm_records.specs.RunLines.{IsFormedReason, IsFormedReply, IsFormedSaid}
+use Rattle.dm_records.specs.RunLines.{lone, IsFormedReason, IsFormedReply, IsFormedSaid, IsItemLine}
+use Rattle.dm_records.specs.Readings.{IsSmallItem}
+use Rattle.dm_records.proofs.SmallItems.{small_reply}
+use Rattle.dm_check.specs.FalseRecords.{IsNextItem}
+use Rattle.dm_check.specs.Inside.Sound.{IsSound}
 use Rattle.dm_check.proofs.Truth.Limits.{legal_within, least_low}
 
 -- ---- refusals that tell a value, a time or a clock
@@ -208,13 +211,6 @@ reply_spelled (reply.Range b) formed = tt
 
 -- ---- replies
 
--- over a network within the limits, whose history is legal from rows within them
-pub record IsSound (s : Setting) (history : List Entry) : Type 0 where
-  pub network : IsNetwork s.net
-  pub limits : IsWithinLimits s.net
-  pub start : RowsAreWithinLimits s.start
-  pub legal : IsLegal s.net s.start history
-
 module _ (s : Setting) (history : List Entry) (sound : IsSound s history) (feed : ℕ) (before : List LogItem) (line : ℕ) where
   pub rows_within : (n : ℕ) → n ≤ length history → RowsAreWithinLimits (rows_after s history n)
   rows_within n low = legal_within s.net s.start history sound.legal sound.start n low
@@ -271,3 +267,10 @@ module _ (s : Setting) (history : List Entry) (sound : IsSound s history) (feed 
   reply_fits said reply.NoPlan formed is form = tt
   reply_fits said reply.Plans formed is form = tt
   reply_fits said (reply.Range b) formed is form = budget_fits said b formed is
+
+-- an item with a value that is too large for its type is not the next one
+pub too_large_is_false : (s : Setting) (history : List Entry) → IsSound s history → (feed : ℕ) (before : List LogItem) (version : ℕ) (line : List ℕ) (answered : LogItem) →
+    IsItemLine version (lone answered) line → (IsSmallItem answered → ⊥) → IsNextItem s history feed before answered → ⊥
+too_large_is_false s history sound feed before version line (Malformed n) is large next = large tt
+too_large_is_false s history sound feed before version line (Answered n said r) is large next =
+    large (small_reply r (reply_fits s history sound feed before n said r is.1.1 next.is_true is.1.2))

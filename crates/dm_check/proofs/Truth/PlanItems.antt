@@ -1,7 +1,6 @@
 -- Where the text of an item with a plan stands, the item is told.
-use Rattle.std.proofs.Common.{◌≡◌, ◌≢◌, ℕ, zero, suc, ◌≤◌, Bool, true, false, eqb, List, [], ◌∷◌, ◌++◌, Ok, All, refl, sym, ap, ◌∙◌, arith, append_assoc, append-nil, codes}
+use Rattle.std.proofs.Common.{◌≡◌, ◌≢◌, ℕ, zero, suc, ◌≤◌, Bool, true, false, eqb, List, [], ◌∷◌, ◌++◌, Ok, refl, sym, ap, ◌∙◌, append_assoc}
 use Rattle.std.specs.Prelude.{MatchBool}
-use Rattle.std.specs.Fmt.{decimal}
 use Rattle.std.proofs.lemmas.List.{append_cancel_right}
 use Rattle.std.proofs.lemmas.List.Elements.{All-append}
 use Rattle.dm_text.specs.Places.{Place}
@@ -9,8 +8,7 @@ use Rattle.dm_text.specs.Judging.{Line as JudgesLine, Then, Times, Finds}
 use Rattle.dm_rows.specs.declared.messages.Decision.{Decision}
 use Rattle.dm_rows.specs.declared.messages.Entry.{Entry}
 use Rattle.dm_feed.specs.declared.grammar.Line.{Line}
-use Rattle.dm_feed.specs.Parts.{largest_id, Fits}
-use Rattle.dm_feed.specs.Lines.{spelling_of_line, parts_of_line}
+use Rattle.dm_feed.specs.Parts.{largest_id}
 use Rattle.dm_tree.specs.declared.forms.Node.{Node}
 use Rattle.dm_tree.specs.declared.plans.Plan.{Plan}
 use Rattle.dm_cert.specs.declared.faults.CertFault.{CertFault}
@@ -22,18 +20,17 @@ use Rattle.dm_cert.specs.Answers.{Setting}
 use Rattle.dm_cert.specs.PlanLaws.{IsHeld}
 use Rattle.dm_cert.specs.PlanTexts.{line_end, spelling_of_plan, FitsPlan}
 use Rattle.dm_cert.specs.PlansRead.{IsChoiceLine, IsLeafLine, IsNodeLine, ShowsLeaves, ShowsNodes, TellsLeaves, TellsNodes, cut_line, misshapen_line, no_tree}
-use Rattle.dm_cert.specs.RunTexts.{item_text, reply_text, KnowsLine}
+use Rattle.dm_cert.specs.RunTexts.{item_text, KnowsLine}
 use Rattle.dm_cert.proofs.HeadingsRead.{front_text, heading_spelled}
-use Rattle.dm_cert.proofs.LineFeeds.{NoFeed, has_no_feed, no_feed_append}
+use Rattle.dm_cert.proofs.LineFeeds.{has_no_feed}
 use Rattle.dm_cert.proofs.SpelledPlans.{plan_stands}
 use Rattle.dm_cert.proofs.SpelledPlans.{counted_in}
-use Rattle.dm_records.specs.RunLines.{PlanOpening, planned, IsFormedSaid, opening_text}
-use Rattle.dm_records.proofs.Splitting.{parts_no_feed}
+use Rattle.dm_records.specs.RunLines.{PlanOpening, planned, IsFormedSaid}
 use Rattle.dm_check.specs.declared.faults.Fault.{Fault}
 use Rattle.dm_check.specs.declared.verdicts.BadKind.TheVariants as kind
 use Rattle.dm_check.specs.FalseRecords.{bad, Reads, TellsItem, IsNextItem, IsNextPlan, plan_opened}
-use Rattle.dm_records.proofs.LinesSpelled.{number_then}
 use Rattle.dm_check.proofs.Truth.Standing.{IsTold}
+use Rattle.dm_records.proofs.ItemLines.{front_of, item_is, opening_at, opening_is, front_no_feed}
 
 -- ---- lines that are told are told whatever the faults of others are
 
@@ -77,44 +74,6 @@ module _ (s : Setting) (history : List Entry) (feed : ℕ) (before : List LogIte
     told = lines_read IsNodeLine o.size told.value place told.behind told.told;
     then = (next_plan o choices nodes (ShowsNodes told.value) answered told.then.0 is item, told.then.1);
   }
-
--- ---- the first line
-
--- what stands in front of a plan's text in an item
-abbrev pub front_of : ℕ → Line → ℕ → List ℕ
-front_of line said entry = decimal line ++ (codes " " ++ (spelling_of_line said ++ (codes " -> " ++ (decimal entry ++ codes " "))))
-
-pub front_joined : (l said n plan rest : List ℕ) →
-    (l ++ (codes " " ++ (said ++ (codes " -> " ++ ((n ++ (codes " " ++ (plan ++ []))) ++ []))))) ++ rest
-    ≡ (l ++ (codes " " ++ (said ++ (codes " -> " ++ (n ++ codes " "))))) ++ (plan ++ rest)
-front_joined l said n plan rest = simp (append_assoc, append-nil)
-
-item_is : (version line : ℕ) (said : Line) (plan : Plan) (rest : List ℕ) →
-    item_text version (Answered line said (Planned plan)) ++ rest ≡ front_of line said plan.entry ++ (spelling_of_plan version plan ++ rest)
-unfolding item_text reply_text
-item_is version line said plan rest = front_joined (decimal line) (spelling_of_line said) (decimal plan.entry) (spelling_of_plan version plan) rest
-
-pub front_then : (l said n text : List ℕ) →
-    l ++ (codes " " ++ (said ++ (codes " -> " ++ (n ++ (codes " " ++ text))))) ≡ (l ++ (codes " " ++ (said ++ (codes " -> " ++ (n ++ codes " "))))) ++ text
-front_then l said n text = sym (simp append_assoc)
-
-abbrev opening_at : ℕ → Line → ℕ → Heading → PlanOpening
-opening_at line said entry h =
-    record { line = line; said = said; entry = entry; mark = h.mark; cost = h.cost; bound = h.bound; choices = h.choices; size = h.size }
-
-opening_is : (version line : ℕ) (said : Line) (entry : ℕ) (h : Heading) → opening_text version (opening_at line said entry h) ≡ front_of line said entry ++ front_text version h
-opening_is version line said entry h = front_then (decimal line) (spelling_of_line said) (decimal entry) (front_text version h)
-
-pub front_no_feed : (line : ℕ) (said : Line) (entry : ℕ) → line ≤ largest_id → All Fits (parts_of_line said) → entry ≤ largest_id → NoFeed (front_of line said entry)
-unfolding spelling_of_line
-front_no_feed line said entry low fits at =
-    let number : List ℕ = decimal entry ++ codes " " in
-    let told : List ℕ = codes " -> " ++ number in
-    let spoken : List ℕ = spelling_of_line said ++ told in
-    let a : NoFeed number = number_then entry (codes " ") (omega (arith, at)) refl in
-    let b : NoFeed told = no_feed_append (codes " -> ") number refl a in
-    let c : NoFeed spoken = no_feed_append (spelling_of_line said) told (parts_no_feed (parts_of_line said) fits) b in
-    number_then line (codes " " ++ spoken) (omega (arith, low)) (no_feed_append (codes " ") spoken refl c)
 
 -- ---- the item
 

@@ -1,12 +1,10 @@
 -- Where the text of an item with a plan by parts stands, the item is told.
-use Rattle.std.proofs.Common.{◌≡◌, ◌≢◌, ℕ, ◌≤◌, List, ◌∷◌, ◌++◌, refl, sym, ap, ◌∙◌, append_assoc, append-nil}
-use Rattle.std.specs.Fmt.{decimal}
+use Rattle.std.proofs.Common.{◌≡◌, ◌≢◌, ℕ, ◌≤◌, List, ◌∷◌, ◌++◌, refl, sym, ap, ◌∙◌, append_assoc}
 use Rattle.std.proofs.lemmas.List.{append_cancel_right}
 use Rattle.std.proofs.lemmas.List.Elements.{All-append}
 use Rattle.dm_rows.specs.declared.messages.Entry.{Entry}
 use Rattle.dm_feed.specs.declared.grammar.Line.{Line}
 use Rattle.dm_feed.specs.Parts.{largest_id}
-use Rattle.dm_feed.specs.Lines.{spelling_of_line}
 use Rattle.dm_parts.specs.declared.parts.PlanByParts.{PlanByParts}
 use Rattle.dm_cert.specs.declared.solved_lines.SolvedHeading.{SolvedHeading}
 use Rattle.dm_cert.specs.declared.replies.LogItem.{LogItem}
@@ -16,37 +14,13 @@ use Rattle.dm_cert.specs.Answers.{Setting}
 use Rattle.dm_cert.specs.PlanLaws.{IsHeldSolved}
 use Rattle.dm_cert.specs.PlanTexts.{line_end}
 use Rattle.dm_cert.specs.SolvedTexts.{spelling_of_solved, FitsSolved, IsSpelledSolved}
-use Rattle.dm_cert.specs.SolvedRead.{solved_heading_text}
-use Rattle.dm_cert.specs.RunTexts.{item_text, reply_text}
+use Rattle.dm_cert.specs.RunTexts.{item_text}
 use Rattle.dm_cert.proofs.LineFeeds.{has_no_feed}
 use Rattle.dm_cert.proofs.SpelledSolved.{solved_stands, counted_solved}
 use Rattle.dm_records.specs.RunLines.{SolvedOpening, solved, IsFormedSaid, solved_opening_text}
 use Rattle.dm_check.specs.FalseRecords.{TellsItem, IsNextItem}
-use Rattle.dm_check.proofs.Truth.PlanItems.{front_of, front_joined, front_no_feed}
 use Rattle.dm_check.proofs.Truth.Standing.{IsTold}
-
-item_is : (version line : ℕ) (said : Line) (plan : PlanByParts) (rest : List ℕ) →
-    item_text version (Answered line said (Solved plan)) ++ rest ≡ front_of line said plan.entry ++ (spelling_of_solved plan ++ rest)
-unfolding item_text reply_text
-item_is version line said plan rest = front_joined (decimal line) (spelling_of_line said) (decimal plan.entry) (spelling_of_solved plan) rest
-
-abbrev opening_at : ℕ → Line → ℕ → SolvedHeading → SolvedOpening
-opening_at line said entry h =
-    record {
-      line = line;
-      said = said;
-      entry = entry;
-      mark = h.mark;
-      cost = h.cost;
-      bound = h.bound;
-      choices = h.choices;
-      parts = h.parts;
-      nodes = h.nodes;
-    }
-
-opening_is : (line : ℕ) (said : Line) (entry : ℕ) (h : SolvedHeading) → solved_opening_text (opening_at line said entry h) ++ line_end ≡ front_of line said entry ++ solved_heading_text h
-unfolding solved_heading_text
-opening_is line said entry h = simp (append_assoc, append-nil)
+use Rattle.dm_records.proofs.ItemLines.{front_of, front_no_feed, solution_is, solved_opening_at, solved_opening_is}
 
 module _ (s : Setting) (history : List Entry) (feed : ℕ) (before : List LogItem) where
   pub solution_told : (line : ℕ) (said : Line) (plan : PlanByParts) → IsNextItem s history feed before (Answered line said (Solved plan)) → line ≤ largest_id → IsFormedSaid said →
@@ -58,12 +32,12 @@ module _ (s : Setting) (history : List Entry) (feed : ℕ) (before : List LogIte
       let stands = solved_stands plan (record { left = text ++ rest; line = place.line }) rest fits spelled (counted_solved plan held) refl in
       let told = stands.told in
       let h : SolvedHeading = told.value in
-      let o : SolvedOpening = opening_at line said plan.entry h in
+      let o : SolvedOpening = solved_opening_at line said plan.entry h in
       let front : List ℕ = front_of line said plan.entry in
       let bytes : List ℕ = told.told.bytes in
       let first : solved_opening_text o ≡ front ++ bytes =
       append_cancel_right (solved_opening_text o) (front ++ bytes) line_end
-      (opening_is line said plan.entry h ∙ (ap (λ xs. front ++ xs) told.told.spelled.spelled ∙ sym (append_assoc front bytes line_end))) in
+      (solved_opening_is line said plan.entry h ∙ (ap (λ xs. front ++ xs) told.told.spelled.spelled ∙ sym (append_assoc front bytes line_end))) in
       record {
         next = stands.next;
         left = stands.left;
@@ -73,7 +47,7 @@ module _ (s : Setting) (history : List Entry) (feed : ℕ) (before : List LogIte
           told = record {
             bytes = front ++ bytes;
             stands = record {
-              whole = left ∙ (item_is s.version line said plan rest ∙ (ap (λ xs. front ++ xs) told.told.stands.whole ∙ sym (append_assoc front bytes (10 ∷ told.behind.left))));
+              whole = left ∙ (solution_is s.version line said plan rest ∙ (ap (λ xs. front ++ xs) told.told.stands.whole ∙ sym (append_assoc front bytes (10 ∷ told.behind.left))));
               one_line = All-append (λ b. b ≢ 10) front bytes (has_no_feed front (front_no_feed line said plan.entry low formed.fits at)) told.told.stands.one_line;
               counted = told.told.stands.counted;
             };

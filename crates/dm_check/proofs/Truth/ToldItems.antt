@@ -27,7 +27,8 @@ use Rattle.dm_records.proofs.ItemsRead.{known_in_second}
 use Rattle.dm_check.specs.declared.faults.Fault.{Fault}
 use Rattle.dm_check.specs.declared.verdicts.BadKind.TheVariants as kind
 use Rattle.dm_check.specs.FalseRecords.{bad, Reads, TellsItem, TellsBehind, TellsPlanBehind, TellsSolvedPlan, IsNextItem, IsNextPlan, plan_opened}
-use Rattle.dm_check.proofs.Truth.Numbers.{IsSound, reply_fits, reply_spelled}
+use Rattle.dm_check.specs.Inside.Sound.{IsSound}
+use Rattle.dm_check.proofs.Truth.Numbers.{reply_fits, reply_spelled}
 use Rattle.dm_check.proofs.Truth.PlanItems.{lines_again}
 
 -- the next item, whose numbers are ones that types hold, and which has a spelling in words that the version has

@@ -1,11 +1,14 @@
 -- The run that is told of a good text is true, and stands in print.
-use Rattle.std.proofs.Common.{◌≡◌, ℕ, zero, suc, ◌+◌, ◌<◌, ◌≤◌, List, [], ◌∷◌, ◌++◌, length, take, fold, get_or, Some, All, refl, sym, ap, subst, ◌∙◌, arith, length-append, slice_get}
+use Rattle.std.proofs.Common.{◌≡◌, ℕ, zero, suc, ◌+◌, ◌<◌, ◌≤◌, List, [], ◌∷◌, ◌++◌, length, take, fold, get_or, Some, Ok, All, refl, sym, ap, subst, ◌∙◌, arith, length-append, slice_get}
 use Rattle.std.proofs.Math.Seq.{take-length}
 use Rattle.std.proofs.lemmas.List.{ext_get_or, length-take-le}
 use Rattle.std.proofs.lemmas.List.Elements.{All-nil, All-cons, All-head, All-tail}
 use Rattle.std.proofs.lemmas.Option.{slice_get_within, slice_get-get_or, get_or_from_slice_get}
 use Rattle.dm_base.specs.declared.limits.TheConstants.{ENTRIES, FEEDS, BOARDS}
-use Rattle.dm_network.specs.Net.{Net}
+use Rattle.dm_text.specs.Places.{Place}
+use Rattle.dm_text.specs.Judging.{Times}
+use Rattle.dm_network.specs.Net.{Net, IsWithinLimits}
+use Rattle.dm_network.specs.Start.{IsNetwork}
 use Rattle.dm_rows.specs.declared.messages.Entry.{Entry}
 use Rattle.dm_rows.specs.declared.messages.Refusal.{Refusal}
 use Rattle.dm_rows.specs.Rows.{RowsValue, RowsAreWithinLimits}
@@ -29,7 +32,7 @@ use Rattle.dm_check.specs.Truth.{GoodTextsAreTrue}
 use Rattle.dm_records.proofs.Each.{Each, each_at, each_weaker, all_of_each}
 use Rattle.dm_check.proofs.Truth.Limits.{least_low, legal_within}
 use Rattle.dm_records.proofs.Named.{IsTrueBehind}
-use Rattle.dm_check.proofs.Truth.Numbers.{IsSound}
+use Rattle.dm_check.specs.Inside.Sound.{IsSound}
 use Rattle.dm_check.proofs.Truth.OnceNamed.{true_logs}
 use Rattle.dm_check.proofs.Truth.ToldEach.{told_each, Says}
 use Rattle.dm_check.proofs.Truth.ToldItems.{IsSoundItem, item_sound}
@@ -63,6 +66,13 @@ legal s history few each = record {
       (subst (λ (m : ℕ). Refuses s.net (rows_after s (take n history) (length (take n history))) m entry.message r) (sym size)
       (subst (λ (rows : RowsValue). Refuses s.net rows n entry.message r) (sym same) refuses));
 }
+
+-- the history that is told over a network within the limits, from rows within them
+pub sound_told : (s : Setting) (history : List Entry) (feeds count : ℕ) (place next : Place) → IsNetwork s.net → IsWithinLimits s.net → RowsAreWithinLimits s.start → feeds ≤ FEEDS → count ≤ ENTRIES →
+    Times count (TellsEntry s feeds) [] place (Ok (history, next)) → IsSound s history
+sound_told s history feeds count place next network limits start few low told =
+    let each = told_each (TellsEntry s feeds) (IsSoundEntry s) (entry_sound s feeds few) count history place next told in
+    record { network = network; limits = limits; start = start; legal = legal s history (let size = each.count in omega (arith, size, low)) each.each }
 
 -- ---- logs
 

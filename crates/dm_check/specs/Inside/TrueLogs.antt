@@ -4,20 +4,9 @@ use Rattle.dm_rows.specs.declared.messages.Entry.{Entry}
 use Rattle.dm_cert.specs.Answers.{Setting}
 use Rattle.dm_cert.specs.Logs.{IsTrueLog}
 use Rattle.dm_cert.specs.declared.replies.LogItem.{LogItem}
-use Rattle.dm_cert.specs.declared.replies.Reply.{Reply}
-use Rattle.dm_cert.specs.declared.replies.Reply.TheVariants.{Planned, Solved}
-use Rattle.dm_records.specs.Readings.{reply_of}
 use Rattle.dm_check_answers.specs.declared.past.Past.{Past}
-use Rattle.dm_check.specs.declared.replies.Told.{Told}
-use Rattle.dm_check.specs.declared.replies.Told.TheVariants.{Answer as AnAnswer, Plan as APlan, Solved as ASolution}
 use Rattle.dm_check.specs.FalseRecords.{IsNextItem}
 use Rattle.dm_check.specs.Judged.{AreFlagged, KeepsItem}
-
--- the reply that is told
-abbrev pub reply_in : Told → Reply
-reply_in (AnAnswer answer) = reply_of answer
-reply_in (APlan plan) = Planned plan.now
-reply_in (ASolution plan) = Solved plan.now
 
 -- the item is the next one, and what is kept of the items goes on; or it is not
 abbrev pub IsNextOn : Setting → List Entry → ℕ → List LogItem → LogItem → Past → List Bool → List Bool → Bool → Type 0

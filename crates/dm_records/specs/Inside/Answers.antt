@@ -13,12 +13,12 @@ use Rattle.dm_cert.specs.SolvedRead.{IsSolvedHeadingLine}
 use Rattle.dm_cert.specs.RunTexts.{reply_text, spaced_id}
 use Rattle.dm_rows.specs.declared.messages.Refusal.TheVariants.{Cycle}
 use Rattle.dm_records.specs.RunLines.{IsFormedReply}
-use Rattle.dm_records.specs.Readings.{reply_of}
+use Rattle.dm_records.specs.Readings.{IsSmallReply}
 use Rattle.dm_records.specs.declared.kinds.ToldKind.{ToldKind}
 use Rattle.dm_records.specs.declared.answers.AnswerLine.{AnswerLine}
-use Rattle.dm_records.specs.declared.answers.AnswerLine.TheVariants.{Answer, Plan, Solved}
+use Rattle.dm_records.specs.declared.answers.AnswerLine.TheVariants as answer_line
 use Rattle.dm_records.specs.Inside.Fields.{numbers_text, NumbersFit}
-use Rattle.dm_records.specs.Inside.Kinds.{told_text, told_shape, told_reply, refused_at}
+use Rattle.dm_records.specs.Inside.Kinds.{told_text, told_shape, told_reply, refused_at, free_shape, free_reply}
 
 -- ids to the end of a line
 pub record IsIds (ids : List ActId) (bytes : List ℕ) : Type 0 where
@@ -127,6 +127,19 @@ ReadsAnswer version line (Some s) = IsAnswerLine version s line
 ReadsAnswer version line None = (s : Saying) → IsAnswerLine version s line → ⊥
 
 abbrev pub saying : AnswerLine → Saying
-saying (Answer a) = answered (reply_of a)
-saying (Plan n h) = opened n h
-saying (Solved n h) = opened_by_parts n h
+saying (answer_line.Told n k a b) = answered (told_reply n k a b)
+saying (answer_line.Free k a b) = answered (free_reply k a b)
+saying (answer_line.Cycle n ids) = answered (refused_at n (Cycle ids))
+saying (answer_line.Plan n h) = opened n h
+saying (answer_line.Solved n h) = opened_by_parts n h
+
+-- its numbers are as its kind has them
+abbrev pub AnswerFits : AnswerLine → Type 0
+AnswerFits (answer_line.Told n k a b) = NumbersFit (told_shape k) a b
+AnswerFits (answer_line.Free k a b) = NumbersFit (free_shape k) a b
+AnswerFits _ = Unit {0}
+
+-- the reply, where its values are small
+abbrev pub HoldsReply : Reply → Option Reply → Type 0
+HoldsReply r (Some held) = (held ≡ r) × IsSmallReply r
+HoldsReply r None = IsSmallReply r → ⊥

@@ -1,24 +1,19 @@
--- The kinds of lines that feeds say, and of answers: their words and their numbers.
-use Rattle.std.specs.Prelude.{ℕ, ◌==◌, if◌then◌else◌, not, Bool, true, List, codes}
+-- The kinds of answers: their words and their numbers.
+use Rattle.std.specs.Prelude.{ℕ, ◌==◌, if◌then◌else◌, List, codes}
 use Rattle.dm_base.specs.declared.ids.EventId.{EventId}
 use Rattle.dm_base.specs.declared.ids.ActId.{ActId}
 use Rattle.dm_rows.specs.declared.messages.Choice.{Choice as ChoiceOfRows}
 use Rattle.dm_rows.specs.declared.messages.Choice.TheVariants as choice
-use Rattle.dm_rows.specs.declared.messages.Message.TheVariants as message
 use Rattle.dm_rows.specs.declared.messages.Refusal.{Refusal}
 use Rattle.dm_rows.specs.declared.messages.Refusal.TheVariants as refusal
 use Rattle.dm_base.specs.declared.limits.TheConstants.{ENTRIES}
-use Rattle.dm_feed.specs.declared.grammar.Line.{Line}
-use Rattle.dm_feed.specs.declared.grammar.Line.TheVariants as line
-use Rattle.dm_feed.specs.Parts.{largest_id, largest_value}
+use Rattle.dm_feed.specs.Parts.{largest_id}
 use Rattle.dm_cert.specs.PlanTexts.{largest_cost}
 use Rattle.dm_cert.specs.declared.replies.Reply.{Reply}
 use Rattle.dm_cert.specs.declared.replies.Reply.TheVariants as reply
 use Rattle.dm_records.specs.Inside.Fields.{no_id}
 use Rattle.dm_records.specs.declared.fields.Shape.{Shape}
 use Rattle.dm_records.specs.declared.fields.Shape.TheVariants.{Bare, Single, Double, Choice}
-use Rattle.dm_records.specs.declared.kinds.SaidKind.{SaidKind}
-use Rattle.dm_records.specs.declared.kinds.SaidKind.TheVariants as said
 use Rattle.dm_records.specs.declared.kinds.ToldKind.{ToldKind}
 use Rattle.dm_records.specs.declared.kinds.ToldKind.TheVariants as told
 use Rattle.dm_records.specs.declared.kinds.FreeKind.{FreeKind}
@@ -33,77 +28,6 @@ act n = record { 0 = n }
 -- a choice with these ids, of which the second may be none
 abbrev pub choice_with : ℕ → ℕ → ChoiceOfRows
 choice_with a b = if b == no_id then choice.Change (act a) else choice.Pair (event a) (event b)
-
--- ---- what feeds say
-
-abbrev pub said_text : SaidKind → List ℕ
-said_text said.DelayEvent = codes "delay event "
-said_text said.DelayActivity = codes "delay activity "
-said_text said.Pass = codes "pass "
-said_text said.Recall = codes "recall "
-said_text said.Keep = codes "keep "
-said_text said.Drop = codes "drop "
-said_text said.First = codes "first "
-said_text said.Now = codes "now "
-said_text said.Cancel = codes "cancel "
-said_text said.Restore = codes "restore "
-said_text said.Lock = codes "lock "
-said_text said.Unlock = codes "unlock "
-said_text said.Time = codes "time "
-said_text said.Cost = codes "cost"
-said_text said.Read = codes "read"
-said_text said.Plan = codes "plan "
-said_text said.Solve = codes "solve "
-said_text said.Adopt = codes "adopt"
-said_text said.Carry = codes "carry"
-
-abbrev pub said_shape : SaidKind → Shape
-said_shape said.DelayEvent = Double largest_id largest_value
-said_shape said.DelayActivity = Double largest_id largest_value
-said_shape said.Pass = Double largest_id largest_value
-said_shape said.Recall = Single largest_id
-said_shape said.Keep = Single largest_id
-said_shape said.Drop = Single largest_id
-said_shape said.First = Double largest_id largest_id
-said_shape said.Now = Single largest_value
-said_shape said.Cancel = Single largest_id
-said_shape said.Restore = Single largest_id
-said_shape said.Lock = Choice
-said_shape said.Unlock = Choice
-said_shape said.Time = Single largest_id
-said_shape said.Cost = Bare
-said_shape said.Read = Bare
-said_shape said.Plan = Single largest_value
-said_shape said.Solve = Single largest_value
-said_shape said.Adopt = Bare
-said_shape said.Carry = Bare
-
--- the line of this kind with these numbers
-abbrev pub said_line : SaidKind → ℕ → ℕ → Line
-said_line said.DelayEvent a b = line.Say (message.DelayEvent (event a) b)
-said_line said.DelayActivity a b = line.Say (message.DelayActivity (act a) b)
-said_line said.Pass a b = line.Say (message.Pass (event a) b)
-said_line said.Recall a b = line.Say (message.Recall (event a))
-said_line said.Keep a b = line.Say (message.Keep (act a))
-said_line said.Drop a b = line.Say (message.Drop (act a))
-said_line said.First a b = line.Say (message.First (event a) (event b))
-said_line said.Now a b = line.Say (message.Now a)
-said_line said.Cancel a b = line.Say (message.Cancel (event a))
-said_line said.Restore a b = line.Say (message.Restore (event a))
-said_line said.Lock a b = line.Say (message.Lock (choice_with a b))
-said_line said.Unlock a b = line.Say (message.Unlock (choice_with a b))
-said_line said.Time a b = line.Time (event a)
-said_line said.Cost a b = line.CostNow
-said_line said.Read a b = line.Read
-said_line said.Plan a b = line.Plan a
-said_line said.Solve a b = line.Solve a
-said_line said.Adopt a b = line.Adopt
-said_line said.Carry a b = line.Carry
-
--- version 1 has no word for plans by parts
-abbrev pub knows_kind : ℕ → SaidKind → Bool
-knows_kind version said.Solve = not (version == 1)
-knows_kind version _ = true
 
 -- ---- answers at an entry, behind its number
 

@@ -3,6 +3,7 @@ use Rattle.dm_rows.specs.declared.messages.Entry.{Entry}
 use Rattle.dm_check_answers.specs.Judging.{setting_of}
 use Rattle.dm_check.specs.Judged.{LogsAndRestOn}
 use Rattle.dm_check.proofs.Wholes.{history_stop, logs_stop, counted, history_on}
+use Rattle.dm_check.proofs.Truth.ToldRuns.{sound_told}
 use Rattle.dm_check.proofs.checking.entries_then_logs_told.Goals as goal
 
 pub returns-in-Err : goal.returns-in-Err
@@ -14,6 +15,13 @@ pub logs_and_rest_told-requires-clause-rows_are : goal.logs_and_rest_told-requir
 logs_and_rest_told-requires-clause-rows_are c =
     let entered = c.in-Ok.ensures.tells (setting_of c.args.setting.now) refl c.requires.copied in
     rw c.deref.ensures.value entered.rows_are
+
+pub logs_and_rest_told-requires-clause-sound : goal.logs_and_rest_told-requires-clause-sound
+logs_and_rest_told-requires-clause-sound c =
+    let entered = c.in-Ok.ensures.tells (setting_of c.args.setting.now) refl c.requires.copied in
+    rw c.deref.ensures.value
+    (sound_told (setting_of c.args.setting.now) c.in-Ok.history.items c.args.header.feeds c.args.header.entries c.args.lines.now c.all_entries.new.lines c.reveal.ensures.network c.reveal.ensures.within c.is_within_limits.ensures.limits
+    c.requires.header.few c.requires.header.few_entries entered.told)
 
 pub logs_and_rest_told-requires-clause-counted : goal.logs_and_rest_told-requires-clause-counted
 logs_and_rest_told-requires-clause-counted c =

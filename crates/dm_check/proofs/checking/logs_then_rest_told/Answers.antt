@@ -1,9 +1,13 @@
 use Rattle.std.proofs.Common.{List, Bool, Ok, Err, sym, subst}
 use Rattle.dm_cert.specs.Logs.{all_items}
 use Rattle.dm_check_answers.specs.Judging.{JournalValue, setting_of, history_of}
+use Rattle.dm_check.specs.Inside.Sound.{IsSound}
 use Rattle.dm_check.specs.Judged.{AreFlagged, LogsOn}
 use Rattle.dm_check.proofs.Wholes.{logs_stopped, rest_stopped, logs_and_rest}
 use Rattle.dm_check.proofs.checking.logs_then_rest_told.Goals as goal
+
+pub all_logs-requires-clause-sound : goal.all_logs-requires-clause-sound
+all_logs-requires-clause-sound c = subst (λ (j : JournalValue). IsSound j.setting j.history) (sym c.requires.goes_over) c.requires.sound
 
 pub returns-in-Err : goal.returns-in-Err
 returns-in-Err c =

@@ -1,17 +1,15 @@
 use Rattle.std.proofs.Common.{◌<◌, ◌≤◌, ◌+◌, List, [], length, take, refl, sym, subst, arith}
-use Rattle.std.specs.Prelude.{All}
 use Rattle.std.proofs.lemmas.List.{take_all}
 use Rattle.std.proofs.lemmas.Option.{slice_get_read}
 use Rattle.dm_cert.specs.declared.replies.LogItem.{LogItem}
 use Rattle.dm_cert.specs.declared.replies.FeedLog.{FeedLog}
 use Rattle.dm_cert.specs.Logs.{AreTrueAnswers}
-use Rattle.dm_cert.specs.RunTexts.{IsSpelledItem, IsSpelledLog}
 use Rattle.dm_restore.specs.Inside.Entering.{Notes}
 use Rattle.dm_restore.proofs.Named.{AreNoted, no_log_noted, none_sorted, one_log_noted, logs_more, all_noted}
 use Rattle.dm_restore.proofs.entries.entries_of.Goals as goal
 
 pub loop-place-init : goal.loop-place-init
-loop-place-init c = (λ s history legal are. no_log_noted s.net s.start history _ c.new-entries.ensures.items, λ spelled. none_sorted _ c.new-entries.ensures.items)
+loop-place-init c = (λ s history legal are. no_log_noted s.net s.start history _ c.new-entries.ensures.items, none_sorted _ c.new-entries.ensures.items)
 
 pub loop-place-preserved : goal.loop-place-preserved
 loop-place-preserved c =
@@ -27,9 +25,7 @@ loop-place-preserved c =
           (c.in_ok-note_log.ensures.notes s history legal.size (subst (λ (items : List LogItem). AreTrueAnswers s history (i + 1) [] items) (sym c.as_slice.ensures) answers) so_far.agrees) in
           subst (λ (ls : List FeedLog). AreNoted s.net s.start history ls c.note_log.new.entries.items) (logs_more logs i x low c.index-logs-place.is)
           (one_log_noted s.net s.start history (take i logs) x c.loop-place.entries.items c.note_log.new.entries.items so_far notes),
-      λ spelled.
-          let here : All IsSpelledItem x.items = subst IsSpelledLog (sym c.index-logs-place.is) (spelled i x low) in
-          c.in_ok-note_log.ensures.sorted (subst (λ (items : List LogItem). All IsSpelledItem items) (sym c.as_slice.ensures) here) (c.loop-place.invariant.1 spelled),
+      c.in_ok-note_log.ensures.sorted c.loop-place.invariant.1,
     )
 
 pub returns-clause-entries : goal.returns-clause-entries

@@ -22,7 +22,7 @@ loop-item-preserved c =
           subst (λ (ls : List LogItem). Notes s.net s.start history ls c.args.entries.now.items c.note_item.new.entries.items) (taken_more items i x low c.item-item.is)
           (one_noted s history c.args.feed (take i items) x c.args.entries.now.items c.loop-item.entries.items c.note_item.new.entries.items few
           (true_there s history c.args.feed [] items i x are low c.item-item.is) (inv.noted s history few are agrees) put);
-      sorted = λ spelled are.
+      sorted = λ are.
           one_sorted c.args.feed (choices_in (latest_plan (take i items))) x c.loop-item.entries.items c.note_item.new.entries.items
-          (subst IsSpelledItem (sym c.item-item.is) (spelled i x low)) put (inv.sorted spelled are);
+          (subst IsSpelledItem (sym c.item-item.is) (c.requires i x low)) put (inv.sorted are);
     }

@@ -29,4 +29,4 @@ returns-clause-stops c =
 
 pub judge-requires-clause-sorted : goal.judge-requires-clause-sorted
 judge-requires-clause-sorted c =
-    c.enter_logs.ensures.sorted c.requires.spelled (subst AreSorted (sym c.in-Ok.ensures.none) (All-nil (λ (e : Entry). HasSortedChoice e.message)))
+    c.enter_logs.ensures.sorted (subst AreSorted (sym c.in-Ok.ensures.none) (All-nil (λ (e : Entry). HasSortedChoice e.message)))

@@ -1,6 +1,7 @@
-use Rattle.std.proofs.Common.{Ok, Err, refl, subst, ◌∙◌, arith}
+use Rattle.std.proofs.Common.{Ok, Err, refl, sym, subst, ◌∙◌, arith}
 use Rattle.dm_check_answers.specs.Judging.{JournalValue}
 use Rattle.dm_check.specs.FalseRecords.{TellsItem}
+use Rattle.dm_check.specs.Inside.Sound.{IsSound}
 use Rattle.dm_check.specs.Judged.{ItemOn}
 use Rattle.dm_check.proofs.Chained.{kept_none}
 use Rattle.dm_check.proofs.Items.{KeepsSoFar, keeps_none, items_more, items_stop, items_all}
@@ -11,6 +12,9 @@ loop-item-init c = record {
   told = kept_none (TellsItem c.args.self.now.replay.journal.setting c.args.self.now.replay.journal.history c.args.feed) c.args.count c.args.lines.now (KeepsSoFar c.new-past.result c.args.self.now.named.items c.args.self.now.named.items) (keeps_none c.new-past.result c.args.self.now.named.items c.new-past.ensures);
   same = refl;
 }
+
+pub next_item-requires : goal.next_item-requires
+next_item-requires c = subst (λ (j : JournalValue). IsSound j.setting j.history) (sym c.loop-item.invariant.same) c.requires
 
 pub returns-in-Err-clause-tells : goal.returns-in-Err-clause-tells
 returns-in-Err-clause-tells c =

@@ -1,11 +1,15 @@
-use Rattle.std.proofs.Common.{Ok, Err, refl, subst, ◌∙◌, arith}
+use Rattle.std.proofs.Common.{Ok, Err, refl, sym, subst, ◌∙◌, arith}
 use Rattle.dm_check_answers.specs.Judging.{JournalValue}
+use Rattle.dm_check.specs.Inside.Sound.{IsSound}
 use Rattle.dm_check.specs.Judged.{LogOn}
 use Rattle.dm_check.proofs.Logs.{logs_begin, logs_go, logs_stop, logs_few, logs_all}
 use Rattle.dm_check.proofs.told_items.Logs.all_logs.Goals as goal
 
 pub loop-place-init : goal.loop-place-init
 loop-place-init c = record { told = logs_begin c.args.self.now.replay.journal.setting c.args.self.now.replay.journal.history c.args.feeds c.args.lines.now c.args.self.now.named.items c.requires.none; same = refl }
+
+pub next_log-requires : goal.next_log-requires
+next_log-requires c = subst (λ (j : JournalValue). IsSound j.setting j.history) (sym c.loop-place.invariant.same) c.requires.sound
 
 pub overflow_add-plans : goal.overflow_add-plans
 overflow_add-plans c =

@@ -1,5 +1,4 @@
 use Rattle.std.proofs.Common.{subst}
-use Rattle.dm_records.specs.Readings.{reply_of}
 use Rattle.dm_check_rows.specs.Claims.{Tells}
 use Rattle.dm_check_answers.specs.Claims.{IsTrueClaim}
 use Rattle.dm_check_answers.specs.Judging.{ReplayValue, setting_of, history_of}
@@ -14,11 +13,11 @@ pub invariant_of-self-in-Refused : goal.invariant_of-self-in-Refused
 invariant_of-self-in-Refused c =
     replay_knowing_still c.self.inside.journal c.self.inside.checked c.self.inside.entry c.self.inside.known c.verdict.new.self c.self.invariant c.verdict.ensures.claims c.verdict.ensures.verdicts
 
-pub invariant_of-self-in_default-answer : goal.invariant_of-self-in_default-answer
-invariant_of-self-in_default-answer c =
+pub invariant_of-self-in_default-reply : goal.invariant_of-self-in_default-reply
+invariant_of-self-in_default-reply c =
     replay_knowing_still c.self.inside.journal c.self.inside.checked c.self.inside.entry c.self.inside.known c.verdict.new.self c.self.invariant c.verdict.ensures.claims c.verdict.ensures.verdicts
 
 pub returns-in-Some-clause-tells : goal.returns-in-Some-clause-tells
 returns-in-Some-clause-tells c =
-    subst (λ (v : ReplayValue). Tells (IsTrueClaim v.journal.setting v.journal.history c.args.said.now (reply_of c.args.answer.now)) c.in-Some.verdict) c.self.view_is
+    subst (λ (v : ReplayValue). Tells (IsTrueClaim v.journal.setting v.journal.history c.args.said.now c.args.reply.now) c.in-Some.verdict) c.self.view_is
     (c.in-Some.ensures.tells (setting_of c.self.inside.journal.setting) (history_of c.self.inside.journal) c.self.invariant.knows)

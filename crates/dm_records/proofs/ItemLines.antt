@@ -1,5 +1,5 @@
 -- The lines of items and of the counts before them, as they stand in print.
-use Rattle.std.proofs.Common.{◌≡◌, ℕ, ◌≤◌, List, [], ◌∷◌, ◌++◌, All, refl, sym, ap, ◌∙◌, arith, append_assoc, append-nil, codes}
+use Rattle.std.proofs.Common.{◌≡◌, ℕ, ◌<◌, ◌≤◌, List, [], ◌∷◌, ◌++◌, length, All, refl, sym, ap, ◌∙◌, arith, append_assoc, append-nil, codes}
 use Rattle.std.specs.List.{flat_map}
 use Rattle.std.specs.Fmt.{decimal}
 use Rattle.std.proofs.lemmas.List.Elements.{All-head, All-tail}
@@ -22,12 +22,12 @@ use Rattle.dm_cert.specs.declared.replies.LogItem.TheVariants.{Malformed, Answer
 use Rattle.dm_cert.specs.PlanTexts.{line_end, largest_cost, spelling_of_plan}
 use Rattle.dm_cert.specs.SolvedTexts.{spelling_of_solved}
 use Rattle.dm_cert.specs.SolvedRead.{solved_heading_text}
-use Rattle.dm_cert.specs.RunTexts.{feed_text, item_text, reply_text, reason_text, spaced_id}
+use Rattle.dm_cert.specs.RunTexts.{feed_text, item_text, reply_text, reason_text, spaced_id, FitsReason, IsSpelledReason, KnowsItem}
 use Rattle.dm_cert.proofs.HeadingsRead.{front_text}
 use Rattle.dm_cert.proofs.LineFeeds.{NoFeed, has_no_feed, no_feed_append, no_feed_decimal}
 use Rattle.dm_cert.proofs.SpelledPlans.{HasLine}
 use Rattle.dm_records.specs.RunLines.{LogOpening, PlanOpening, SolvedOpening, lone, IsOpeningLine, IsItemLine, IsFormedReason, IsFormedReply, IsFormedSaid, opening_text, solved_opening_text}
-use Rattle.dm_records.proofs.ItemsRead.{said_body, malformed_text, known_in_second, formed_is_known}
+use Rattle.dm_records.proofs.ItemsRead.{said_body, malformed_text}
 use Rattle.dm_records.proofs.LinesSpelled.{number_then}
 use Rattle.dm_records.proofs.Splitting.{parts_no_feed}
 
@@ -69,6 +69,24 @@ reason_no_feed (refusal.Back c) formed = one_number (codes "back ") c refl forme
 reason_no_feed (refusal.Cycle ids) formed = no_feed_append (codes "cycle") (flat_map spaced_id ids ++ []) refl (no_feed_append (flat_map spaced_id ids) [] (ids_no_feed ids formed.1) refl)
 reason_no_feed (refusal.Full n) formed = refl
 reason_no_feed refusal.OutOfMemory formed = absurd formed
+
+-- a reason that fits, is spelled and shows some activity where it shows a cycle has the form of one
+pub formed_reason : (why : Refusal) → FitsReason why → IsSpelledReason why → ((ids : List ActId) → why ≡ refusal.Cycle ids → 0 < length ids) → IsFormedReason why
+formed_reason (refusal.Range v) fits is some = omega arith
+formed_reason (refusal.UnknownEvent e) fits is some = fits
+formed_reason (refusal.UnknownActivity a) fits is some = fits
+formed_reason (refusal.UnknownChange a) fits is some = fits
+formed_reason (refusal.UnknownPair i j) fits is some = fits
+formed_reason (refusal.Passed e t) fits is some = (fits.0, (let low = fits.1 in omega arith))
+formed_reason (refusal.NotPassed e) fits is some = fits
+formed_reason (refusal.Cancelled e) fits is some = fits
+formed_reason (refusal.NotCancelled e) fits is some = fits
+formed_reason (refusal.Locked c) fits is some = (fits, is)
+formed_reason (refusal.NotLocked c) fits is some = (fits, is)
+formed_reason (refusal.Back c) fits is some = omega arith
+formed_reason (refusal.Cycle ids) fits is some = (some ids refl, fits)
+formed_reason (refusal.Full n) fits is some = is
+formed_reason refusal.OutOfMemory fits is some = is
 
 -- the answer's bytes in front of its line end
 pub record ReplyLine (version : ℕ) (r : Reply) : Type 0 where
@@ -142,15 +160,15 @@ unfolding item_text
 answered_is version n said r body is =
     ap (λ xs. decimal n ++ (codes " " ++ (spelling_of_line said ++ (codes " -> " ++ xs)))) (append-nil (reply_text version r) ∙ is) ∙ sym (simp append_assoc)
 
-pub answered_line : (version n : ℕ) (said : Line) (r : Reply) → version ≡ 2 → n ≤ largest_id → IsFormedSaid said → IsFormedReply r → ItemHasLine version (Answered n said r)
-answered_line version n said r second low formed reply =
+pub answered_line : (version n : ℕ) (said : Line) (r : Reply) → n ≤ largest_id → IsFormedSaid said → IsFormedReply r → KnowsItem version (Answered n said r) → ItemHasLine version (Answered n said r)
+answered_line version n said r low formed reply knows =
     let line = reply_line version r reply in
     let is = answered_is version n said r line.body line.is in
     record {
       line = said_body n said line.body;
       text_is = is;
       one_line = has_no_feed (said_body n said line.body) (said_no_feed n said line.body low formed.fits line.one_line);
-      spelled = (is, (low, formed, reply), (known_in_second version said second, formed_is_known version r reply));
+      spelled = (is, (low, formed, reply), knows);
     }
 
 -- ---- the first line of a plan
@@ -193,10 +211,10 @@ front_no_feed line said entry low fits at =
 
 -- ---- the first line of a plan by parts
 
-pub solution_is : (line : ℕ) (said : Line) (plan : PlanByParts) (rest : List ℕ) →
-    item_text 2 (Answered line said (Solved plan)) ++ rest ≡ front_of line said plan.entry ++ (spelling_of_solved plan ++ rest)
+pub solution_is : (version line : ℕ) (said : Line) (plan : PlanByParts) (rest : List ℕ) →
+    item_text version (Answered line said (Solved plan)) ++ rest ≡ front_of line said plan.entry ++ (spelling_of_solved plan ++ rest)
 unfolding item_text reply_text
-solution_is line said plan rest = front_joined (decimal line) (spelling_of_line said) (decimal plan.entry) (spelling_of_solved plan) rest
+solution_is version line said plan rest = front_joined (decimal line) (spelling_of_line said) (decimal plan.entry) (spelling_of_solved plan) rest
 
 abbrev pub solved_opening_at : ℕ → Line → ℕ → SolvedHeading → SolvedOpening
 solved_opening_at line said entry h =
