@@ -16,24 +16,11 @@ use Rattle.dm_cert.specs.Logs.{due_of}
 use Rattle.dm_catch_up.specs.Inside.Comparing.{IsPassed, IsOtherDue, StopsAt, AreSame, IsCompared, HasOther, StopsComparing}
 use Rattle.dm_catch_up.specs.declared.catching.CatchUpStop.{CatchUpStop}
 use Rattle.dm_catch_up.specs.declared.catching.CatchUpStop.TheVariants as stop
+use Rattle.dm_desk.proofs.PartByPart.{fewer_left}
 
 pub whole_joined : (front bytes : List ℕ) → AreWhole front → AreWhole bytes → AreWhole (front ++ bytes)
 whole_joined front bytes first (inl e) = subst AreWhole (sym (ap (λ (l : List ℕ). front ++ l) e ∙ append-nil front)) first
 whole_joined front bytes first (inr e) = subst AreWhole (ap (λ (l : List ℕ). front ++ l) (sym e.1)) (still_whole front e.0)
-
-pub none_same : (part : List ℕ) (passed : ℕ) (items : List LogItem) → AreSame part passed items part passed 0
-none_same part passed items = record {
-  front = [];
-  cut = refl;
-  whole = inl refl;
-  counted = omega arith;
-  due = tt;
-  few = omega arith;
-  fits = omega arith;
-}
-
-pub fewer_left : (rest behind : List ℕ) (heard : Heard) → HearsFirst rest heard behind → length behind < length rest
-fewer_left rest behind heard h = omega (arith, ap length h.cut, length-append (ended h.line) behind, length-append h.line (10 ∷ []))
 
 module _ (part rest : List ℕ) (passed lines count : ℕ) (items : List LogItem) (same : AreSame part passed items rest lines count)
     (heard : Heard) (behind : List ℕ) (h : HearsFirst rest heard behind) where

@@ -1,25 +1,20 @@
 -- A feed of which more is read and passed.
-use Rattle.std.proofs.Common.{◌≡◌, ℕ, ◌+◌, ◌<◌, ◌≤◌, inl, inr, List, [], ◌∷◌, ◌++◌, length, map, take, drop, get_or, Option, Some, None, refl, sym, ap, subst, ◌∙◌, arith, append_assoc, length-append, All}
+use Rattle.std.proofs.Common.{◌≡◌, ℕ, ◌+◌, ◌<◌, ◌≤◌, inl, inr, List, [], ◌∷◌, ◌++◌, length, map, take, drop, get_or, Option, Some, None, refl, sym, ap, subst, ◌∙◌, arith, append_assoc, length-append}
 use Rattle.std.specs.Prelude.{IfSome}
-use Rattle.std.proofs.lemmas.List.{map-append, take_at, take_all, drop_at, take-append-drop, at_drop_more, length-drop, length-take-le}
-use Rattle.std.proofs.lemmas.List.Elements.{All-nil}
-use Rattle.dm_outside.specs.Faults.{HasRisen}
+use Rattle.std.proofs.lemmas.List.{map-append, take_at, drop_at, take-append-drop, at_drop_more, length-drop, length-take-le}
 use Rattle.dm_feed.specs.Feeds.{IsUnended}
 use Rattle.dm_feed.specs.DueItems.{lines_of, DueItem, AreDueItems}
 use Rattle.dm_feed.proofs.Joining.{lines_joined, items_joined}
 use Rattle.dm_cert.specs.declared.replies.LogItem.{LogItem}
-use Rattle.dm_cert.specs.Logs.{IsInOrder, due_of, line_of}
-use Rattle.dm_cert.specs.RunTexts.{IsSpelledItem}
-use Rattle.dm_desk.specs.Desks.{DeskValue}
-use Rattle.dm_desk.specs.Answered.{AreTrueOf}
+use Rattle.dm_cert.specs.Logs.{due_of, line_of}
 use Rattle.dm_tail.specs.Given.{given_behind}
-use Rattle.dm_tail.specs.Watching.{IsWatched, Takes}
+use Rattle.dm_tail.specs.Watching.{Takes}
 use Rattle.dm_tail.specs.declared.tail.Tail.{Tail}
 use Rattle.dm_tail.specs.declared.watched.Watched.{Watched}
 use Rattle.dm_tail.proofs.FewLines.{few_lines}
 use Rattle.dm_catch_up.specs.Feeds.{DiffersAt}
-use Rattle.dm_catch_up.specs.Catching.{IsFresh, RefusesFeed}
-use Rattle.dm_catch_up.specs.Inside.Comparing.{IsCompared, HasOther, StopsComparing, StopsReading, IsSame, IsCaughtUp}
+use Rattle.dm_catch_up.specs.Catching.{RefusesFeed}
+use Rattle.dm_catch_up.specs.Inside.Comparing.{IsCompared, HasOther, StopsComparing, IsSame}
 use Rattle.dm_catch_up.specs.declared.catching.CatchUpStop.{CatchUpStop}
 use Rattle.dm_catch_up.specs.declared.catching.CatchUpStop.TheVariants as stop
 use Rattle.dm_catch_up.proofs.Comparing.{whole_joined}
@@ -27,23 +22,6 @@ use Rattle.dm_catch_up.proofs.Comparing.{whole_joined}
 if_some : {X : Type 0} (o : Option X) (P Q : X → Type 0) → ((x : X) → P x → Q x) → IfSome o P → IfSome o Q
 if_some None P Q f h = tt
 if_some (Some x) P Q f h = f x h
-
--- ---- at the start
-
-pub fresh_is_same : {T : Type 0} (given : T → Option (List ℕ)) (watched : Watched T) → IsFresh given watched → IsCaughtUp given 0 watched
-fresh_is_same given watched f = record {
-  front = [];
-  whole = inl refl;
-  counted = f.lines;
-  due = tt;
-  is_all = if_some (given watched.tail.feed) (λ bytes. bytes ≡ []) (λ bytes. bytes ≡ watched.tail.pending.items) (λ bytes e. e ∙ sym f.pending) f.none;
-  few = omega arith;
-  short = omega (arith, f.lines, ap length f.pending);
-  most = omega (arith, f.taken);
-}
-
-pub fresh_is_unended : {T : Type 0} (given : T → Option (List ℕ)) (watched : Watched T) → IsFresh given watched → IsUnended watched.tail.pending.items
-fresh_is_unended given watched f = subst IsUnended (sym f.pending) (All-nil (λ b. b ≡ 10 → ⊥))
 
 -- ---- more was read
 
@@ -87,12 +65,6 @@ none_came pending pending_now (x ∷ more) count is size none h = absurd (omega 
 pub still_unended : {T : Type 0} (given : T → Option (List ℕ)) (before now : Tail T) (count : ℕ) → Takes given before now count → count ≡ 0 →
     IsUnended before.pending.items → IsUnended now.pending.items
 still_unended given before now count t none h = none_came before.pending.items now.pending.items t.more count t.pending t.size none h
-
-pub reading_refused : {T : Type 0} (given : T → Option (List ℕ)) (faults : T → ℕ) (items : List LogItem) (before now : Watched T) (why : CatchUpStop) →
-    StopsReading faults before.tail now.tail why → RefusesFeed given faults items before now why
-reading_refused given faults items before now stop.OutOfMemory h = tt
-reading_refused given faults items before now stop.Fault h = h
-reading_refused given faults items before now (stop.Changed line) h = absurd h
 
 -- ---- lines were passed
 
@@ -142,9 +114,6 @@ module _ (given : Option (List ℕ)) (items : List LogItem) (pending : List ℕ)
           short = omega (arith, was, c.same.counted, few_lines c.same.front, ap length c.same.cut, length-append c.same.front c.rest, ap length rest_is);
           most = most;
         }
-
-    pub passed_unended : from + count < length items → IsUnended pending_now
-    passed_unended lt = subst IsUnended (sym rest_is) (c.none_left (omega (arith, lt, length-drop from items)))
 
   -- ---- what is not as it was answered
 
@@ -201,34 +170,3 @@ passed_on given items read now lines from bytes lines_now count s c left feed ta
     subst (λ (f : _). IsSame (given f) items now.pending.items lines_now now.taken (from + count)) (sym feed)
     (subst (λ (n : ℕ). IsSame (given read.feed) items now.pending.items lines_now n (from + count)) (sym taken)
     (passed_same (given read.feed) items read.pending.items lines read.taken from s bytes lines_now count now.pending.items c left))
-
--- ---- at the end
-
-pub caught_up : {T : Type 0} (given : T → Option (List ℕ)) (desk : DeskValue) (number from : ℕ) (watched : Watched T) →
-    IsCaughtUp given from watched → length watched.log.items ≤ from → AreTrueOf desk number watched.log.items → IsInOrder 0 0 watched.log.items →
-    All IsSpelledItem watched.log.items → IsWatched given desk number watched
-caught_up given desk number from watched s all are_true in_order spelled =
-    let whole : take from watched.log.items ≡ watched.log.items = take_all from watched.log.items all in
-    record {
-      front = s.front;
-      fed = record {
-        whole = s.whole;
-        counted = s.counted;
-        due = subst (λ (l : List LogItem). AreDueItems 0 (lines_of s.front) (map due_of l)) whole s.due;
-        answers = are_true;
-        in_order = in_order;
-        spelled = spelled;
-      };
-      is_all = s.is_all;
-    }
-
--- a count that never fell has risen since
-pub risen_since : (first before now : ℕ) → first ≤ before → HasRisen before now → HasRisen first now
-risen_since first before now le (inl more) = inl (omega (arith, le, more))
-risen_since first before now le (inr last) = inr last
-
-pub refused_since : {T : Type 0} (given : T → Option (List ℕ)) (faults : T → ℕ) (items : List LogItem) (first before now : Watched T) (why : CatchUpStop) →
-    faults first.tail.feed ≤ faults before.tail.feed → RefusesFeed given faults items before now why → RefusesFeed given faults items first now why
-refused_since given faults items first before now stop.OutOfMemory le h = h
-refused_since given faults items first before now stop.Fault le h = risen_since (faults first.tail.feed) (faults before.tail.feed) (faults now.tail.feed) le h
-refused_since given faults items first before now (stop.Changed line) le h = h

@@ -16,7 +16,6 @@ use crate::matching::is_same_line;
 use dm_cert::LogItem;
 use dm_feed::{FeedStop, Heard, Line, hear_first};
 use dm_tail::{Growing, LARGEST_FEED, Tail, Watched};
-use std::alloc::Global;
 
 /// Why a feed does not go on with its log.
 #[derive(Clone, Copy, PartialEq, Eq)]
@@ -40,7 +39,6 @@ struct Compared {
 
 /// Passes the lines of a feed that its log answers, and stops behind the last of them. Nothing was read of the feed.
 pub fn catch_up<T: Growing + Drop>(
-    alloc: Global,
     watched: &mut Watched<T>,
     buffer: &mut [u8],
 ) -> Result<(), CatchUpStop>
@@ -57,7 +55,7 @@ pub fn catch_up<T: Growing + Drop>(
 {
     let mut from = 0;
     while from < watched.log.len() {
-        match skip_more(alloc, watched, buffer, from) {
+        match skip_more(watched, buffer, from) {
             Ok(now) => from = now,
             Err(stop) => return Err(stop),
         }
@@ -75,7 +73,6 @@ fn ends_line(bytes: &[u8]) -> bool
 /// Reads more of a feed, of which so many items are answered, and skips the lines that the next ones answer. It answers how many
 /// are answered then.
 fn skip_more<T: Growing + Drop>(
-    alloc: Global,
     watched: &mut Watched<T>,
     buffer: &mut [u8],
     from: usize,
@@ -105,9 +102,7 @@ fn skip_more<T: Growing + Drop>(
         Err(stop) => return Err(stop),
     };
     watched.lines = compared.lines;
-    let Ok(()) = watched.tail.skip(alloc, compared.bytes) else {
-        return Err(CatchUpStop::OutOfMemory);
-    };
+    watched.tail.skip(compared.bytes);
     Ok(from + compared.items)
 }
 

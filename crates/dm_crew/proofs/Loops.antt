@@ -1,7 +1,7 @@
 -- Loops over lists that are taken apart and put together.
-use Rattle.std.proofs.Common.{◌≡◌, ℕ, ◌+◌, ◌-◌, ◌<◌, inl, inr, List, [], ◌∷◌, ◌++◌, length, map, Some, Result, Ok, refl, sym, ap, subst, ◌∙◌, arith, append_assoc, append-nil, length-append, slice_get, All}
+use Rattle.std.proofs.Common.{◌≡◌, ℕ, zero, suc, ◌+◌, ◌-◌, ◌<◌, get_or, inl, inr, List, [], ◌∷◌, ◌++◌, length, map, Some, Result, Ok, refl, sym, ap, subst, ◌∙◌, arith, append_assoc, append-nil, length-append, slice_get, All}
 use Rattle.std.specs.Prelude.{IsOk}
-use Rattle.std.proofs.lemmas.List.{map-append, nil_from_length}
+use Rattle.std.proofs.lemmas.List.{map-append, nil_from_length, get_or_append_left, get_or-append_right}
 use Rattle.std.proofs.lemmas.List.Elements.{All-push}
 use Rattle.std.proofs.lemmas.Simd.{map-map}
 use Rattle.std.proofs.lemmas.Option.{slice_get_within}
@@ -69,3 +69,32 @@ paired_more R xs ys now x y is many each last k w v at there =
 -- what is mapped twice is mapped by the one after the other
 pub both_mapped : {X Y Z : Type 0} (f : X → Y) (g : Y → Z) (xs : List X) (ys : List Y) → map f xs ≡ ys → map (λ x. g (f x)) xs ≡ map g ys
 both_mapped f g xs ys is = sym (map-map g f xs) ∙ ap (map g) is
+
+-- two lists of as many elements that are related each to each, with two more such lists behind them
+paired_both : {X Y : Type 0} (R : X → Y → Type 0) (xs more : List X) (ys behind : List Y) → length ys ≡ length xs
+    → ((k : ℕ) (w : X) (v : Y) → slice_get xs k ≡ Some w → slice_get ys k ≡ Some v → R w v)
+    → ((k : ℕ) (w : X) (v : Y) → slice_get more k ≡ Some w → slice_get behind k ≡ Some v → R w v)
+    → (k : ℕ) (w : X) (v : Y) → slice_get (xs ++ more) k ≡ Some w → slice_get (ys ++ behind) k ≡ Some v → R w v
+paired_both R [] more [] behind many each rest k w v at there = rest k w v at there
+paired_both R [] more (y ∷ ys) behind many each rest k w v at there = absurd (omega (arith, many))
+paired_both R (x ∷ xs) more [] behind many each rest k w v at there = absurd (omega (arith, many))
+paired_both R (x ∷ xs) more (y ∷ ys) behind many each rest zero w v at there = each 0 w v at there
+paired_both R (x ∷ xs) more (y ∷ ys) behind many each rest (suc k) w v at there = paired_both R xs more ys behind (omega (arith, many)) (λ i a b p q. each (suc i) a b p q) rest k w v at there
+
+-- the same of lists that are cut in two and put together
+pub paired_parts : {X Y : Type 0} (R : X → Y → Type 0) (works share rest : List X) (after worked behind : List Y) → share ++ rest ≡ works → after ≡ worked ++ behind → length worked ≡ length share
+    → ((k : ℕ) (w : X) (v : Y) → slice_get share k ≡ Some w → slice_get worked k ≡ Some v → R w v)
+    → ((k : ℕ) (w : X) (v : Y) → slice_get rest k ≡ Some w → slice_get behind k ≡ Some v → R w v)
+    → (k : ℕ) (w : X) (v : Y) → slice_get works k ≡ Some w → slice_get after k ≡ Some v → R w v
+paired_parts R works share rest after worked behind cut is many front back k w v at there =
+    paired_both R share rest worked behind many front back k w v (ap (λ (l : List _). slice_get l k) cut ∙ at) (ap (λ (l : List _). slice_get l k) (sym is) ∙ there)
+
+-- what holds of all elements of two lists together holds of those of each
+pub all_of_front : {X : Type 0} (P : X → Type 0) (xs more whole : List X) → xs ++ more ≡ whole → All P whole → All P xs
+all_of_front P xs more whole is all k d lt = subst P (get_or_append_left xs more d k lt) (subst (All P) (sym is) all k d (omega (arith, lt, length-append xs more)))
+
+pub all_of_rest : {X : Type 0} (P : X → Type 0) (xs more whole : List X) → xs ++ more ≡ whole → All P whole → All P more
+all_of_rest P xs more whole is all k d lt =
+    let at : length xs + k - length xs ≡ k = omega arith in
+    subst (λ (i : ℕ). P (get_or more i d)) at
+    (subst P (get_or-append_right xs more (length xs) (length xs + k) d refl (omega arith)) (subst (All P) (sym is) all (length xs + k) d (omega (arith, lt, length-append xs more))))

@@ -5,9 +5,6 @@ use Rattle.std.proofs.lemmas.List.{length-map}
 use Rattle.std.proofs.lemmas.List.Sums.{sum_by-cons}
 use Rattle.std.proofs.lemmas.Option.{slice_get_within, slice_get-get_or, get_or_from_slice_get}
 use mathlib.Core.List.{IsPrefix}
-use denote.Param.Members.{Shared}
-use Rattle.std.specs.Fn.{FnReturns}
-use Rattle.std.specs.Fork.{GivesJobs}
 use Rattle.atomic_table.specs.Seated.{TableId}
 use Rattle.dm_rows.specs.declared.messages.Entry.{Entry}
 use Rattle.dm_rows.specs.History.{IsLegal}
@@ -48,19 +45,6 @@ ok_holds P (Err e) h ok = absurd cc
 ok_weaker : {E : Type 0} (P Q : Type 0) (answer : Result (Unit {0}) E) → (P → Q) → OnOk answer P → OnOk answer Q
 ok_weaker P Q (Ok u) f h = f h
 ok_weaker P Q (Err e) f h = tt
-
--- what each call of a closure gives, at each place
-given_at : {F J R : Type 0} {g : Shared F (J × Unit {0}) R} {f : F} (P : J → R → Type 0) (js : List J) (rs : List R) → ((x : J) (r : R) → FnReturns g f (x, tt) r → P x r) → GivesJobs g f js rs → (k : ℕ) (w : J) (v : R) → slice_get js k ≡ Some w → slice_get rs k ≡ Some v → P w v
-given_at P js rs each gives k w v at in_rs =
-    let h = (gives k v (slice_get_within js k w at)).1 in
-    let is : h.job ≡ w = sym (h.job_is w) ∙ get_or_from_slice_get js k w w at in
-    let so : get_or rs k v ≡ v = get_or_from_slice_get rs k v v in_rs in
-    subst (λ x. P x v) is (subst (λ r. P h.job r) so (each h.job (get_or rs k v) h.call))
-
-pub all_given : {F J R T E : Type 0} {g : Shared F (J × Unit {0}) R} {f : F} (P : J → R → Type 0) (js : List J) (items : T → List R) (answer : Result T E) → ((x : J) (r : R) → FnReturns g f (x, tt) r → P x r) → IfOk answer (λ t. GivesJobs g f js (items t))
-    → IfOk answer (λ t. (k : ℕ) (w : J) (v : R) → slice_get js k ≡ Some w → slice_get (items t) k ≡ Some v → P w v)
-all_given P js items (Ok t) each gives = given_at P js (items t) each gives
-all_given P js items (Err e) each gives = tt
 
 module _ {S W E : Type 0} (left : S → Option (List ℕ)) (is_sound : S → Type 0) (plans : ℕ) (base : Base) (batch : ℕ) (some : 0 < batch) (turn : TableId) (works after : List W) (jobs : List (Job S)) (start : PassValue Base) (job : W → Job S) (pass : W → PassValue Base) (feed : W → ℕ) (answer : W → Result (Unit {0}) E) where
   -- the parts of a round before they are worked, split from a pass

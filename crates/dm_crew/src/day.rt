@@ -46,7 +46,7 @@ impl Drop for AnsweredDay<'_> {
 }
 
 /// Answers feeds over a server of these rows, at a penalty in seconds for each passenger, until each has ended, in rounds. In a
-/// round each feed has a thread of its own where two or more are still read and one can be made; else the caller answers it. A
+/// round the feeds that are still read are shared out among as many threads as there are processors, where threads can be made. A
 /// feed that could not be opened is `None`. Boards are shown the times before the first round, and after each round those that
 /// have moved. Want of memory may come at any point up to the end of the last round.
 pub fn answer_at_once<

@@ -1,4 +1,4 @@
-//! Feeds that are answered at once, each round's feeds in threads of their own.
+//! Feeds that are answered at once, each round's feeds in some threads.
 //!
 //! It stands on dm_server, whose table many passes use, on dm_rounds for the rounds of one feed, and on dm_display for boards.
 //!
@@ -27,8 +27,9 @@
 //! A [`ServerDesk`] is a server with one pass, as a desk that answers a feed. A [`Caller`] is the server for that pass, and a
 //! [`Seat`] says which pass it is.
 //!
-//! Where two or more feeds are still read, the code gives each of them a thread of its own for the round, if one can be made. No
-//! clause says that threads run, or that a call which waits returns.
+//! Where two or more feeds are still read, the code shares them out for the round among as many threads as there are processors,
+//! and two at least, if threads can be made. Each thread answers its share one feed after another. No clause says that threads run,
+//! or that a call which waits returns.
 //!
 //! Want of memory may come up to the end of the last round.
 #![tactic(auto)]

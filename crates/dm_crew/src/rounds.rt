@@ -1,6 +1,7 @@
 //! Rounds whose feeds are answered at once.
 
 ghost use Rattle.std.specs.Prelude.{◌≡◌, ℕ, ◌+◌, ◌-◌, ◌<◌, ◌≤◌, false, length, map, Some, All, slice_get, vec_len, IfOk, OnOk, IsOk};
+ghost use Rattle.std.specs.Thread.{IsSend, IsSync};
 ghost use mathlib.Core.List.{IsPrefix};
 ghost use Rattle.dm_base.specs.declared.limits.TheConstants.{FEEDS};
 ghost use Rattle.dm_rows.specs.History.{IsLegal};
@@ -15,7 +16,7 @@ ghost use Rattle.dm_crew.specs.Inside.Displays.{AreUp};
 
 use crate::desk::Seat;
 use crate::display::{show, show_growth};
-use crate::work::{Work, count_read};
+use crate::work::{Work, count_read, cut_share, together};
 use dm_cert::FeedLog;
 use dm_desk::{HoldPoint, Search};
 use dm_display::Display;
@@ -27,8 +28,10 @@ use dm_server::{Kept, Server};
 use dm_turn::Pass;
 use std::alloc::{AllocError, Global};
 use std::sync::Wait;
-use std::thread;
-use std::thread::Threads;
+use std::thread::{Threads, available_parallelism, join};
+
+// So many feeds are answered at once, where the system does not tell how many processors there are, and at least.
+const FEWEST_THREADS: usize = 2;
 
 /// What feeds are answered with: threads, memory, what makes plans, how many plans a feed may have, a gate, and how many lines a
 /// feed has in a round.
@@ -77,23 +80,25 @@ impl<
     {
         let logs = Vec::with_capacity(self.alloc, feeds.len())?;
         let mut jobs = begin(self.alloc, feeds)?;
+        let threads = threads_of(self.rt);
         show::<P, R>(self.rt, server, main, display, boards);
         for _ in self.rt.forever() {
             if have_ended(&jobs) {
                 break;
             }
-            jobs = self.answer_round::<P, S>(server, main, jobs)?;
+            jobs = self.answer_round::<P, S>(server, main, jobs, threads)?;
             show_growth::<P, R>(self.rt, server, main, display, boards);
         }
         Ok(logs_of(jobs, logs))
     }
 
-    // Answers the next lines of each feed.
+    // Answers the next lines of each feed, in so many threads at most.
     fn answer_round<'n, P: Seat + Send + Sync, S: Source + Send + Drop>(
         &self,
         server: &Server<'n>,
         main: &mut Pass<Kept<'n>>,
         jobs: Vec<Box<Job<S>>>,
+        threads: usize,
     ) -> Result<Vec<Box<Job<S>>>, AllocError>
         requires here { main.old.turn ≡ server.now.id }
         requires idle { main.old.holds ≡ false }
@@ -111,16 +116,18 @@ impl<
             (map (λ b. b.value) jobs.items) (desk_of self.now.plans P.base main.new) (map (λ b. b.value) after.items)) }
     {
         let works = share_out(self.alloc, server, main, jobs)?;
-        let works = self.work_all::<P, S>(server, works)?;
+        let works = self.work_all::<P, S>(server, works, threads)?;
         gather::<P, S>(self.alloc, server, main, works)
     }
 
-    // Answers the next lines of feeds. Where two or more are still read, each has a thread of its own if one can be made; else the
-    // caller does all the work, one feed after another.
+    // Answers the next lines of feeds in so many threads at most, where they can be made. Each thread answers a share of the feeds
+    // that are still read, one feed after another.
+    #[cycle(sharing)]
     fn work_all<'n, P: Seat + Send + Sync, S: Source + Send + Drop>(
         &self,
         server: &Server<'n>,
         works: Vec<Work<'n, S>>,
+        threads: usize,
     ) -> Result<Vec<Work<'n, S>>, AllocError>
         requires ready { All (λ w. IsReady server.now.id self.now.plans P.base w.feed w.pass w.job.value) works.items }
         requires plans { PlansUnder (L.pre self.now.planner.now) (L.post self.now.planner.now) (setting_of self.now.plans P.base) }
@@ -128,29 +135,29 @@ impl<
         ensures each { IfOk result (λ after. AreWorkedEach S.left S.is_sound self.now.plans P.base self.now.batch
             works.entry.items after.items) }
     {
-        if count_read(&works) >= 2 {
-            return self.work_side_by_side::<P, S>(server, works);
+        if threads < 2 || count_read(&works) < 2 {
+            return self.work_one_by_one::<P, S>(server, works);
         }
-        self.work_one_by_one::<P, S>(server, works)
-    }
-
-    // Answers the next lines of feeds, each in a thread of its own if one can be made.
-    fn work_side_by_side<'n, P: Seat + Send + Sync, S: Source + Send + Drop>(
-        &self,
-        server: &Server<'n>,
-        works: Vec<Work<'n, S>>,
-    ) -> Result<Vec<Work<'n, S>>, AllocError>
-        requires ready { All (λ w. IsReady server.now.id self.now.plans P.base w.feed w.pass w.job.value) works.items }
-        requires plans { PlansUnder (L.pre self.now.planner.now) (L.post self.now.planner.now) (setting_of self.now.plans P.base) }
-        ensures len { IfOk result (λ after. vec_len after ≡ vec_len works.entry) }
-        ensures each { IfOk result (λ after. AreWorkedEach S.left S.is_sound self.now.plans P.base self.now.batch
-            works.entry.items after.items) }
-    {
-        thread::map_vec(
-            self.rt,
-            works,
-            &|work: Work<'_, S>| work.worked::<P, R, L, H>(self, server),
-        )
+        let others = threads - 1;
+        let (share, rest) = cut_share(works, threads)?;
+        let work_share = move || -> Result<Vec<Work<'_, S>>, AllocError>
+            requires { IsSync R.row × IsSync L.row × IsSync H.row × PlansUnder (L.pre self.now.planner.now) (L.post self.now.planner.now)
+                (setting_of self.now.plans P.base) × All (λ w. IsReady server.now.id self.now.plans P.base w.feed w.pass w.job.value)
+                share.items }
+            ensures { IfOk result (λ after. (vec_len after ≡ vec_len share.entry) × AreWorkedEach S.left S.is_sound self.entry.now.plans P.base
+                self.entry.now.batch share.entry.items after.items) }
+        { self.work_one_by_one::<P, S>(server, share) };
+        let work_rest = move || -> Result<Vec<Work<'_, S>>, AllocError>
+            requires { IsSync R.row × IsSync L.row × IsSync H.row × IsSend P.row × IsSync P.row × IsSend S.row × PlansUnder
+                (L.pre self.now.planner.now) (L.post self.now.planner.now) (setting_of self.now.plans P.base)
+                × All (λ w. IsReady server.now.id self.now.plans P.base w.feed w.pass w.job.value) rest.items }
+            ensures { IfOk result (λ after. (vec_len after ≡ vec_len rest.entry) × AreWorkedEach S.left S.is_sound self.entry.now.plans P.base
+                self.entry.now.batch rest.entry.items after.items) }
+        { self.work_all::<P, S>(server, rest, others) };
+        let (first, second) = join(self.rt, work_share, work_rest);
+        let worked = first?;
+        let behind = second?;
+        together(worked, behind)
     }
 
     // Answers the next lines of feeds, one feed after another.
@@ -170,6 +177,14 @@ impl<
             done.push(work.worked::<P, R, L, H>(self, server))?;
         }
         Ok(done)
+    }
+}
+
+// How many feeds are answered at once: as many as there are processors.
+fn threads_of<R: Threads>(rt: &R) -> usize {
+    match available_parallelism(rt) {
+        Ok(processors) => processors.get().max(FEWEST_THREADS),
+        Err(_) => FEWEST_THREADS,
     }
 }
 

@@ -1,6 +1,6 @@
 //! The feeds' parts of a round.
 
-ghost use Rattle.std.specs.Prelude.{◌≡◌, count_by};
+ghost use Rattle.std.specs.Prelude.{◌≡◌, ◌≤◌, ◌<◌, ◌++◌, count_by, length, IfOk};
 ghost use Rattle.dm_desk.specs.Planning.{PlansUnder};
 ghost use Rattle.dm_crew.specs.Passes.{setting_of};
 ghost use Rattle.dm_crew.specs.Inside.Works.{IsReady, IsWorked, is_read};
@@ -102,6 +102,49 @@ pub fn count_read<S>(works: &[Work<'_, S>]) -> usize
         .iter()
         .filter(|work| is_read(&work.job.progress))
         .count()
+}
+
+/// How many works from the first on have so many feeds that are still read, or else all of them.
+fn front_with<S>(works: &[Work<'_, S>], read: usize) -> usize
+    ensures { result ≤ length works.now }
+{
+    let mut left = read;
+    for place in 0..works.len() {
+        if left == 0 {
+            return place;
+        }
+        if is_read(&works[place].job.progress) {
+            left -= 1;
+        }
+    }
+    works.len()
+}
+
+/// The works of the first of so many threads, and those of the others: each has as many feeds that are still read, or one more.
+pub fn cut_share<'n, S: Drop>(
+    works: Vec<Work<'n, S>>,
+    threads: usize,
+) -> Result<(Vec<Work<'n, S>>, Vec<Work<'n, S>>), AllocError>
+    requires { 0 < threads }
+    ensures { IfOk result (λ parts. parts.0.items ++ parts.1.items ≡ works.entry.items) }
+{
+    let mut share = works;
+    let read = count_read(&share).div_ceil(threads);
+    let rest = share.split_off(front_with(&share, read))?;
+    Ok((share, rest))
+}
+
+/// Works with others behind them.
+pub fn together<'n, S: Drop>(
+    works: Vec<Work<'n, S>>,
+    behind: Vec<Work<'n, S>>,
+) -> Result<Vec<Work<'n, S>>, AllocError>
+    ensures { IfOk result (λ all. all.items ≡ works.entry.items ++ behind.entry.items) }
+{
+    let mut all = works;
+    let mut others = behind;
+    all.append(&mut others)?;
+    Ok(all)
 }
 
 /// Whether a feed is still read.

@@ -1,35 +1,20 @@
 -- A feed that is read, answered, and left as the desk goes on.
-use Rattle.std.proofs.Common.{◌≡◌, ℕ, ◌≤◌, List, [], ◌++◌, length, drop, Option, Some, None, refl, sym, ap, subst, ◌∙◌, arith, append_assoc, append-nil, length-append, zero-add}
+use Rattle.std.proofs.Common.{◌≡◌, ℕ, List, [], ◌++◌, length, drop, Option, Some, None, refl, sym, ap, subst, ◌∙◌, arith, append_assoc, append-nil, length-append}
 use Rattle.std.specs.Prelude.{IfSome}
 use Rattle.std.proofs.lemmas.List.{drop_at}
-use Rattle.std.proofs.lemmas.List.Elements.{All-nil}
 use Rattle.dm_feed.specs.Feeds.{IsUnended}
 use Rattle.dm_cert.specs.declared.replies.LogItem.{LogItem}
-use Rattle.dm_cert.specs.Logs.{kind_of}
 use Rattle.dm_desk.specs.Desks.{DeskValue, GoesOn}
-use Rattle.dm_desk.specs.Answered.{HasSeenLegal, IsBetween, AnswersMore, times}
+use Rattle.dm_desk.specs.Answered.{HasSeenLegal}
 use Rattle.dm_desk.specs.Fed.{IsFed, AnswersPart}
-use Rattle.dm_desk.proofs.Answering.{goes_nowhere, still_true}
+use Rattle.dm_desk.proofs.Answering.{still_true}
 use Rattle.dm_tail.specs.Given.{given_behind}
 use Rattle.dm_tail.specs.Watching.{Takes, IsShort, IsWatched, Answers}
-use Rattle.dm_tail.specs.declared.tail.Tail.{Tail}
 use Rattle.dm_tail.specs.declared.watched.Watched.{Watched}
 use Rattle.dm_tail.proofs.FewLines.{few_lines}
+use Rattle.dm_desk.proofs.PartByPart.{no_more}
 
 -- ---- reading
-
-pub given_nothing : (given : Option (List ℕ)) → given ≡ given_behind given []
-given_nothing None = refl
-given_nothing (Some bytes) = ap Some (sym (append-nil bytes))
-
-pub takes_none : {T : Type 0} (given : T → Option (List ℕ)) (before now : Tail T) → given now.feed ≡ given before.feed → now.pending.items ≡ before.pending.items → now.taken ≡ before.taken → Takes given before now 0
-takes_none given before now same pending taken = record {
-  more = [];
-  pending = pending ∙ sym (append-nil before.pending.items);
-  gave = same ∙ given_nothing (given before.feed);
-  size = refl;
-  taken = omega (arith, taken);
-}
 
 all_behind : (before now : Option (List ℕ)) (front pending more pending_now : List ℕ) → now ≡ given_behind before more → pending_now ≡ pending ++ more → IfSome before (λ bytes. bytes ≡ front ++ pending) → IfSome now (λ bytes. bytes ≡ front ++ pending_now)
 all_behind None now front pending more pending_now gave is h = subst (λ (o : Option (List ℕ)). IfSome o (λ bytes. bytes ≡ front ++ pending_now)) (sym gave) tt
@@ -47,19 +32,7 @@ looked given desk number count before now t lines log w =
       is_all = all_behind (given before.tail.feed) (given now.tail.feed) w.front before.tail.pending.items t.more now.tail.pending.items t.gave t.pending w.is_all;
     }
 
-pub looked_short : {T : Type 0} (given : T → Option (List ℕ)) (count : ℕ) (before now : Watched T) → Takes given before.tail now.tail count → now.lines ≡ before.lines → now.tail.taken ≤ 67108864 → IsShort before → IsShort now
-looked_short given count before now t lines most s =
-    let was = s.lines in
-    record { lines = omega (arith, was, t.size, t.taken, lines, ap length t.pending, length-append before.tail.pending.items t.more); bytes = most }
-
 -- ---- answering
-
-no_more : (desk : DeskValue) → HasSeenLegal desk → AnswersMore desk desk []
-no_more desk legal = record {
-  goes_on = goes_nowhere desk legal;
-  between = All-nil (λ answered. IsBetween (length desk.seen) (length desk.seen) (kind_of answered));
-  named = λ n. zero-add (times n desk.mine);
-}
 
 -- no line that ends is pending
 pub answers_none : {T : Type 0} (given : T → Option (List ℕ)) (batch : ℕ) (desk : DeskValue) (number : ℕ) (watched : Watched T) → HasSeenLegal desk → IsUnended watched.tail.pending.items → Answers given batch desk desk number watched watched

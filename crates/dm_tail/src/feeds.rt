@@ -37,7 +37,7 @@ pub fn answer_feeds<
     let mut answered = Vec::with_capacity(alloc, feeds.len())?;
     for mut watched in feeds {
         let number = (answered.len() + 1) as u32;
-        watched.answer(alloc, desk, planner, number, batch, buffer)?;
+        watched.answer(desk, planner, number, batch, buffer)?;
         answered.push(watched)?;
     }
     Ok(answered)

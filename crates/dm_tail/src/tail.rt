@@ -1,8 +1,9 @@
 //! A feed that grows, and the part of it that is not yet answered.
 ghost use Rattle.std.specs.Prelude.{◌≡◌, ◌+◌, ◌≤◌, ◌++◌, false, [], length, drop, None, IfOk, OnOk};
+ghost use Rattle.dm_feed.specs.Feeds.{IsUnended};
 
 use crate::growing::Growing;
-use dm_feed::{FeedStop, hear_first};
+use dm_feed::FeedStop;
 use std::alloc::{AllocError, Global};
 
 /// The most bytes that are read of a feed: behind them it is read no further.
@@ -88,21 +89,28 @@ impl<T: Growing + Drop> Tail<T> {
             self.stop = Some(FeedStop::Long);
         }
         self.pending.extend_from_slice(bytes)?;
-        self.has_line = hear_first(bytes).is_some();
+        self.has_line = ends_line(bytes);
         Ok(())
     }
 
     /// Skips the first bytes that are pending.
-    pub fn skip(&mut self, alloc: Global, count: usize) -> Result<(), AllocError>
+    pub fn skip(&mut self, count: usize)
         requires { count ≤ length self.old.pending.items }
-        ensures pending { OnOk result (self.new.pending.items ≡ drop count self.old.pending.items) }
+        ensures pending { self.new.pending.items ≡ drop count self.old.pending.items }
         ensures feed { self.new.feed ≡ self.old.feed }
         ensures taken { self.new.taken ≡ self.old.taken }
         ensures has_line { self.new.has_line ≡ self.old.has_line }
         ensures stop { self.new.stop ≡ self.old.stop }
     {
-        let rest = Vec::from_slice(alloc, &self.pending[count..])?;
-        self.pending = rest;
-        Ok(())
+        let left = self.pending.len() - count;
+        self.pending.copy_within(count.., 0);
+        self.pending.truncate(left);
     }
+}
+
+/// Whether a line ends in the bytes.
+fn ends_line(bytes: &[u8]) -> bool
+    ensures { result ≡ false → IsUnended bytes.now }
+{
+    bytes.contains(&b'\n')
 }

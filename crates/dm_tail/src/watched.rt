@@ -9,7 +9,7 @@ use dm_cert::LogItem;
 use dm_desk::{Desk, Search, answer_lines};
 use dm_parts::AnyPlan;
 use dm_rows::Snapshot;
-use std::alloc::{AllocError, Global};
+use std::alloc::AllocError;
 
 /// A feed that grows, and what it was answered.
 #[derive(Drop)]
@@ -39,7 +39,6 @@ impl<T: Growing + Drop> Watched<T> {
     /// want of memory alone, and leaves desk and feed at any point.
     pub fn answer<D: Desk, P: Fn(&Snapshot, Search) -> Result<AnyPlan, AllocError>>(
         &mut self,
-        alloc: Global,
         desk: &mut D,
         planner: &P,
         number: u32,
@@ -57,13 +56,12 @@ impl<T: Growing + Drop> Watched<T> {
         ensures source { T.source self.new.tail.feed ≡ T.source self.old.tail.feed }
     {
         self.tail.look(buffer)?;
-        self.answer_pending(alloc, desk, planner, number, batch)
+        self.answer_pending(desk, planner, number, batch)
     }
 
     // Answers lines that are pending.
     fn answer_pending<D: Desk, P: Fn(&Snapshot, Search) -> Result<AnyPlan, AllocError>>(
         &mut self,
-        alloc: Global,
         desk: &mut D,
         planner: &P,
         number: u32,
@@ -95,6 +93,7 @@ impl<T: Growing + Drop> Watched<T> {
         )?;
         self.lines = lines;
         self.tail.has_line = self.log.len() - before == batch as usize;
-        self.tail.skip(alloc, passed)
+        self.tail.skip(passed);
+        Ok(())
     }
 }

@@ -39,4 +39,4 @@ returns-clause-same g c =
     passed_on g.T.Growing.given before.log.items now c.skip.new.self before.lines c.args.from done.bytes done.lines done.items same
     (subst (λ (l : List LogItem). IsCompared now.pending.items before.lines l done.bytes done.lines done.items) left
     (subst (λ (part : List ℕ). IsCompared part before.lines (take (length c.deref.result.now - c.args.from) (drop c.args.from c.deref.result.now)) done.bytes done.lines done.items) c.as_slice-pending.ensures.value c.in-Ok-compare_part.ensures.same))
-    c.in-Ok-skip.ensures.pending c.in-Ok-skip.ensures.feed c.in-Ok-skip.ensures.taken
+    c.skip.ensures.pending c.skip.ensures.feed c.skip.ensures.taken

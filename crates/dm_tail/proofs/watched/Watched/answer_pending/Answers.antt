@@ -1,5 +1,4 @@
 use Rattle.std.proofs.Common.{ℕ, List, refl, subst}
-use Rattle.std.proofs.lemmas.Result.{on_ok_weaker}
 use Rattle.dm_desk.specs.Fed.{AnswersPart}
 use Rattle.dm_tail.proofs.Following.{answers_none, answers_pending, still_short}
 use Rattle.dm_tail.proofs.watched.Watched.answer_pending.Goals as goal
@@ -13,15 +12,11 @@ returns-clause-answers g c =
     let part =
     subst (λ (l : List ℕ). AnswersPart l c.args.batch c.args.self.now.lines c.in_ok-passed.passed c.in_ok-passed.lines (g.D.Desk.value c.args.desk.now) (g.D.Desk.value c.answer_lines.new.desk) c.args.number c.args.self.now.log.items c.answer_lines.new.log.items)
     c.as_slice-pending.ensures.value c.in_ok-passed.ensures in
-    on_ok_weaker c.skip.result
-    (λ pending. answers_pending g.T.Growing.given c.args.batch c.in_ok-passed.passed c.in_ok-passed.lines (g.D.Desk.value c.args.desk.now) (g.D.Desk.value c.answer_lines.new.desk) c.args.number c.args.self.now _ part c.skip.ensures.feed refl pending refl)
-    c.skip.ensures.pending
+    answers_pending g.T.Growing.given c.args.batch c.in_ok-passed.passed c.in_ok-passed.lines (g.D.Desk.value c.args.desk.now) (g.D.Desk.value c.answer_lines.new.desk) c.args.number c.args.self.now _ part c.skip.ensures.feed refl c.skip.ensures.pending refl
 
 pub returns-clause-short : goal.returns-clause-short
 returns-clause-short g c =
     let part =
     subst (λ (l : List ℕ). AnswersPart l c.args.batch c.args.self.now.lines c.in_ok-passed.passed c.in_ok-passed.lines (g.D.Desk.value c.args.desk.now) (g.D.Desk.value c.answer_lines.new.desk) c.args.number c.args.self.now.log.items c.answer_lines.new.log.items)
     c.as_slice-pending.ensures.value c.in_ok-passed.ensures in
-    on_ok_weaker c.skip.result
-    (λ pending. still_short g.T.Growing.given c.args.batch c.in_ok-passed.passed c.in_ok-passed.lines (g.D.Desk.value c.args.desk.now) (g.D.Desk.value c.answer_lines.new.desk) c.args.number c.args.self.now _ part c.skip.ensures.feed refl pending c.skip.ensures.taken c.requires.short)
-    c.skip.ensures.pending
+    still_short g.T.Growing.given c.args.batch c.in_ok-passed.passed c.in_ok-passed.lines (g.D.Desk.value c.args.desk.now) (g.D.Desk.value c.answer_lines.new.desk) c.args.number c.args.self.now _ part c.skip.ensures.feed refl c.skip.ensures.pending c.skip.ensures.taken c.requires.short
