@@ -1,14 +1,17 @@
 //! The live server over real feeds, a real store and real boards.
-ghost use Rattle.std.specs.Prelude.{◌≤◌, vec_len};
+ghost use Rattle.std.specs.Prelude.{◌≤◌, vec_len, IfOk};
+ghost use Rattle.std.specs.Thread.{IsSync};
 ghost use Rattle.dm_base.specs.declared.limits.TheConstants.{BOARDS};
+ghost use Rattle.dm_desk.specs.Searching.{FindsAsked, MaySearch};
 ghost use Rattle.dm_words.specs.ServerAsked.{server_of};
 ghost use Rattle.dm_store_text.specs.Asked.{IsAsked};
 
-use crate::begun::{list_of, put_list, refusal, refusal_of_files};
-use crate::feeds::open_feeds;
-use crate::gauge::Gauge;
 use crate::pace::FilePace;
+use dm_desk::PlanRequest;
+use dm_find::find;
+use dm_live_files::{Gauge, list_of, open_feeds, put_list, refusal, refusal_of_files};
 use dm_outside::{Board, FolderShelf, OpenGate, Sink};
+use dm_parts::AnyPlan;
 use dm_serve::{Server, ServerMeans, serve_day};
 use dm_store::{FileStore, Journal, OpenError};
 use dm_store_text::{Status, end_server_usage, end_store, end_unread, text_of_store};
@@ -20,7 +23,6 @@ use std::rt::{Clock, Files};
 use std::sync::Wait;
 use std::thread::Threads;
 use std::time::Instant;
-use std::{fs, io};
 
 /// Whether the first word is one of the live server's.
 pub fn is_live(words: &[String]) -> bool {
@@ -28,32 +30,6 @@ pub fn is_live(words: &[String]) -> bool {
         Some(word) => word.as_str() == "serve" || word.as_str() == "text",
         None => false,
     }
-}
-
-/// A journal of so many bytes takes about a second to take up, on a slow host.
-const LONG: u64 = 8_000_000;
-
-/// Says that a server takes up what its store holds, where the journal is long.
-pub fn say_taking_up<R: Eprint + AllocGlobal + Files<File = File>>(
-    rt: &R,
-    words: &[String],
-) -> io::Result<()> {
-    let Some(LiveWords::Serve(server) | LiveWords::Begin(server)) = read_serve_words(words) else {
-        return Ok(());
-    };
-    let store = server.store;
-    let Ok(journal) = format!(in rt.alloc(); "{store}/journal") else {
-        return Ok(());
-    };
-    let bytes = match fs::metadata(rt, journal.as_str()) {
-        Ok(about) => about.len(),
-        Err(_) => return Ok(()),
-    };
-    if bytes < LONG {
-        return Ok(());
-    }
-    let megabytes = bytes / 1_000_000;
-    eprintln!(rt; "dispatcher: taking up {megabytes} MB of {journal}")
 }
 
 /// Does what words of the live server ask. `files` is the runtime that a store and boards keep.
@@ -150,18 +126,15 @@ fn serve_store<
         Ok(store) => Journal::new(store),
         Err(stop) => return end_unopened(stop, words.store, out),
     };
-    let mut pace = FilePace {
-        rt,
-        stop: &paths.stop,
-        gauge: &gauge,
-        feeds: feeds.len(),
-        pauses: 0,
-        since,
-    };
+    let mut pace = FilePace::new(rt, &paths.stop, &gauge, feeds.len(), since);
+    let search = |request: &PlanRequest<'_>| -> Result<AnyPlan, AllocError>
+        requires { IsSync R.row × MaySearch request.now }
+        ensures { IfOk result (FindsAsked request.now) }
+    { find(rt, alloc, request, &OpenGate) };
     let means = ServerMeans {
         rt,
         alloc,
-        gate: &OpenGate,
+        search: &search,
     };
     let end = serve_day(
         &means,

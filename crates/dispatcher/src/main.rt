@@ -1,8 +1,8 @@
 //! The dispatcher's server: keeps the timetable of a railway network up to date while feeds report delays.
 //!
-//! It stands on dm_program, dm_serve and dm_store_text for the calls that it makes, on dm_store and dm_tail for the real store
-//! and feeds, on dm_hints for what is said, on dm_words for what the words name, and on dm_boards and dm_outside for the other
-//! real forms.
+//! It stands on dm_program, dm_serve and dm_store_text for the calls that it makes, on dm_find for the plans of a server, on
+//! dm_store for the real store, on dm_live_files for real feeds and the list of the network's files, on dm_hints for what is said,
+//! on dm_words for what the words name, and on dm_boards and dm_outside for the other real forms.
 //!
 //! It makes the real shelf, sink and gate. For each stop S that the words give, it makes a board in the file `DIR/board-S.txt`.
 //! Where the words ask for the live server, it looks whether the store may be begun or gone on with, opens the feeds and the folder
@@ -16,15 +16,13 @@
 ghost use Rattle.std.specs.Prelude.{◌≤◌, vec_len, IfOk};
 ghost use Rattle.dm_base.specs.declared.limits.TheConstants.{BOARDS};
 
-mod begun;
-mod feeds;
-mod gauge;
 mod live;
 mod pace;
 
-use crate::live::{do_live, is_live, say_taking_up};
+use crate::live::{do_live, is_live};
 use dm_boards::FileBoard;
 use dm_hints::{Listener, tell, tell_live};
+use dm_live_files::say_taking_up;
 use dm_outside::{Board, FolderShelf, OpenGate, StdSink};
 use dm_program::{Status, dispatch};
 use dm_words::{CommandWords, LiveWords, board_words, read_serve_words, read_words};
@@ -42,9 +40,10 @@ fn main(rt: HostRuntime) -> ExitCode {
     let Ok(stops) = stops(rt.alloc(), words.as_slice()) else {
         return end(Status::NoMemory);
     };
+    let home = folder(words.as_slice());
     let mut boards: Vec<Box<dyn Board>> = Vec::new(rt.alloc());
     for stop in &stops {
-        let Ok(board) = board_in(rt, folder(words.as_slice()), *stop) else {
+        let Ok(board) = board_in(rt, home, *stop) else {
             return end(Status::NoMemory);
         };
         let Ok(()) = boards.push(board) else {

@@ -1,5 +1,5 @@
 //! How a server waits, and when it ends.
-use crate::gauge::Gauge;
+use dm_live_files::Gauge;
 use dm_serve::Pace;
 use std::fs::File;
 use std::rt::{Clock, Files};
@@ -21,22 +21,42 @@ const PAUSES_BETWEEN: u32 = 9;
 /// A pace that waits a little where nothing is new, and ends the server where a file of this name is there.
 #[derive(Drop)]
 pub struct FilePace<'r, R> {
-    pub rt: &'r R,
+    rt: &'r R,
 
     /// The name of the file.
-    pub stop: &'r str,
+    stop: &'r str,
 
     /// How full the journal is.
-    pub gauge: &'r Gauge<'r, R>,
+    gauge: &'r Gauge<'r, R>,
 
     /// How many feeds there are.
-    pub feeds: usize,
+    feeds: usize,
 
     /// How many pauses there are still before the next look at whether the server is to end.
-    pub pauses: u32,
+    pauses: u32,
 
     /// When the server began, where the clock told it.
-    pub since: Option<Instant>,
+    since: Option<Instant>,
+}
+
+impl<'r, R> FilePace<'r, R> {
+    /// A pace that looks at its file at the first pause.
+    pub fn new(
+        rt: &'r R,
+        stop: &'r str,
+        gauge: &'r Gauge<'r, R>,
+        feeds: usize,
+        since: Option<Instant>,
+    ) -> FilePace<'r, R> {
+        FilePace {
+            rt,
+            stop,
+            gauge,
+            feeds,
+            pauses: 0,
+            since,
+        }
+    }
 }
 
 impl<R: Clock + Eprint + Files<File = File>> Pace for FilePace<'_, R> {

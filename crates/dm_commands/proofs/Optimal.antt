@@ -1,22 +1,19 @@
 -- What a true run gives as optimal costs least, by the laws on plans of either kind.
-use Rattle.std.proofs.Common.{◌≡◌, ℕ, ◌+◌, List, [], ◌∷◌, ◌++◌, Option, Some, None, IfSome, refl, All, fold, take, get_or}
+use Rattle.std.proofs.Common.{◌≡◌, ℕ, ◌+◌, List, [], ◌∷◌, ◌++◌, IfSome, refl, All, take, get_or}
 use Rattle.std.proofs.lemmas.List.Elements.{All-nil, All-cons}
 use Rattle.std.proofs.lemmas.Option.{slice_get-get_or}
 use Rattle.dm_network.specs.Net.{Net}
 use Rattle.dm_network.specs.Start.{IsNetwork}
-use Rattle.dm_rows.specs.declared.messages.Change.{Change}
 use Rattle.dm_rows.specs.declared.messages.Decision.{Decision}
 use Rattle.dm_rows.specs.declared.messages.Entry.{Entry}
-use Rattle.dm_rows.specs.Resolve.{after, after_named, change_named}
 use Rattle.dm_rows.specs.Rows.{RowsValue, IsSized}
-use Rattle.dm_rows.proofs.Setting.{change_keeps_sizes}
 use Rattle.dm_feed.specs.declared.grammar.Line.{Line}
 use Rattle.dm_feed.specs.declared.grammar.Line.TheVariants as line
 use Rattle.dm_tree.specs.declared.forms.Mark.{Mark}
 use Rattle.dm_tree.specs.declared.forms.Mark.TheVariants.{Optimal, Open}
 use Rattle.dm_tree.specs.declared.plans.Plan.{Plan}
 use Rattle.dm_tree.specs.Plans.{whole_task, IsOptimal}
-use Rattle.dm_search.proofs.Optimal.{whole_is_task, optimal_plans_are_optimal}
+use Rattle.dm_traverse.proofs.Optimal.{whole_is_task, optimal_plans_are_optimal}
 use Rattle.dm_parts.specs.declared.parts.PlanByParts.{PlanByParts}
 use Rattle.dm_part_bounds.proofs.Low.{bounds_by_parts_hold}
 use Rattle.dm_cert.specs.declared.replies.FeedLog.{FeedLog}
@@ -29,17 +26,7 @@ use Rattle.dm_cert.specs.Logs.{AreTrueAnswers, AreTrueLogs}
 use Rattle.dm_cert.specs.RunTexts.{Run, KnowsLine, KnowsReply, KnowsItem, KnowsLog}
 use Rattle.dm_cert.specs.Runs.{IsTrueRun, setting_of}
 use Rattle.dm_commands.specs.Optimal.{Claim, claimed, claim_in, AreLeast, OptimalIsLeast}
-
--- entries leave the sizes of rows as they were
-named_keeps_sizes : (net : Net) (rows : RowsValue) (change : Option Change) → IsSized net rows → IsSized net (after_named rows change)
-named_keeps_sizes net rows (Some change) sized = change_keeps_sizes net rows change sized
-named_keeps_sizes net rows None sized = sized
-
-entries_keep_sizes : (net : Net) (rows : RowsValue) (entries : List Entry) → IsSized net rows →
-    IsSized net (fold (λ rows entry. after net rows entry.message) rows entries)
-entries_keep_sizes net rows [] sized = sized
-entries_keep_sizes net rows (entry ∷ entries) sized =
-    entries_keep_sizes net (after net rows entry.message) entries (named_keeps_sizes net rows (change_named net entry.message) sized)
+use Rattle.dm_table.proofs.Kept.{entries_keep_sizes}
 
 -- what is optimal for a whole network is least
 least_of : (net : Net) (rows : RowsValue) (penalty budget entry cost : ℕ) (choices : List Decision) → IsOptimal (whole_task net rows penalty budget) choices cost →

@@ -27,8 +27,8 @@ use Rattle.dm_words.specs.declared.queries.Query.{Query}
 use Rattle.dm_words.specs.declared.queries.Query.TheVariants.{Follow, Window, Rules, Journey}
 use Rattle.dm_words.specs.declared.queries.JourneyWords.{JourneyWords}
 use Rattle.dm_commands.specs.Searching.{search_for}
-use Rattle.dm_window.specs.declared.windows.Window.{Window as AWindow}
-use Rattle.dm_window.specs.Held.{IsFirstWithout}
+use Rattle.dm_stretch.specs.declared.windows.Window.{Window as AWindow}
+use Rattle.dm_stretch.specs.Held.{IsFirstWithout}
 use Rattle.dm_words.specs.declared.queries.WindowWords.{WindowWords}
 use Rattle.dm_outlook.specs.Outlooks.{IsOutlook}
 use Rattle.dm_outlook.specs.declared.outlook.Outlook.{Outlook}

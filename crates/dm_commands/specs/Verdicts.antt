@@ -3,24 +3,11 @@ use Rattle.std.specs.Prelude.{ℕ, List, [], ◌∷◌, codes}
 use Rattle.std.specs.Fmt.{decimal}
 use Rattle.dm_outside.specs.Printing.{joined}
 use Rattle.dm_input.specs.Lines.{line_end}
-use Rattle.dm_check.specs.declared.verdicts.BadKind.{BadKind}
-use Rattle.dm_check.specs.declared.verdicts.BadKind.TheVariants.{Form, Truncated, Entry, Reply, Plan, Unnamed, Board, Time, Cost}
+use Rattle.dm_check.specs.KindWords.{kind_word}
 use Rattle.dm_check.specs.declared.verdicts.Verdict.{Verdict}
 use Rattle.dm_check.specs.declared.verdicts.Verdict.TheVariants.{Good, Bad}
 use Rattle.dm_commands.specs.declared.status.Status.{Status}
 use Rattle.dm_commands.specs.declared.status.Status.TheVariants.{Ok as Well, Bad as IsBad}
-
--- what is wrong with a record, in a word
-abbrev pub kind_word : BadKind → List ℕ
-kind_word Form = codes "form"
-kind_word Truncated = codes "truncated"
-kind_word Entry = codes "entry"
-kind_word Reply = codes "reply"
-kind_word Plan = codes "plan"
-kind_word Unnamed = codes "unnamed"
-kind_word Board = codes "board"
-kind_word Time = codes "time"
-kind_word Cost = codes "cost"
 
 -- `good ENTRIES PLANS` or `bad LINE KIND`
 abbrev pub verdict_line : Verdict → List ℕ

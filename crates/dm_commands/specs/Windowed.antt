@@ -11,8 +11,8 @@ use Rattle.dm_outlook.specs.declared.outlook.Outlook.{Outlook}
 use Rattle.dm_outlook.specs.Outlooks.{IsOutlook}
 use Rattle.dm_outlook.specs.Texts.{outlook_text}
 use Rattle.dm_commands.specs.Searching.{search_for}
-use Rattle.dm_window.specs.declared.windows.Window.{Window}
-use Rattle.dm_window.specs.Held.{choice_named, IsFirstWithout}
+use Rattle.dm_stretch.specs.declared.windows.Window.{Window}
+use Rattle.dm_stretch.specs.Held.{choice_named, IsFirstWithout}
 use Rattle.dm_words.specs.declared.queries.WindowWords.{WindowWords}
 
 -- the window is the one that is asked for: what is held are the choices of the activities that are named

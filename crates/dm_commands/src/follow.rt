@@ -7,11 +7,11 @@ ghost use Rattle.dm_commands.specs.Followed.{cost_line, entries_line, state_text
 ghost use Rattle.dm_commands.specs.Inside.Asking.{state_of};
 
 use crate::status::Status;
-use crate::verdicts::{put_number, put_pieces, put_two_numbers};
+use crate::verdicts::{put_number, put_two_numbers};
 use dm_base::Cost;
 use dm_follow::{Follower, Tail};
 use dm_network::Network;
-use dm_outside::{Piece, Sink, WriteFault};
+use dm_outside::{Piece, Sink, WriteFault, put_pieces};
 use dm_report::{write_cancelled, write_timetable};
 use dm_rows::Rows;
 use dm_times::Times;

@@ -4,7 +4,7 @@
 //! for the text, on dm_summary for generated days, on dm_check for texts that are checked, on dm_journal for the journals of
 //! texts, and on dm_outlook, dm_ruling and dm_journey for what is asked of journals.
 //!
-//! What searches for plans is handed in, as a closure. The crate above, dm_program, hands in workers, and has the call `dispatch`
+//! What searches for plans is handed in, as closures. The crate above, dm_program, hands in workers, and has the call `dispatch`
 //! with its clauses. What these clauses name is defined here:
 //!
 //! - `specs/Headline`: what a run prints.
@@ -17,7 +17,7 @@
 //! # What is promised
 //!
 //! `dispatch_with` does what the words ask, with what its [`CommandMeans`] give. It asks for plans of rows within the limits and
-//! without a cycle, and is handed true ones (`specs/Searching`).
+//! without a cycle, and is handed true ones (`Searches` of dm_desk; for those of a window, `SearchesWindows` of dm_outlook).
 //!
 //! `ends`: the call ends as its status says (`Ends`). All clauses of `dispatch` follow from it, except the four that hold
 //! whatever the status.

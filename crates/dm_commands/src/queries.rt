@@ -7,62 +7,77 @@ ghost use Rattle.dm_input.specs.Stops.{IsKept};
 ghost use Rattle.dm_journal.specs.Journals.{IsJournal};
 ghost use Rattle.dm_words.specs.Asked.{query_of};
 ghost use Rattle.dm_commands.specs.Inside.Asking.{EndsAsked, EndsOnJournal, EndsQueried};
-ghost use Rattle.dm_commands.specs.Searching.{Searches};
+ghost use Rattle.dm_desk.specs.Searching.{Searches};
+ghost use Rattle.dm_outlook.specs.Searching.{SearchesWindows};
 ghost use Rattle.dm_commands.specs.Inside.Stages.{IsAtStart, IsWithinLimits};
 
 use crate::ends::{end_broken, end_long_text, end_stopped, end_torn, end_unread_text};
 use crate::follow::end_state;
 use crate::journey::end_journeys;
+use crate::means::CommandMeans;
 use crate::ruling::end_rules;
 use crate::status::Status;
 use crate::window::end_window;
-use dm_desk::Search;
+use dm_desk::PlanRequest;
 use dm_input::{Opened, read_opening};
 use dm_journal::{Journal, read_journal};
 use dm_network::Network;
 use dm_outside::{Shelf, Sink, TakeFault};
 use dm_parts::AnyPlan;
-use dm_rows::{Rows, Snapshot};
+use dm_rows::Rows;
+use dm_stretch::Window;
 use dm_words::{Query, QueryWords};
-use std::alloc::{AllocError, Global};
+use std::alloc::AllocError;
 
 /// Reads the files that the words name, and then the text, whose journal is followed over the network and from the rows that they
 /// make, and answers what is asked of it.
 pub fn answer_query<
-    F: Fn(&Network, u64, &Snapshot, Search, u32) -> Result<AnyPlan, AllocError>,
+    R,
+    F: Fn(&PlanRequest<'_>) -> Result<AnyPlan, AllocError>,
+    W: Fn(&PlanRequest<'_>, &Window) -> Result<AnyPlan, AllocError>,
+    G,
     H: Shelf,
     K: Sink,
->(alloc: Global, search: &F, words: &QueryWords<'_>, shelf: &mut H, out: &mut K) -> Status
-    requires searches { Searches (F.pre search.now) (F.post search.now) }
+>(
+    means: &CommandMeans<'_, '_, '_, '_, R, F, W, G>,
+    words: &QueryWords<'_>,
+    shelf: &mut H,
+    out: &mut K,
+) -> Status
+    requires searches { Searches (F.pre means.now.search.now) (F.post means.now.search.now) }
+    requires windows { SearchesWindows (W.pre means.now.search_window.now) (W.post means.now.search_window.now) }
     requires penalty { (query_of words.now).files.penalty ≤ PENALTY }
     requires limits { IsWithinLimits (query_of words.now).query }
     ensures ends { EndsQueried K.taken K.faults (H.files shelf.old) (H.is_sound shelf.old) (query_of words.now) out.old out.new result }
     ensures kept { IsKept H.files H.is_sound shelf.old shelf.new }
     ensures later { K.faults out.old ≤ K.faults out.new }
 {
-    let opened = match read_opening(alloc, shelf, &words.files) {
+    let opened = match read_opening(means.alloc, shelf, &words.files) {
         Ok(opened) => opened,
         Err(stop) => return end_stopped(&words.files, &stop, out),
     };
     let Opened { net, rows } = opened;
-    ask_text(alloc, search, &net, rows, words, shelf, out)
+    ask_text(means, &net, rows, words, shelf, out)
 }
 
 /// Reads a text and answers what the words ask of its journal, or says why that is not known.
 fn ask_text<
-    F: Fn(&Network, u64, &Snapshot, Search, u32) -> Result<AnyPlan, AllocError>,
+    R,
+    F: Fn(&PlanRequest<'_>) -> Result<AnyPlan, AllocError>,
+    W: Fn(&PlanRequest<'_>, &Window) -> Result<AnyPlan, AllocError>,
+    G,
     H: Shelf,
     K: Sink,
 >(
-    alloc: Global,
-    search: &F,
+    means: &CommandMeans<'_, '_, '_, '_, R, F, W, G>,
     net: &Network,
     rows: Rows,
     words: &QueryWords<'_>,
     shelf: &mut H,
     out: &mut K,
 ) -> Status
-    requires searches { Searches (F.pre search.now) (F.post search.now) }
+    requires searches { Searches (F.pre means.now.search.now) (F.post means.now.search.now) }
+    requires windows { SearchesWindows (W.pre means.now.search_window.now) (W.post means.now.search_window.now) }
     requires sized { IsSized net.now rows }
     requires start { IsAtStart net.now rows }
     requires penalty { (query_of words.now).files.penalty ≤ PENALTY }
@@ -74,8 +89,8 @@ fn ask_text<
 {
     net.reveal();
     let penalty = words.files.penalty;
-    match read_journal(alloc, shelf, words.text, net, rows, penalty) {
-        Ok(journal) => answer_journal(alloc, search, &journal, &words.query, out),
+    match read_journal(means.alloc, shelf, words.text, net, rows, penalty) {
+        Ok(journal) => answer_journal(means, &journal, &words.query, out),
         Err(TakeFault::ReadFault) => end_unread_text(words.text, out),
         Err(TakeFault::TooLong) => end_long_text(words.text, out),
         Err(TakeFault::OutOfMemory) => Status::NoMemory,
@@ -84,10 +99,19 @@ fn ask_text<
 
 /// Answers what is asked of a journal, or says which of its lines is bad.
 fn answer_journal<
-    F: Fn(&Network, u64, &Snapshot, Search, u32) -> Result<AnyPlan, AllocError>,
+    R,
+    F: Fn(&PlanRequest<'_>) -> Result<AnyPlan, AllocError>,
+    W: Fn(&PlanRequest<'_>, &Window) -> Result<AnyPlan, AllocError>,
+    G,
     K: Sink,
->(alloc: Global, search: &F, journal: &Journal<'_>, query: &Query<'_>, out: &mut K) -> Status
-    requires searches { Searches (F.pre search.now) (F.post search.now) }
+>(
+    means: &CommandMeans<'_, '_, '_, '_, R, F, W, G>,
+    journal: &Journal<'_>,
+    query: &Query<'_>,
+    out: &mut K,
+) -> Status
+    requires searches { Searches (F.pre means.now.search.now) (F.post means.now.search.now) }
+    requires windows { SearchesWindows (W.pre means.now.search_window.now) (W.post means.now.search_window.now) }
     requires within { IsWithinLimits query.now }
     ensures ends { (net : Net) (rows : RowsValue) (penalty : ℕ) (bytes : List ℕ) → IsJournal net rows penalty bytes journal.now
         → EndsOnJournal K.taken K.faults query.now net rows penalty bytes out.old out.new result }
@@ -101,9 +125,17 @@ fn answer_journal<
         },
         Journal::Whole(follower) => match query {
             Query::Follow => end_state(follower, out),
-            Query::Journey(asked) => end_journeys(alloc, follower.table(), *asked, out),
-            Query::Rules(asked) => end_rules(alloc, search, follower.table(), *asked, out),
-            Query::Window(asked) => end_window(alloc, follower.table(), asked, out),
+            Query::Journey(asked) => end_journeys(means.alloc, follower.table(), *asked, out),
+            Query::Rules(asked) => {
+                end_rules(means.alloc, means.search, follower.table(), *asked, out)
+            }
+            Query::Window(asked) => end_window(
+                means.alloc,
+                means.search_window,
+                follower.table(),
+                asked,
+                out,
+            ),
         },
     }
 }

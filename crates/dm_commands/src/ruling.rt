@@ -4,17 +4,15 @@ ghost use Rattle.dm_ruling.specs.Texts.{comparison_text};
 ghost use Rattle.dm_waitrule.specs.Kinds.{bound_of};
 ghost use Rattle.dm_commands.specs.Ends.{EndsAs};
 ghost use Rattle.dm_commands.specs.Ruled.{rule_named, ComparesFor};
-ghost use Rattle.dm_commands.specs.Searching.{Searches};
+ghost use Rattle.dm_desk.specs.Searching.{Searches};
 ghost use Rattle.dm_commands.specs.Inside.Asking.{EndsCompared};
 ghost use Rattle.dm_commands.specs.Inside.Stages.{AreRulesWithin};
 
 use crate::searching::search_for;
 use crate::status::Status;
-use dm_desk::Search;
-use dm_network::Network;
+use dm_desk::PlanRequest;
 use dm_outside::{Sink, WriteFault};
 use dm_parts::AnyPlan;
-use dm_rows::Snapshot;
 use dm_ruling::print_comparison;
 use dm_table::Table;
 use dm_waitrule::{Comparison, WaitRule, compare};
@@ -22,10 +20,13 @@ use dm_words::{RuleWord, RulesWords};
 use std::alloc::{AllocError, Global};
 
 /// Prints what a rule chooses after all entries, beside a plan.
-pub fn end_rules<
-    F: Fn(&Network, u64, &Snapshot, Search, u32) -> Result<AnyPlan, AllocError>,
-    K: Sink,
->(alloc: Global, search: &F, table: &Table<'_>, asked: RulesWords, out: &mut K) -> Status
+pub fn end_rules<F: Fn(&PlanRequest<'_>) -> Result<AnyPlan, AllocError>, K: Sink>(
+    alloc: Global,
+    search: &F,
+    table: &Table<'_>,
+    asked: RulesWords,
+    out: &mut K,
+) -> Status
     requires searches { Searches (F.pre search.now) (F.post search.now) }
     requires within { AreRulesWithin asked }
     ensures ends { EndsCompared K.taken K.faults asked table.now out.old out.new result }
@@ -39,7 +40,7 @@ pub fn end_rules<
 }
 
 /// What a rule chooses after all entries, beside a plan.
-fn comparison_of<F: Fn(&Network, u64, &Snapshot, Search, u32) -> Result<AnyPlan, AllocError>>(
+fn comparison_of<F: Fn(&PlanRequest<'_>) -> Result<AnyPlan, AllocError>>(
     alloc: Global,
     search: &F,
     table: &Table<'_>,
@@ -52,13 +53,14 @@ fn comparison_of<F: Fn(&Network, u64, &Snapshot, Search, u32) -> Result<AnyPlan,
     table.reveal();
     let (net, penalty) = (table.network(), table.penalty());
     let snapshot = table.copy()?;
-    let plan = search(
+    let request = PlanRequest {
         net,
         penalty,
-        &snapshot,
-        search_for(asked.solve, asked.budget),
-        asked.workers,
-    )?;
+        snapshot: &snapshot,
+        asked: search_for(asked.solve, asked.budget),
+        workers: asked.workers,
+    };
+    let plan = search(&request)?;
     compare(alloc, net, penalty, &snapshot, rule_named(asked.rule), plan)
 }
 

@@ -11,7 +11,7 @@ ghost use Rattle.dm_words.specs.Asked.{run_of};
 ghost use Rattle.dm_words.specs.Words.{Asks, RunOf};
 ghost use Rattle.dm_commands.specs.Ends.{Ends};
 ghost use Rattle.dm_desk.specs.Planning.{FindsFor};
-ghost use Rattle.dm_commands.specs.Searching.{MaySearch, Searches};
+ghost use Rattle.dm_desk.specs.Searching.{MaySearch, Searches};
 ghost use Rattle.dm_commands.specs.Inside.Stages.{AreWithin, IsAtStart};
 
 use crate::ending::{BoardList, Ending};
@@ -21,12 +21,13 @@ use crate::means::CommandMeans;
 use crate::print::end_run;
 use crate::status::Status;
 use dm_crew::{AnsweredDay, Crew, answer_at_once};
-use dm_desk::{HoldPoint, Search};
+use dm_desk::{HoldPoint, PlanRequest, Search};
 use dm_input::{Opened, read_opening};
 use dm_network::Network;
 use dm_outside::{Board, Shelf, Sink, Source};
 use dm_parts::AnyPlan;
 use dm_rows::{Rows, Snapshot};
+use dm_stretch::Window;
 use dm_words::RunWords;
 use std::alloc::AllocError;
 use std::sync::Wait;
@@ -35,12 +36,13 @@ use std::thread::Threads;
 /// Reads the files of a run, opens and answers its feeds, shows boards the times, and prints it.
 pub fn run_feeds<
     R: Threads + Wait + Sync,
-    F: Fn(&Network, u64, &Snapshot, Search, u32) -> Result<AnyPlan, AllocError> + Sync,
+    F: Fn(&PlanRequest<'_>) -> Result<AnyPlan, AllocError> + Sync,
+    W: Fn(&PlanRequest<'_>, &Window) -> Result<AnyPlan, AllocError> + Sync,
     G: HoldPoint + Sync,
     H: Shelf,
     K: Sink,
 >(
-    means: &CommandMeans<'_, '_, '_, R, F, G>,
+    means: &CommandMeans<'_, '_, '_, '_, R, F, W, G>,
     run: &RunWords<'_>,
     shelf: &mut H,
     boards: &mut Vec<Box<dyn Board>>,
@@ -75,17 +77,18 @@ pub fn run_feeds<
     }
 }
 
-/// Answers the feeds of a run over a network in rounds, from the rows before any message. In a round each feed has a thread of
-/// its own where two or more are still read and one can be made; else the caller answers it. Boards are shown the times before
-/// the first round and after each.
+/// Answers the feeds of a run over a network in rounds, from the rows before any message. In a round as many threads as there are
+/// processors share the feeds that are still read, where threads can be made. Boards are shown the times before the first round and
+/// after each.
 pub fn answer_run<
     'n,
     R: Threads + Wait + Sync,
-    F: Fn(&Network, u64, &Snapshot, Search, u32) -> Result<AnyPlan, AllocError> + Sync,
+    F: Fn(&PlanRequest<'_>) -> Result<AnyPlan, AllocError> + Sync,
+    W: Fn(&PlanRequest<'_>, &Window) -> Result<AnyPlan, AllocError> + Sync,
     G: HoldPoint + Sync,
     S: Source + Send + Drop,
 >(
-    means: &CommandMeans<'_, '_, '_, R, F, G>,
+    means: &CommandMeans<'_, '_, '_, '_, R, F, W, G>,
     run: &RunWords<'_>,
     net: &'n Network,
     rows: Rows,
@@ -109,9 +112,18 @@ pub fn answer_run<
     let workers = run.workers;
     let planner = |snapshot: &Snapshot, asked: Search| -> Result<AnyPlan, AllocError>
         requires { Searches (F.pre means.now.search.now) (F.post means.now.search.now)
-            × MaySearch net.now penalty snapshot.now asked workers }
+            × MaySearch (record { net = net; penalty = penalty; snapshot = snapshot; asked = asked; workers = workers }) }
         ensures { IfOk result (FindsFor net.entry.now penalty snapshot.now asked) }
-    { (means.search)(net, penalty, snapshot, asked, workers) };
+    {
+        let request = PlanRequest {
+            net,
+            penalty,
+            snapshot,
+            asked,
+            workers,
+        };
+        (means.search)(&request)
+    };
     let crew = Crew {
         rt: means.rt,
         alloc: means.alloc,

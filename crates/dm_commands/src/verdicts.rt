@@ -1,40 +1,12 @@
 //! Verdicts in print, and the lines that say why a text has none.
-ghost use Rattle.std.specs.Prelude.{◌≡◌, ◌∷◌, [], codes};
+ghost use Rattle.std.specs.Prelude.{◌∷◌, [], codes};
 ghost use Rattle.std.specs.Fmt.{decimal};
 ghost use Rattle.dm_input.specs.Lines.{line_end};
-ghost use Rattle.dm_outside.specs.Printing.{Puts, joined, pieces_text};
-ghost use Rattle.dm_commands.specs.Verdicts.{kind_word, verdict_line, long_text_line, unread_text_line};
+ghost use Rattle.dm_outside.specs.Printing.{Puts, joined};
+ghost use Rattle.dm_commands.specs.Verdicts.{verdict_line, long_text_line, unread_text_line};
 
-use dm_check::{BadKind, Verdict};
-use dm_outside::{Page, Piece, Sink, WriteFault};
-
-/// The word of what is wrong with a record.
-fn kind_word(kind: BadKind) -> &'static str
-    ensures { result.now ≡ kind_word kind }
-{
-    match kind {
-        BadKind::Form => "form",
-        BadKind::Truncated => "truncated",
-        BadKind::Entry => "entry",
-        BadKind::Reply => "reply",
-        BadKind::Plan => "plan",
-        BadKind::Unnamed => "unnamed",
-        BadKind::Board => "board",
-        BadKind::Time => "time",
-        BadKind::Cost => "cost",
-    }
-}
-
-/// Puts the pieces, one after another.
-pub fn put_pieces<K: Sink>(sink: &mut K, pieces: &[Piece<'_>]) -> Result<(), WriteFault>
-    ensures { Puts K.taken K.faults sink.old sink.new result (pieces_text pieces.now) }
-{
-    let mut page = Page::new();
-    let Ok(()) = page.put(sink, pieces) else {
-        return Err(WriteFault);
-    };
-    page.finish(sink)
-}
+use dm_check::Verdict;
+use dm_outside::{Piece, Sink, WriteFault, put_pieces};
 
 /// Puts a line of words and a number.
 pub fn put_number<K: Sink>(sink: &mut K, words: &str, number: u128) -> Result<(), WriteFault>
@@ -97,7 +69,7 @@ pub fn put_verdict<K: Sink>(sink: &mut K, verdict: Verdict) -> Result<(), WriteF
                 Piece::Text("bad "),
                 Piece::Number(line as u128),
                 Piece::Text(" "),
-                Piece::Text(kind_word(kind)),
+                Piece::Text(kind.word()),
                 Piece::Text("\n"),
             ],
         ),

@@ -1,9 +1,10 @@
 //! Plans of a window, in print.
 ghost use Rattle.std.specs.Prelude.{◌≤◌, IfErr, IfOk};
+ghost use Rattle.dm_outlook.specs.Searching.{SearchesWindows};
 ghost use Rattle.dm_outlook.specs.Texts.{outlook_text};
 ghost use Rattle.dm_outside.specs.Printing.{Puts};
 ghost use Rattle.dm_commands.specs.Ends.{EndsAs};
-ghost use Rattle.dm_window.specs.Held.{MakesNoChoice};
+ghost use Rattle.dm_stretch.specs.Held.{MakesNoChoice};
 ghost use Rattle.dm_commands.specs.Windowed.{IsWindowAsked, no_choice_line, unknown_entry_line};
 ghost use Rattle.dm_commands.specs.Inside.Asking.{EndsOutlook};
 ghost use Rattle.dm_commands.specs.Inside.Stages.{IsWindowWithin};
@@ -11,22 +12,26 @@ ghost use Rattle.dm_commands.specs.Inside.Stages.{IsWindowWithin};
 use crate::searching::search_for;
 use crate::status::Status;
 use crate::verdicts::put_number;
+use dm_desk::PlanRequest;
 use dm_network::Network;
 use dm_outlook::{Outlook, outlook_of, print_outlook};
 use dm_outside::{Sink, WriteFault};
+use dm_parts::AnyPlan;
+use dm_stretch::{HeldFault, Window, held_choices};
 use dm_table::Table;
-use dm_window::{HeldFault, Window, held_choices};
 use dm_words::WindowWords;
 use std::alloc::{AllocError, Global};
 
 /// Prints a plan of a window at the entry that is named, and what becomes of it at the last, or at the last where none is named;
 /// or says which entry there is not, or which activity makes no choice that could be held.
-pub fn end_window<K: Sink>(
+pub fn end_window<W: Fn(&PlanRequest<'_>, &Window) -> Result<AnyPlan, AllocError>, K: Sink>(
     alloc: Global,
+    search_window: &W,
     table: &Table<'_>,
     asked: &WindowWords<'_>,
     out: &mut K,
 ) -> Status
+    requires windows { SearchesWindows (W.pre search_window.now) (W.post search_window.now) }
     requires within { IsWindowWithin asked.now }
     ensures ends { EndsOutlook K.taken K.faults asked.now table.now out.old out.new result }
     ensures later { K.faults out.old ≤ K.faults out.new }
@@ -43,7 +48,15 @@ pub fn end_window<K: Sink>(
         Err(HeldFault::OutOfMemory) => return Status::NoMemory,
     };
     let search = search_for(asked.solve, asked.budget);
-    match outlook_of(alloc, table, &window, search, asked.at, asked.minimal) {
+    match outlook_of(
+        alloc,
+        search_window,
+        table,
+        &window,
+        search,
+        asked.at,
+        asked.minimal,
+    ) {
         Ok(outlook) => end_outlook(&window, table.len(), &outlook, out),
         Err(AllocError) => Status::NoMemory,
     }

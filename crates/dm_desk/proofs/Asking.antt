@@ -1,5 +1,5 @@
 -- What the plans among the items of a feed are, and what asking for one and adopting one comes to.
-use Rattle.std.proofs.Common.{◌≡◌, ℕ, ◌+◌, ◌<◌, ◌≤◌, cond, List, [], ◌∷◌, ◌++◌, length, Option, Some, None, IfSome, refl, sym, ap, subst, ◌∙◌, arith, fold, zero-add}
+use Rattle.std.proofs.Common.{◌≡◌, ℕ, ◌+◌, ◌<◌, ◌≤◌, cond, List, [], ◌∷◌, ◌++◌, length, Option, None, IfSome, refl, sym, ap, subst, ◌∙◌, arith, fold, zero-add}
 use Rattle.std.specs.Borrow.{Bor}
 use Rattle.std.specs.Prelude.{count_by, Result}
 use Rattle.std.specs.declared.alloc.AllocError.{AllocError}
@@ -158,7 +158,3 @@ found_replies before now feed here items (ForParts budget) (ByParts plan) in_ran
       spelled = true_is_spelled _ plan f.finds.is_true f.finds.few_ids;
       named = λ n. zero-add (times n before.mine) ∙ ap (times n) (sym f.copied.looks.mine);
     }
-
--- the latest plan may be adopted
-pub latest_may : (desk : DeskValue) (given latest : Option Chosen) (plan : Chosen) → given ≡ latest → given ≡ Some plan → IfSome latest (IsAdoptable desk) → IsAdoptable desk plan
-latest_may desk given latest plan e is h = let same : latest ≡ Some plan = sym e ∙ is in subst (λ (o : Option Chosen). IfSome o (IsAdoptable desk)) same h

@@ -151,7 +151,7 @@ module _ (before now : DeskValue) (feed : ℕ) where
         size = sym k.one;
       }
 
-no_more : (desk : DeskValue) → HasSeenLegal desk → AnswersMore desk desk []
+pub no_more : (desk : DeskValue) → HasSeenLegal desk → AnswersMore desk desk []
 no_more desk legal = record {
   goes_on = goes_nowhere desk legal;
   between = All-nil (λ answered. IsBetween (length desk.seen) (length desk.seen) (kind_of answered));

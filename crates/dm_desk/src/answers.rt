@@ -1,6 +1,6 @@
 //! The answer to one line.
 
-ghost use Rattle.std.specs.Prelude.{◌≡◌, ℕ, List, IfOk};
+ghost use Rattle.std.specs.Prelude.{ℕ, List, IfOk};
 ghost use Rattle.dm_cert.specs.declared.replies.LogItem.{LogItem};
 ghost use Rattle.dm_feed.specs.Lines.{IsSaid, IsSpelledLine};
 ghost use Rattle.dm_desk.specs.Answered.{HasSeenLegal, AreTrueOf};
@@ -12,7 +12,7 @@ use crate::desk::Desk;
 use crate::searches::Search;
 use dm_base::EventId;
 use dm_cert::{LogItem, Reply};
-use dm_feed::{Heard, Line};
+use dm_feed::{Heard, Line, copy_of_message};
 use dm_parts::AnyPlan;
 use dm_rows::{At, Entry, Message, Refusal, Snapshot};
 use std::alloc::AllocError;
@@ -78,7 +78,7 @@ fn post<D: Desk>(desk: &mut D, feed: u32, line: u32, message: &Message) -> Resul
     let entry = Entry {
         feed,
         line,
-        message: said_again(message),
+        message: copy_of_message(message),
     };
     match desk.post(entry) {
         Ok(number) => Ok(Reply::Ok(number)),
@@ -99,27 +99,5 @@ fn time_of<D: Desk>(desk: &mut D, event: EventId) -> Reply
     match desk.time(event) {
         Ok((time, entries)) => Reply::Time(entries, time),
         Err(at) => Reply::Refused(at),
-    }
-}
-
-// The same message, which a line says, so it is no adopted list.
-fn said_again(message: &Message) -> Message
-    requires { IsSaid message.now }
-    ensures { result ≡ message.now }
-{
-    match message {
-        Message::DelayEvent(event, delay) => Message::DelayEvent(*event, *delay),
-        Message::DelayActivity(act, delay) => Message::DelayActivity(*act, *delay),
-        Message::Pass(event, time) => Message::Pass(*event, *time),
-        Message::Recall(event) => Message::Recall(*event),
-        Message::Keep(act) => Message::Keep(*act),
-        Message::Drop(act) => Message::Drop(*act),
-        Message::First(first, second) => Message::First(*first, *second),
-        Message::Now(time) => Message::Now(*time),
-        Message::Cancel(event) => Message::Cancel(*event),
-        Message::Restore(event) => Message::Restore(*event),
-        Message::Lock(choice) => Message::Lock(*choice),
-        Message::Unlock(choice) => Message::Unlock(*choice),
-        Message::Adopt(_) => unreachable!(),
     }
 }

@@ -9,7 +9,7 @@
 //! The trait `Desk` says what enters messages, tells times, costs and lengths at a history that only grows, copies its rows,
 //! adopts choices for rows that were seen, and carries choices over: enters those of them that are still free after the entries
 //! before. `PlansUnder` says what a planner is asked, and that it gives a true plan, or a true plan by parts, of copied rows for a
-//! budget.
+//! budget. `Searches` says the same of what is given a [`PlanRequest`], for the rows of any network, within the limits (`MaySearch`).
 //!
 //! `answer_batch` answers the next due lines of a feed over any desk: a given number of them, or all that are left
 //! (`AnswersBatch`). What the log holds is true of the history that the desk has seen. The log has one item for each due
@@ -38,4 +38,4 @@ pub use batches::answer_batch;
 pub use desk::Desk;
 pub use hold_point::HoldPoint;
 pub use parts::answer_lines;
-pub use searches::Search;
+pub use searches::{PlanRequest, Search};

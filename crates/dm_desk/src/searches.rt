@@ -3,6 +3,9 @@
 ghost use Rattle.std.specs.Prelude.{◌≡◌};
 ghost use Rattle.dm_desk.specs.Planning.{budget_of};
 
+use dm_network::Network;
+use dm_rows::Snapshot;
+
 /// What is to be searched for, with at most so many nodes.
 #[derive(Clone, Copy)]
 pub enum Search {
@@ -22,4 +25,14 @@ impl Search {
             Search::Plan(budget) | Search::Solve(budget) => budget,
         }
     }
+}
+
+/// A plan that is asked for: of the rows of a snapshot, at a penalty in seconds for each passenger, by so many workers.
+#[derive(Drop)]
+pub struct PlanRequest<'a> {
+    pub net: &'a Network,
+    pub penalty: u64,
+    pub snapshot: &'a Snapshot,
+    pub asked: Search,
+    pub workers: u32,
 }

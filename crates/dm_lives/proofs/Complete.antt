@@ -8,6 +8,7 @@ use Rattle.dm_cert.specs.declared.replies.LogItem.{LogItem}
 use Rattle.dm_cert.specs.Answers.{Setting}
 use Rattle.dm_cert.specs.Logs.{due_of}
 use Rattle.dm_feed.specs.DueItems.{AreDueItems, lines_of}
+use Rattle.dm_store.specs.declared.store.Store.{Ghosts as StoreFacts}
 use Rattle.dm_store.specs.Calls.{Image}
 use Rattle.dm_store.specs.declared.journal.Journal.{Journal}
 use Rattle.dm_book.specs.Books.{Book, IsSafe}
@@ -17,7 +18,7 @@ use Rattle.dm_watch.specs.Settled.{all_items}
 use Rattle.dm_tail.specs.Sources.{AnswerFronts, AnswersFront}
 use Rattle.dm_catch_up.specs.Feeds.{DiffersAt}
 use Rattle.dm_serve.specs.Ends.{IsFeedRefusal}
-use Rattle.dm_serve.proofs.Answering.{as_many}
+use Rattle.dm_book.proofs.Growing.{as_many}
 use Rattle.dm_serve.specs.Lives.{IsTakenUp}
 use Rattle.dm_lives.specs.Laws.{Holds}
 use Rattle.dm_lives.specs.Growth.{HasNotGrown, IsComplete, IsOfLessFeed, RoundsAnswer}
@@ -29,13 +30,13 @@ if_some : {X : Type 0} (o : Option X) (P Q : X → Type 0) → ((x : X) → P x 
 if_some None P Q f h = tt
 if_some (Some x) P Q f h = f x h
 
-module _ {S T : Type 0} (tells : S → Type 0) (seen : S → List ℕ) (shown : S → List (List ℕ)) (may_leave : S → Image → Type 0) (given : T → Option (List ℕ)) (s : Setting) (first last : Book) (image : Image)
-    (had : List (List ℕ)) (tails : List (Tail T)) (old new : Journal S) (text : List ℕ) (safe : IsSafe s first last image) (answer : AnswerFronts (map Some had) last.logs) (holds : Holds tells seen shown may_leave image old.store) where
-  taken : (n : ℕ) → n ≡ length first.logs → IsTakenUp tells seen shown may_leave s n old.store safe.contents safe.book
+module _ {S T : Type 0} (facts : StoreFacts S) (given : T → Option (List ℕ)) (s : Setting) (first last : Book) (image : Image)
+    (had : List (List ℕ)) (tails : List (Tail T)) (old new : Journal S) (text : List ℕ) (safe : IsSafe s first last image) (answer : AnswerFronts (map Some had) last.logs) (holds : Holds facts image old.store) where
+  taken : (n : ℕ) → n ≡ length first.logs → IsTakenUp facts s n old.store safe.contents safe.book
   taken n many =
-      subst (λ (k : ℕ). IsTakenUp tells seen shown may_leave s k old.store safe.contents safe.book) (sym many) (taken_from tells seen shown may_leave s first last image old.store safe holds)
+      subst (λ (k : ℕ). IsTakenUp facts s k old.store safe.contents safe.book) (sym many) (taken_from facts s first last image old.store safe holds)
 
-  of_less : (n : ℕ) → n ≡ length first.logs → IsFeedRefusal tells seen shown may_leave given s n tails old new text → IsOfLessFeed given had safe.book.logs tails text
+  of_less : (n : ℕ) → n ≡ length first.logs → IsFeedRefusal facts given s n tails old new text → IsOfLessFeed given had safe.book.logs tails text
   of_less n many r =
       let above = as_many first.logs safe.book.logs safe.above.logs in
       let below = as_many safe.book.logs last.logs safe.below.logs in
@@ -65,13 +66,13 @@ module _ {S T : Type 0} (tells : S → Type 0) (seen : S → List ℕ) (shown : 
         line = r.line;
       }
 
-pub complete : {S T : Type 0} (tells : S → Type 0) (seen : S → List ℕ) (shown : S → List (List ℕ)) (may_leave : S → Image → Type 0) (moment : S → ℕ) (left_since : S → ℕ → Image → Type 0) (store_faults : S → ℕ)
+pub complete : {S T : Type 0} (facts : StoreFacts S)
     (given : T → Option (List ℕ)) (faults : T → ℕ)
-    → IsComplete tells seen shown may_leave moment left_since store_faults given faults
-complete tells seen shown may_leave moment left_since store_faults given faults = λ s first last image had names store feeds tails old new text penalty plans few many safe answer holds due.
-    ⊎_elim inl (λ r. inr (of_less tells seen shown may_leave given s first last image had tails old new text safe answer holds (length names) many r))
-    (refused_so tells seen shown may_leave moment left_since store_faults given faults s names store feeds tails old new safe.contents safe.book text penalty plans few
-    (taken tells seen shown may_leave given s first last image had tails old new text safe answer holds (length names) many) due)
+    → IsComplete facts given faults
+complete facts given faults = λ s first last image had names store feeds tails old new text penalty plans few many safe answer holds due.
+    ⊎_elim inl (λ r. inr (of_less facts given s first last image had tails old new text safe answer holds (length names) many r))
+    (refused_so facts given faults s names store feeds tails old new safe.contents safe.book text penalty plans few
+    (taken facts given s first last image had tails old new text safe answer holds (length names) many) due)
 
 -- ---- what rounds answer
 

@@ -13,7 +13,7 @@ use Rattle.dm_feed.proofs.Ahead.{line_more}
 use Rattle.dm_cert.specs.declared.replies.LogItem.{LogItem}
 use Rattle.dm_cert.specs.Logs.{due_of}
 use Rattle.dm_tail.specs.Sources.{AnswersFront}
-use Rattle.dm_serve.proofs.Answering.{as_many}
+use Rattle.dm_book.proofs.Growing.{as_many}
 use Rattle.dm_lives.specs.Growth.{FrontsAnswer}
 use Rattle.dm_lives.proofs.Refusals.{fronts_at}
 

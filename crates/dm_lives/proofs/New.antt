@@ -9,8 +9,9 @@ use Rattle.dm_cert.specs.declared.replies.LogItem.{LogItem}
 use Rattle.dm_cert.specs.Answers.{Setting}
 use Rattle.dm_cert.specs.Logs.{IsTrueLog}
 use Rattle.dm_rounds.proofs.Places.{mapped_at}
+use Rattle.dm_store.specs.declared.store.Store.{Ghosts as StoreFacts}
 use Rattle.dm_store.specs.Blocks.{Stands, block, is_crash_end}
-use Rattle.dm_store.specs.Calls.{AreFronts, Image}
+use Rattle.dm_store.specs.Calls.{AreFronts}
 use Rattle.dm_store.specs.Journals.{HasCrashEnd}
 use Rattle.dm_book.specs.Books.{IsTrueBook, log_of, reply_text}
 use Rattle.dm_lives.specs.Laws.{IsNewTakenUp, empty_book}
@@ -54,8 +55,8 @@ true_empty s feeds = record {
   };
 }
 
-pub new_taken_up : {S : Type 0} (tells : S → Type 0) (seen : S → List ℕ) (shown : S → List (List ℕ)) (may_leave : S → Image → Type 0) → IsNewTakenUp tells seen shown may_leave
-new_taken_up tells seen shown may_leave = λ s feeds store new. record {
+pub new_taken_up : {S : Type 0} (facts : StoreFacts S) → IsNewTakenUp facts
+new_taken_up facts = λ s feeds store new. record {
   found = record { told = new.told; stands = subst (Stands []) (sym new.journal) stands_empty; durable = new.durable };
   crash_end = subst (HasCrashEnd []) (sym new.journal) crash_end_empty;
   restored = record { as_many = many feeds; is_in = inl (record { none = refl; empty = all_empty feeds }); is_true = true_empty s feeds };

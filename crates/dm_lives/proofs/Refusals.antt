@@ -9,8 +9,9 @@ use Rattle.dm_base.specs.declared.limits.TheConstants.{FEEDS, PENALTY}
 use Rattle.dm_cert.specs.declared.limits.TheConstants.{PLANS}
 use Rattle.dm_cert.specs.declared.replies.LogItem.{LogItem}
 use Rattle.dm_cert.specs.Answers.{Setting}
+use Rattle.dm_store.specs.declared.store.Store.{Ghosts as StoreFacts}
 use Rattle.dm_store.specs.Blocks.{is_crash_end, is_new, refusal, version}
-use Rattle.dm_store.specs.Calls.{AreFronts, Image}
+use Rattle.dm_store.specs.Calls.{AreFronts}
 use Rattle.dm_store.specs.declared.faults.StoreError.{StoreError}
 use Rattle.dm_store.specs.declared.faults.StoreError.TheVariants.{Broken, NoJournal, OtherVersion}
 use Rattle.dm_store.specs.declared.journal.Journal.{Journal}
@@ -20,7 +21,7 @@ use Rattle.dm_store_text.specs.Lines.{refusal_line, store_line}
 use Rattle.dm_store_text.proofs.Complete.{true_books_are_not_refused}
 use Rattle.dm_serve.specs.Ends.{IsFeedRefusal, IsFull, IsReplyRefusal, IsStoreRefusal}
 use Rattle.dm_serve.specs.Lives.{IsTakenUp}
-use Rattle.dm_serve.proofs.Answering.{as_many}
+use Rattle.dm_book.proofs.Growing.{as_many}
 use Rattle.dm_lives.specs.Laws.{IsRefusedSo}
 
 first_same : {X : Type 0} {x y : X} {xs ys : List X} → x ∷ xs ≡ y ∷ ys → x ≡ y
@@ -49,36 +50,36 @@ fronts_at (x ∷ xs) [] place fronts low = absurd fronts
 fronts_at (x ∷ xs) (y ∷ ys) zero fronts low = fronts.0
 fronts_at (x ∷ xs) (y ∷ ys) (suc place) fronts low = fronts_at xs ys place fronts.1 (omega (arith, low))
 
-module _ {S T : Type 0} (tells : S → Type 0) (seen : S → List ℕ) (shown : S → List (List ℕ)) (may_leave : S → Image → Type 0) (given : T → Option (List ℕ)) (s : Setting) (n : ℕ) (tails : List (Tail T)) (old new : Journal S)
-    (contents : List (List ℕ)) (book : Book) (text : List ℕ) (penalty : s.penalty ≤ PENALTY) (plans : s.plans ≤ PLANS) (few : n ≤ FEEDS) (t : IsTakenUp tells seen shown may_leave s n old.store contents book) where
-  store_case : IsStoreRefusal tells seen shown may_leave s n old new text → text ≡ store_line (codes "full")
+module _ {S T : Type 0} (facts : StoreFacts S) (given : T → Option (List ℕ)) (s : Setting) (n : ℕ) (tails : List (Tail T)) (old new : Journal S)
+    (contents : List (List ℕ)) (book : Book) (text : List ℕ) (penalty : s.penalty ≤ PENALTY) (plans : s.plans ≤ PLANS) (few : n ≤ FEEDS) (t : IsTakenUp facts s n old.store contents book) where
+  store_case : IsStoreRefusal facts s n old new text → text ≡ store_line (codes "full")
   store_case r =
       let end = t.found.stands.end in
       let none : refusal contents end ≡ None = ends_well s book contents end t.restored.is_in (t.crash_end end t.found.stands.split) in
       ⊎_elim (λ e. absurd (r.some e)) (λ e. r.line ∙ ap refusal_line e)
-      (true_books_are_not_refused s n (seen old.store) contents end book r.why penalty plans few t.restored none (r.cause contents t.found))
+      (true_books_are_not_refused s n (facts.seen old.store) contents end book r.why penalty plans few t.restored none (r.cause contents t.found))
 
-  reply_case : IsReplyRefusal tells seen shown may_leave s n old new text → ⊥
+  reply_case : IsReplyRefusal facts s n old new text → ⊥
   reply_case r =
       let within = r.within in
       let many = t.restored.as_many in
       let low : r.place < length book.logs = omega (arith, within, many) in
-      let shows : length (shown old.store) ≡ length (map reply_text book.logs) = as_many (shown old.store) (map reply_text book.logs) t.shown_fronts in
-      let here : r.place < length (shown old.store) = omega (arith, low, shows, length-map book.logs reply_text) in
+      let shows : length (facts.shown old.store) ≡ length (map reply_text book.logs) = as_many (facts.shown old.store) (map reply_text book.logs) t.shown_fronts in
+      let here : r.place < length (facts.shown old.store) = omega (arith, low, shows, length-map book.logs reply_text) in
       let items : List LogItem = get_or book.logs r.place [] in
       r.cause contents book items t.found t.restored (slice_get-get_or book.logs r.place [] low) here
-      (subst (IsPrefix (get_or (shown old.store) r.place [])) (get_or-map reply_text book.logs r.place [] [] low) (fronts_at (shown old.store) (map reply_text book.logs) r.place t.shown_fronts here))
+      (subst (IsPrefix (get_or (facts.shown old.store) r.place [])) (get_or-map reply_text book.logs r.place [] [] low) (fronts_at (facts.shown old.store) (map reply_text book.logs) r.place t.shown_fronts here))
 
-  cases : IsStoreRefusal tells seen shown may_leave s n old new text
-      ⊎ (IsReplyRefusal tells seen shown may_leave s n old new text ⊎ (IsFeedRefusal tells seen shown may_leave given s n tails old new text ⊎ IsFull tells seen shown may_leave given s n old text))
-      → (text ≡ store_line (codes "full")) ⊎ IsFeedRefusal tells seen shown may_leave given s n tails old new text
+  cases : IsStoreRefusal facts s n old new text
+      ⊎ (IsReplyRefusal facts s n old new text ⊎ (IsFeedRefusal facts given s n tails old new text ⊎ IsFull facts given s n old text))
+      → (text ≡ store_line (codes "full")) ⊎ IsFeedRefusal facts given s n tails old new text
   cases (inl r) = inl (store_case r)
   cases (inr (inl r)) = absurd (reply_case r)
   cases (inr (inr (inl r))) = inr r
   cases (inr (inr (inr r))) = inl r.line
 
-pub refused_so : {S T : Type 0} (tells : S → Type 0) (seen : S → List ℕ) (shown : S → List (List ℕ)) (may_leave : S → Image → Type 0) (moment : S → ℕ) (left_since : S → ℕ → Image → Type 0) (store_faults : S → ℕ)
+pub refused_so : {S T : Type 0} (facts : StoreFacts S)
     (given : T → Option (List ℕ)) (faults : T → ℕ)
-    → IsRefusedSo tells seen shown may_leave moment left_since store_faults given faults
-refused_so tells seen shown may_leave moment left_since store_faults given faults = λ s names store feeds tails old new contents book text penalty plans few t due.
-    cases tells seen shown may_leave given s (length names) tails old new contents book text penalty plans few t due
+    → IsRefusedSo facts given faults
+refused_so facts given faults = λ s names store feeds tails old new contents book text penalty plans few t due.
+    cases facts given s (length names) tails old new contents book text penalty plans few t due

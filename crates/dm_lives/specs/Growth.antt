@@ -5,6 +5,7 @@ use Rattle.dm_base.specs.declared.limits.TheConstants.{FEEDS, PENALTY}
 use Rattle.dm_cert.specs.declared.limits.TheConstants.{PLANS}
 use Rattle.dm_cert.specs.declared.replies.LogItem.{LogItem}
 use Rattle.dm_cert.specs.Answers.{Setting}
+use Rattle.dm_store.specs.declared.store.Store.{Ghosts as StoreFacts}
 use Rattle.dm_store.specs.Calls.{AreFronts, Image}
 use Rattle.dm_store.specs.declared.journal.Journal.{Journal}
 use Rattle.dm_book.specs.Books.{Book, IsSafe}
@@ -50,15 +51,13 @@ pub record IsOfLessFeed {T : Type 0} (given : T → Option (List ℕ)) (had : Li
 -- Let a crash have left a life whose last book answers what its feeds had given, and let a store hold what it left. Over that store a
 -- text that is due at the status Refused says that there is no room, or names a feed that does not give again what it had given. It is
 -- asked of no board.
-abbrev pub IsComplete : {S T : Type 0} → (S → Type 0) → (S → List ℕ) → (S → List (List ℕ)) → (S → Image → Type 0) → (S → ℕ) →
-    (S → ℕ → Image → Type 0) → (S → ℕ) → (T → Option (List ℕ)) → (T → ℕ) → Type 0
-IsComplete {S} {T} tells seen shown may_leave moment left_since store_faults given faults =
+abbrev pub IsComplete : {S T : Type 0} → StoreFacts S → (T → Option (List ℕ)) → (T → ℕ) → Type 0
+IsComplete {S} {T} facts given faults =
     (s : Setting) (first last : Book) (image : Image) (had names : List (List ℕ)) (store : List ℕ) (feeds : List (Option T))
     (tails : List (Tail T)) (old new : Journal S) (text : List ℕ)
     → s.penalty ≤ PENALTY → s.plans ≤ PLANS → length names ≤ FEEDS → length names ≡ length first.logs
-    → (safe : IsSafe s first last image) → AnswerFronts (map Some had) last.logs → Holds tells seen shown may_leave image old.store
-    → IsDueOver tells seen shown may_leave moment left_since store_faults given faults
-    (λ net times notes. Unit {0}) names store feeds tails old new Refused s text
+    → (safe : IsSafe s first last image) → AnswerFronts (map Some had) last.logs → Holds facts image old.store
+    → IsDueOver facts given faults (λ net times notes. Unit {0}) names store feeds tails old new Refused s text
     → (text ≡ store_line (codes "full")) ⊎ IsOfLessFeed given had safe.book.logs tails text
 
 -- Between two rounds of a watch its book answers what the feeds have given.

@@ -4,6 +4,7 @@ use Rattle.std.proofs.Math.ListN.{replicate}
 use Rattle.dm_base.specs.declared.limits.TheConstants.{FEEDS, PENALTY}
 use Rattle.dm_cert.specs.declared.limits.TheConstants.{PLANS}
 use Rattle.dm_cert.specs.Answers.{Setting}
+use Rattle.dm_store.specs.declared.store.Store.{Ghosts as StoreFacts}
 use Rattle.dm_store.specs.Blocks.{Stands}
 use Rattle.dm_store.specs.Calls.{AreFronts, Image, LeavesJournal}
 use Rattle.dm_store.specs.declared.journal.Journal.{Journal}
@@ -16,34 +17,32 @@ use Rattle.dm_serve.specs.Ends.{IsDueOver, IsFeedRefusal}
 use Rattle.dm_serve.specs.Lives.{IsTakenUp, LivesOn}
 
 -- The store holds what a crash left, all of it on the disk. A reply file may show less than it did: what was not synced is lost.
-pub record Holds {S : Type 0} (tells : S → Type 0) (seen : S → List ℕ) (shown : S → List (List ℕ))
-    (may_leave : S → Image → Type 0) (image : Image) (store : S) : Type 0 where
-  pub told : tells store
-  pub journal : seen store ≡ image.journal
-  pub replies : AreFronts (shown store) image.shown
-  pub durable : LeavesJournal (seen store) (may_leave store)
+pub record Holds {S : Type 0} (facts : StoreFacts S) (image : Image) (store : S) : Type 0 where
+  pub told : facts.tells store
+  pub journal : facts.seen store ≡ image.journal
+  pub replies : AreFronts (facts.shown store) image.shown
+  pub durable : LeavesJournal (facts.seen store) (facts.may_leave store)
 
 -- It was taken up, with a book to which the first has grown.
-pub record GoesOnAgain {S : Type 0} (tells : S → Type 0) (seen : S → List ℕ) (shown : S → List (List ℕ))
-    (may_leave : S → Image → Type 0) (s : Setting) (first : Book) (store : S) : Type 0 where
+pub record GoesOnAgain {S : Type 0} (facts : StoreFacts S) (s : Setting) (first : Book) (store : S) : Type 0 where
   pub contents : List (List ℕ)
   pub book : Book
-  pub taken : IsTakenUp tells seen shown may_leave s (length first.logs) store contents book
+  pub taken : IsTakenUp facts s (length first.logs) store contents book
   pub grows : IsFrontBook first book
 
 -- Whatever a crash left of a life that began with some book, a store that holds that is taken up.
-abbrev pub IsTakenUpAgain : {S : Type 0} → (S → Type 0) → (S → List ℕ) → (S → List (List ℕ)) → (S → Image → Type 0) → Type 0
-IsTakenUpAgain {S} tells seen shown may_leave =
-    (s : Setting) (first last : Book) (image : Image) (store : S) → IsSafe s first last image → Holds tells seen shown may_leave image store
-    → GoesOnAgain tells seen shown may_leave s first store
+abbrev pub IsTakenUpAgain : {S : Type 0} → StoreFacts S → Type 0
+IsTakenUpAgain {S} facts =
+    (s : Setting) (first last : Book) (image : Image) (store : S) → IsSafe s first last image → Holds facts image store
+    → GoesOnAgain facts s first store
 
 -- What a crash leaves of a life now, with what crashes at earlier moments of it might have left, is that of a life that was crashed: what
 -- was shown earlier is still shown. A later life may begin with the book that is found there.
-abbrev pub IsCrashedLife : {S : Type 0} → (S → Type 0) → (S → List (List ℕ)) → (S → Image → Type 0) → (S → ℕ) → (S → ℕ → Image → Type 0)
+abbrev pub IsCrashedLife : {S : Type 0} → StoreFacts S
     → Type 0
-IsCrashedLife {S} tells shown may_leave moment left_since =
-    (s : Setting) (first : Book) (sources : List (Option (List ℕ))) (old new : S) → LivesOn shown moment left_since s first sources old new
-    → tells new → (crashed : Crashed) → All (left_since new (moment old)) crashed.earlier → may_leave new crashed.image
+IsCrashedLife {S} facts =
+    (s : Setting) (first : Book) (sources : List (Option (List ℕ))) (old new : S) → LivesOn facts s first sources old new
+    → facts.tells new → (crashed : Crashed) → All (facts.left_since new (facts.moment old)) crashed.earlier → facts.may_leave new crashed.image
     → (found : Book) → length found.logs ≡ length first.logs
     → ((contents : List (List ℕ)) → Stands contents crashed.image.journal → IsBookIn s contents found) → IsTrueBook s found
     → IsLife s first crashed found
@@ -51,33 +50,30 @@ IsCrashedLife {S} tells shown may_leave moment left_since =
 -- ---- a store in which nothing was served yet
 
 -- its journal has no byte, all of it on the disk, and no reply file shows any
-pub record IsNew {S : Type 0} (tells : S → Type 0) (seen : S → List ℕ) (shown : S → List (List ℕ))
-    (may_leave : S → Image → Type 0) (feeds : ℕ) (store : S) : Type 0 where
-  pub told : tells store
-  pub journal : seen store ≡ []
-  pub replies : shown store ≡ replicate feeds []
-  pub durable : LeavesJournal (seen store) (may_leave store)
+pub record IsNew {S : Type 0} (facts : StoreFacts S) (feeds : ℕ) (store : S) : Type 0 where
+  pub told : facts.tells store
+  pub journal : facts.seen store ≡ []
+  pub replies : facts.shown store ≡ replicate feeds []
+  pub durable : LeavesJournal (facts.seen store) (facts.may_leave store)
 
 -- the book of so many feeds in which there is nothing
 abbrev pub empty_book : ℕ → Book
 empty_book feeds = record { history = []; logs = replicate feeds [] }
 
 -- Such a store is taken up, with no block and that book.
-abbrev pub IsNewTakenUp : {S : Type 0} → (S → Type 0) → (S → List ℕ) → (S → List (List ℕ)) → (S → Image → Type 0) → Type 0
-IsNewTakenUp {S} tells seen shown may_leave = (s : Setting) (feeds : ℕ) (store : S) → IsNew tells seen shown may_leave feeds store
-    → IsTakenUp tells seen shown may_leave s feeds store [] (empty_book feeds)
+abbrev pub IsNewTakenUp : {S : Type 0} → StoreFacts S → Type 0
+IsNewTakenUp {S} facts = (s : Setting) (feeds : ℕ) (store : S) → IsNew facts feeds store
+    → IsTakenUp facts s feeds store [] (empty_book feeds)
 
 -- ---- what is refused
 
 -- Where a store is taken up, a text that is due at the status Refused says that there is no room, or names a feed that has another line
 -- than was answered. It is asked of no board.
-abbrev pub IsRefusedSo : {S T : Type 0} → (S → Type 0) → (S → List ℕ) → (S → List (List ℕ)) → (S → Image → Type 0) → (S → ℕ) →
-    (S → ℕ → Image → Type 0) → (S → ℕ) → (T → Option (List ℕ)) → (T → ℕ) → Type 0
-IsRefusedSo {S} {T} tells seen shown may_leave moment left_since store_faults given faults =
+abbrev pub IsRefusedSo : {S T : Type 0} → StoreFacts S → (T → Option (List ℕ)) → (T → ℕ) → Type 0
+IsRefusedSo {S} {T} facts given faults =
     (s : Setting) (names : List (List ℕ)) (store : List ℕ) (feeds : List (Option T)) (tails : List (Tail T))
     (old new : Journal S) (contents : List (List ℕ)) (book : Book) (text : List ℕ)
     → s.penalty ≤ PENALTY → s.plans ≤ PLANS → length names ≤ FEEDS →
-    IsTakenUp tells seen shown may_leave s (length names) old.store contents book
-    → IsDueOver tells seen shown may_leave moment left_since store_faults given faults
-    (λ net times notes. Unit {0}) names store feeds tails old new Refused s text
-    → (text ≡ store_line (codes "full")) ⊎ IsFeedRefusal tells seen shown may_leave given s (length names) tails old new text
+    IsTakenUp facts s (length names) old.store contents book
+    → IsDueOver facts given faults (λ net times notes. Unit {0}) names store feeds tails old new Refused s text
+    → (text ≡ store_line (codes "full")) ⊎ IsFeedRefusal facts given s (length names) tails old new text

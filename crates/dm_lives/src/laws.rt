@@ -11,32 +11,32 @@ use dm_tail::Growing;
 
 /// What a life left is taken up by the next one.
 pub fn left_is_taken_up<S: Store>()
-    ensures { IsTakenUpAgain S.tells S.seen S.shown S.may_leave }
+    ensures { IsTakenUpAgain S.Store }
 {}
 
 /// What a crash leaves of a life is that of a life that was crashed, as `lives_are_one` of dm_book speaks of it.
 pub fn crashes_are_of_a_life<S: Store>()
-    ensures { IsCrashedLife S.tells S.shown S.may_leave S.moment S.left_since }
+    ensures { IsCrashedLife S.Store }
 {}
 
 /// A store in which nothing was served yet is taken up, with a book in which there is nothing.
 pub fn new_is_taken_up<S: Store>()
-    ensures { IsNewTakenUp S.tells S.seen S.shown S.may_leave }
+    ensures { IsNewTakenUp S.Store }
 {}
 
 /// Where a store is synced before a life begins over it, what a crash leaves is safe from the start of the sync on.
 pub fn synced_starts_are_safe<S: Store>()
-    ensures { StartsSafely S.shown S.moment S.left_since }
+    ensures { StartsSafely S.Store }
 {}
 
 /// A store that is taken up is refused for want of room or for a feed alone.
 pub fn refused_for_room_or_feeds<S: Store, T: Growing>()
-    ensures { IsRefusedSo S.tells S.seen S.shown S.may_leave S.moment S.left_since S.faults T.given T.faults }
+    ensures { IsRefusedSo S.Store T.given T.faults }
 {}
 
 /// Where each feed gives again all the bytes that a life answered, what that life left is refused for want of room alone.
 pub fn grown_feeds_are_not_refused<S: Store, T: Growing>()
-    ensures { IsComplete S.tells S.seen S.shown S.may_leave S.moment S.left_since S.faults T.given T.faults }
+    ensures { IsComplete S.Store T.given T.faults }
 {}
 
 /// Between two rounds of a watch each log answers the due lines of a front of what its feed has given.

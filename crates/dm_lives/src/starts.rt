@@ -12,10 +12,10 @@ use dm_store::{Store, StoreError};
 /// then, and a loss of power might still take it back.
 pub fn sync_first<S: Store>(store: &mut S) -> Result<(), StoreError>
     ensures taken { (s : Setting) (feeds : ℕ) (contents : List (List ℕ)) (low book : Book)
-        → IsReadSafe S.tells S.seen S.shown S.may_leave s feeds store.old contents low book
-        → OnOk result (IsTakenUp S.tells S.seen S.shown S.may_leave s feeds store.new contents book) }
+        → IsReadSafe S.Store s feeds store.old contents low book
+        → OnOk result (IsTakenUp S.Store s feeds store.new contents book) }
     ensures any_moment { (s : Setting) (feeds : ℕ) (contents : List (List ℕ)) (low book : Book)
-        → IsReadSafe S.tells S.seen S.shown S.may_leave s feeds store.old contents low book
+        → IsReadSafe S.Store s feeds store.old contents low book
         → LeavesOnly S.moment S.left_since store.old store.new (IsSafe s low book) }
     ensures cause { HasCause (S.faults store.old) (S.faults store.new) result }
 {

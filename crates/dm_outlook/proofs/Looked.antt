@@ -11,10 +11,10 @@ use Rattle.dm_parts.specs.declared.kinds.AnyPlan.TheVariants.{Whole, ByParts}
 use Rattle.dm_parts.specs.Kinds.{chosen_of}
 use Rattle.dm_desk.specs.declared.searches.Search.{Search}
 use Rattle.dm_desk.specs.declared.searches.Search.TheVariants.{Plan as ForPlan, Solve as ForParts}
-use Rattle.dm_window.specs.Rebasing.{DecideOnce}
-use Rattle.dm_window.proofs.Optimal.{window_plan_over, window_solution_over, window_plans_decide_once}
-use Rattle.dm_window.specs.declared.thinning.Minimal.{Minimal}
-use Rattle.dm_window.specs.declared.windows.Window.{Window}
+use Rattle.dm_stretch.specs.Rebasing.{DecideOnce}
+use Rattle.dm_stretch.proofs.Optimal.{window_plan_over, window_solution_over, window_plans_decide_once}
+use Rattle.dm_stretch.specs.declared.thinning.Minimal.{Minimal}
+use Rattle.dm_stretch.specs.declared.windows.Window.{Window}
 use Rattle.dm_outlook.specs.declared.outlook.Carried.{Carried}
 use Rattle.dm_outlook.specs.Outlooks.{IsCarried, IsMinimalFor, IsOutlook, IsOver, PlansWindow, newest}
 

@@ -12,11 +12,11 @@ use Rattle.dm_parts.specs.Kinds.{chosen_of}
 use Rattle.dm_parts.specs.Sizes.{ids_of, most_ids}
 use Rattle.dm_desk.specs.declared.searches.Search.{Search}
 use Rattle.dm_desk.specs.declared.searches.Search.TheVariants.{Plan as ForPlan, Solve as ForParts}
-use Rattle.dm_window.specs.Minimal.{IsMinimal, IsPlanOver}
-use Rattle.dm_window.specs.Rebasing.{IsCarriedCycle, IsFirstNotFree, IsRebased}
-use Rattle.dm_window.specs.declared.thinning.Minimal.{Minimal}
-use Rattle.dm_window.specs.declared.windows.Window.{Window}
-use Rattle.dm_window.specs.Windows.{IsTrueWindowPlan, IsTrueWindowSolution}
+use Rattle.dm_stretch.specs.Minimal.{IsMinimal, IsPlanOver}
+use Rattle.dm_stretch.specs.Rebasing.{IsCarriedCycle, IsFirstNotFree, IsRebased}
+use Rattle.dm_stretch.specs.declared.thinning.Minimal.{Minimal}
+use Rattle.dm_stretch.specs.declared.windows.Window.{Window}
+use Rattle.dm_stretch.specs.Windows.{IsTrueWindowPlan, IsTrueWindowSolution}
 use Rattle.dm_outlook.specs.declared.outlook.Carried.{Carried}
 use Rattle.dm_outlook.specs.declared.outlook.Carried.TheVariants.{Rebased, NotFree, Cycle}
 use Rattle.dm_outlook.specs.declared.outlook.Outlook.{Outlook}

@@ -11,11 +11,11 @@ use Rattle.dm_cert.specs.RunTexts.{spaced_id}
 use Rattle.dm_cert.specs.SolvedTexts.{spelling_of_solved}
 use Rattle.dm_parts.specs.declared.kinds.AnyPlan.{AnyPlan}
 use Rattle.dm_parts.specs.declared.kinds.AnyPlan.TheVariants.{Whole, ByParts}
-use Rattle.dm_window.specs.declared.thinning.KeptChoice.{KeptChoice}
-use Rattle.dm_window.specs.declared.thinning.Minimal.{Minimal}
-use Rattle.dm_window.specs.declared.thinning.Worth.{Worth}
-use Rattle.dm_window.specs.declared.thinning.Worth.TheVariants.{Needed, Saves}
-use Rattle.dm_window.specs.declared.windows.Window.{Window}
+use Rattle.dm_stretch.specs.declared.thinning.KeptChoice.{KeptChoice}
+use Rattle.dm_stretch.specs.declared.thinning.Minimal.{Minimal}
+use Rattle.dm_stretch.specs.declared.thinning.Worth.{Worth}
+use Rattle.dm_stretch.specs.declared.thinning.Worth.TheVariants.{Needed, Saves}
+use Rattle.dm_stretch.specs.declared.windows.Window.{Window}
 use Rattle.dm_outlook.specs.declared.outlook.Carried.{Carried}
 use Rattle.dm_outlook.specs.declared.outlook.Carried.TheVariants.{Rebased, NotFree, Cycle}
 use Rattle.dm_outlook.specs.declared.outlook.Outlook.{Outlook}

@@ -1,7 +1,7 @@
 //! A plan of a window at an entry of a table, and what becomes of it at the last entry.
 //!
-//! It stands on dm_window for plans of windows and for plans that are carried over, on dm_table and dm_rows for the rows at an
-//! entry, and on dm_cert, dm_report and dm_outside for texts.
+//! It stands on dm_stretch for windows and for plans that are carried over, on dm_table and dm_rows for the rows at an entry, and on
+//! dm_cert, dm_report and dm_outside for texts. What searches for plans of windows is handed in, as a closure (`SearchesWindows`).
 //!
 //! # What is promised
 //!

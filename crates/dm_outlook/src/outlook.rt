@@ -6,19 +6,18 @@ ghost use Rattle.dm_rows.specs.History.{rows_at};
 ghost use Rattle.dm_rows.specs.Rows.{IsSized};
 ghost use Rattle.dm_desk.specs.Planning.{budget_of};
 ghost use Rattle.dm_parts.specs.Kinds.{chosen_of};
-ghost use Rattle.dm_window.specs.Rebasing.{DecideOnce};
+ghost use Rattle.dm_stretch.specs.Rebasing.{DecideOnce};
 ghost use Rattle.dm_outlook.specs.Outlooks.{IsCarried, IsMinimalFor, IsOutlook, IsOver, PlansWindow};
+ghost use Rattle.dm_outlook.specs.Searching.{SearchesWindows};
 
 use dm_base::{ActId, Items};
-use dm_desk::Search;
+use dm_desk::{PlanRequest, Search};
 use dm_network::Network;
 use dm_parts::AnyPlan;
 use dm_rows::{Decision, Entry, Rows, Snapshot, admit};
+use dm_stretch::{Minimal, RebaseFault, Rebased, Window, rebase, thin};
 use dm_table::Table;
 use dm_times::least;
-use dm_window::{
-    Minimal, RebaseFault, Rebased, Window, rebase, thin, window_plan, window_solution,
-};
 use std::alloc::{AllocError, Global};
 
 /// What becomes of a plan's choices in newer rows.
@@ -61,32 +60,37 @@ impl Drop for Outlook {
 /// A plan for a window of the rows after so many entries of a table, at most all, or after all where no number is given; and,
 /// where one is, what becomes of the plan after all. It is of the kind that is asked for, with at most so many nodes, 1 to 16,384.
 /// With `most` it is also told which of its choices are kept where the others are given back, for at most so much more than it costs.
-pub fn outlook_of(
+/// The plan is searched by what is handed in.
+pub fn outlook_of<W: Fn(&PlanRequest<'_>, &Window) -> Result<AnyPlan, AllocError>>(
     alloc: Global,
+    search: &W,
     table: &Table<'_>,
     window: &Window,
     asked: Search,
     at: Option<u32>,
     most: Option<u64>,
 ) -> Result<Outlook, AllocError>
+    requires searches { SearchesWindows (W.pre search.now) (W.post search.now) }
     requires budget { (1 ≤ budget_of asked) × (budget_of asked ≤ BUDGET) }
     requires at { IfSome at (λ n. n ≤ length table.now.history) }
     ensures { IfOk result (IsOutlook table.now.network table.now.start table.now.penalty table.now.history window.now asked at most) }
 {
     match at {
-        None => outlook_now(alloc, table, window, asked, most),
-        Some(at) => outlook_then(alloc, table, window, asked, at, most),
+        None => outlook_now(alloc, search, table, window, asked, most),
+        Some(at) => outlook_then(alloc, search, table, window, asked, at, most),
     }
 }
 
 /// A plan after all entries.
-fn outlook_now(
+fn outlook_now<W: Fn(&PlanRequest<'_>, &Window) -> Result<AnyPlan, AllocError>>(
     alloc: Global,
+    search: &W,
     table: &Table<'_>,
     window: &Window,
     asked: Search,
     most: Option<u64>,
 ) -> Result<Outlook, AllocError>
+    requires searches { SearchesWindows (W.pre search.now) (W.post search.now) }
     requires budget { (1 ≤ budget_of asked) × (budget_of asked ≤ BUDGET) }
     ensures { IfOk result (IsOutlook table.now.network table.now.start table.now.penalty table.now.history window.now asked None most) }
 {
@@ -95,7 +99,7 @@ fn outlook_now(
     let penalty = table.penalty();
     net.reveal();
     let now = table.copy()?;
-    let plan = planned(alloc, net, penalty, &now, window, asked)?;
+    let plan = planned(search, net, penalty, &now, window, asked)?;
     let minimal = thinned(alloc, net, penalty, &now.rows, &plan, most)?;
     Ok(Outlook {
         entry: now.entry,
@@ -106,14 +110,16 @@ fn outlook_now(
 }
 
 /// A plan after so many entries, and what becomes of it after all.
-fn outlook_then(
+fn outlook_then<W: Fn(&PlanRequest<'_>, &Window) -> Result<AnyPlan, AllocError>>(
     alloc: Global,
+    search: &W,
     table: &Table<'_>,
     window: &Window,
     asked: Search,
     at: u32,
     most: Option<u64>,
 ) -> Result<Outlook, AllocError>
+    requires searches { SearchesWindows (W.pre search.now) (W.post search.now) }
     requires budget { (1 ≤ budget_of asked) × (budget_of asked ≤ BUDGET) }
     requires at { at ≤ length table.now.history }
     ensures { IfOk result (IsOutlook table.now.network table.now.start table.now.penalty table.now.history window.now asked (Some at)
@@ -124,7 +130,7 @@ fn outlook_then(
     let penalty = table.penalty();
     net.reveal();
     let then = rows_then(alloc, table, at)?;
-    let plan = planned(alloc, net, penalty, &then, window, asked)?;
+    let plan = planned(search, net, penalty, &then, window, asked)?;
     let minimal = thinned(alloc, net, penalty, &then.rows, &plan, most)?;
     let now = table.copy()?;
     let carried = carried_to(alloc, net, penalty, &now, &plan)?;
@@ -136,33 +142,30 @@ fn outlook_then(
     })
 }
 
-/// A plan of a window, of the kind that is asked for.
-fn planned(
-    alloc: Global,
+/// A plan of a window, of the kind that is asked for, by what searches for it.
+fn planned<W: Fn(&PlanRequest<'_>, &Window) -> Result<AnyPlan, AllocError>>(
+    search: &W,
     net: &Network,
     penalty: u64,
     snapshot: &Snapshot,
     window: &Window,
     asked: Search,
 ) -> Result<AnyPlan, AllocError>
+    requires searches { SearchesWindows (W.pre search.now) (W.post search.now) }
     requires sized { IsSized net.now snapshot.now.rows }
     requires no_cycle { HasNoCycle net.now snapshot.now.rows }
     requires penalty { penalty ≤ PENALTY }
     requires budget { (1 ≤ budget_of asked) × (budget_of asked ≤ BUDGET) }
     ensures { IfOk result (PlansWindow net.now snapshot.now.rows penalty window.now asked) }
 {
-    match asked {
-        Search::Plan(budget) => match window_plan(alloc, net, penalty, snapshot, window, budget) {
-            Ok(plan) => Ok(AnyPlan::Whole(plan)),
-            Err(AllocError) => Err(AllocError),
-        },
-        Search::Solve(budget) => {
-            match window_solution(alloc, net, penalty, snapshot, window, budget) {
-                Ok(plan) => Ok(AnyPlan::ByParts(plan)),
-                Err(AllocError) => Err(AllocError),
-            }
-        }
-    }
+    let request = PlanRequest {
+        net,
+        penalty,
+        snapshot,
+        asked,
+        workers: 1,
+    };
+    search(&request, window)
 }
 
 /// Which choices of a plan are kept where others are given back, if that is asked.

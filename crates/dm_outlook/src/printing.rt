@@ -12,7 +12,7 @@ use dm_outside::{Page, Sink, WriteFault};
 use dm_parts::AnyPlan;
 use dm_report::{put_ids, put_labelled};
 use dm_rows::Decision;
-use dm_window::{KeptChoice, Minimal, Rebased, Window, Worth};
+use dm_stretch::{KeptChoice, Minimal, Rebased, Window, Worth};
 
 /// Prints a plan of the window, with how many choices were held in it, if some were, and what becomes of it at the last entry, which
 /// is of this number. A write fault comes only where a write failed.

@@ -1,7 +1,7 @@
 //! The top call: what the words of a command line ask for, from files and feeds to the text that is written.
 //!
-//! It stands on dm_commands for what each command does and for the definitions that its clauses name. It stands on dm_find for
-//! the search of plans, which it hands to dm_commands. These files of dm_commands say what [`dispatch`] promises:
+//! It stands on dm_commands for what each command does and for the definitions that its clauses name. It stands on dm_find and
+//! dm_window for the search of plans, which it hands to dm_commands. These files of dm_commands say what [`dispatch`] promises:
 //! `specs/Headline` what a run prints, `specs/Generated` what a generated day does, `specs/Checked` what is printed of a text
 //! that is checked, `specs/Answers` what is printed of what is asked of a journal, and `specs/Ends` why a call ends otherwise.
 //!
@@ -54,7 +54,7 @@
 //! could hold. At Bad, it tells the first line of the journal that breaks its rule. For each command but `follow` it may instead
 //! be the first line that is not whole.
 //!
-//! `bad`, `usage`, `refused`, `read_fault`, `write_fault`, `no_memory`: each other status has its cause.
+//! `ends`: each other status has its cause, too.
 //!
 //! - A refusal is the first of the files, or a text that is too long, or what `window` refuses (an entry that there is not, or an
 //!   activity without a choice to hold), or the text of a run in which a feed is too long.
@@ -83,6 +83,7 @@
 #![tactic(auto)]
 
 mod top;
+mod windows;
 
 pub use dm_commands::{BoardList, Ending, Status};
 pub use top::dispatch;

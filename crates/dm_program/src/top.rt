@@ -12,18 +12,18 @@ ghost use Rattle.dm_check.specs.declared.verdicts.Verdict.{Verdict};
 ghost use Rattle.dm_check.specs.FalseRecords.{IsVerdict};
 ghost use Rattle.dm_commands.specs.Answers.{IsAnswerAt};
 ghost use Rattle.dm_commands.specs.Commands.{AsksAbout, AsksOver};
-ghost use Rattle.dm_commands.specs.Ends.{IsDue, Writes, FailsToWrite, WantsMemory, AsksNoRun, EndsAnswered, EndsAt, EndsTold, AreSound, AreShort, IsSoundFor};
-ghost use Rattle.dm_commands.specs.Searching.{MaySearch};
-ghost use Rattle.dm_desk.specs.Planning.{FindsFor};
+ghost use Rattle.dm_commands.specs.Ends.{Ends, IsDue, Writes, AsksNoRun, EndsAnswered, EndsAt, EndsTold, AreSound, AreShort, IsSoundFor};
+ghost use Rattle.dm_desk.specs.Searching.{FindsAsked, MaySearch};
+ghost use Rattle.dm_outlook.specs.Searching.{FindsInWindow};
 ghost use Rattle.dm_commands.specs.Verdicts.{verdict_line, verdict_status, long_text_line};
 
+use crate::windows::planned;
 use dm_commands::{BoardList, CommandMeans, Ending, Status, dispatch_with};
-use dm_desk::Search;
+use dm_desk::PlanRequest;
 use dm_find::find;
-use dm_network::Network;
 use dm_outside::{Board, Gate, Shelf, Sink};
 use dm_parts::AnyPlan;
-use dm_rows::Snapshot;
+use dm_stretch::Window;
 use std::alloc::{AllocError, Global};
 use std::sync::Wait;
 use std::thread::Threads;
@@ -48,28 +48,10 @@ pub fn dispatch<R: Threads + Wait + Sync, H: Shelf, K: Sink, G: Gate>(
         (IsDue (H.files shelf.old) (H.is_sound shelf.old) (⟦<BoardList as Ending>⟧.ends boards.old boards.new)
         (map string_bytes words.now) Status.Ok) }
 
-    // Each other status has its cause. That a text is bad comes with the first record that breaks its rule, or the first line of
-    // a journal. Where a feed alone is the cause, the text is that of a run too.
-    ensures bad { result ≡ Status.Bad → Writes (K.taken out.old) (K.taken out.new)
-        (IsDue (H.files shelf.old) (H.is_sound shelf.old) (⟦<BoardList as Ending>⟧.ends boards.old boards.new)
-        (map string_bytes words.now) Status.Bad) }
-    ensures usage { result ≡ Status.Usage
-        → Writes (K.taken out.old) (K.taken out.new)
-        (IsDue (H.files shelf.old) (H.is_sound shelf.old) (⟦<BoardList as Ending>⟧.ends boards.old boards.new)
-        (map string_bytes words.now) Status.Usage) }
-    ensures refused { result ≡ Status.Refused
-        → Writes (K.taken out.old) (K.taken out.new)
-        (IsDue (H.files shelf.old) (H.is_sound shelf.old) (⟦<BoardList as Ending>⟧.ends boards.old boards.new)
-        (map string_bytes words.now) Status.Refused) }
-    ensures read_fault { result ≡ Status.ReadFault
-        → Writes (K.taken out.old) (K.taken out.new)
-        (IsDue (H.files shelf.old) (H.is_sound shelf.old) (⟦<BoardList as Ending>⟧.ends boards.old boards.new)
-        (map string_bytes words.now) Status.ReadFault) }
-    ensures write_fault { result ≡ Status.WriteFault
-        → FailsToWrite K.taken K.faults out.old out.new
-        (IsDue (H.files shelf.old) (H.is_sound shelf.old) (⟦<BoardList as Ending>⟧.ends boards.old boards.new)
-        (map string_bytes words.now)) }
-    ensures no_memory { result ≡ Status.NoMemory → WantsMemory (K.taken out.old) (K.taken out.new) (map string_bytes words.now) }
+    // Each status has its cause. That a text is bad comes with the first record that breaks its rule, or the first line of a journal.
+    // Where a feed alone is the cause, the text is that of a run too.
+    ensures ends { Ends K.taken K.faults (H.files shelf.old) (H.is_sound shelf.old) (⟦<BoardList as Ending>⟧.ends boards.old boards.new)
+        (map string_bytes words.now) out.old out.new result }
 
     // Nothing of a generated day is refused: words that ask for one end well, but for a write fault and want of memory.
     ensures generated { (asked : GenAsked) → Asks (map string_bytes words.now) (GenOf asked) → (result ≡ Status.Ok)
@@ -138,18 +120,23 @@ pub fn dispatch<R: Threads + Wait + Sync, H: Shelf, K: Sink, G: Gate>(
     ensures later { K.faults out.old ≤ K.faults out.new }
     ensures boards_kept { map place boards.new.items ≡ map place boards.old.items }
 {
-    let search = |net: &Network, penalty: u64, snapshot: &Snapshot, asked: Search, workers: u32| -> Result<
+    let search = move |request: &PlanRequest<'_>| -> Result<AnyPlan, AllocError>
+        requires { IsSync R.row × IsSync G.row × MaySearch request.now }
+        ensures { IfOk result (FindsAsked request.now) }
+    { find(rt, alloc, request, gate) };
+    let search_window = move |request: &PlanRequest<'_>, window: &Window| -> Result<
         AnyPlan,
         AllocError,
     >
-        requires { IsSync R.row × IsSync G.row × MaySearch net.now penalty snapshot.now asked workers }
-        ensures { IfOk result (FindsFor net.now penalty snapshot.now asked) }
-    { find(rt, alloc, net, penalty, snapshot, asked, workers, gate) };
+        requires { MaySearch request.now }
+        ensures { IfOk result (FindsInWindow request.now window.now) }
+    { planned(alloc, request, window) };
     dispatch_with(
         &CommandMeans {
             rt,
             alloc,
             search: &search,
+            search_window: &search_window,
             gate,
         },
         words,

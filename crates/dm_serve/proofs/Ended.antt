@@ -1,21 +1,22 @@
 -- The end of a day: a round stopped it, or its run was printed.
-use Rattle.std.proofs.Common.{◌≡◌, ◌≢◌, ℕ, ◌≤◌, ◌<◌, ◌^◌, inl, inr, List, length, map, Option, Result, refl, sym, subst, ◌∙◌, arith}
+use Rattle.std.proofs.Common.{◌≡◌, ◌≢◌, ℕ, ◌≤◌, ◌<◌, ◌^◌, inl, inr, List, length, map, Option, Result, refl, sym, subst, arith}
 use Rattle.std.specs.Prelude.{IfOk, codes}
 use Rattle.std.specs.Borrow.{Bor}
 use Rattle.std.specs.declared.alloc.AllocError.{AllocError}
-use Rattle.dm_base.specs.declared.limits.TheConstants.{BUDGET, FEEDS}
+use Rattle.dm_base.specs.declared.limits.TheConstants.{BUDGET, FEEDS, PENALTY, WORKERS}
 use Rattle.dm_rows.specs.Active.{HasNoCycle}
 use Rattle.dm_rows.specs.Rows.{IsSized}
 use Rattle.dm_rows.specs.declared.rows.Snapshot.{Snapshot}
 use Rattle.dm_parts.specs.declared.kinds.AnyPlan.{AnyPlan}
 use Rattle.dm_desk.specs.declared.searches.Search.{Search}
 use Rattle.dm_desk.specs.Planning.{FindsFor, PlansUnder, budget_of}
+use Rattle.dm_desk.specs.Searching.{MaySearch}
 use Rattle.dm_network.specs.Net.{Net}
 use Rattle.dm_publish.specs.Value.{Published}
 use Rattle.dm_cert.specs.declared.notes.Note.{Note}
 use Rattle.dm_cert.specs.Answers.{Setting}
 use Rattle.dm_cert.specs.RunTexts.{FitsRun, run_text}
-use Rattle.dm_store.specs.Calls.{Image}
+use Rattle.dm_store.specs.declared.store.Store.{Ghosts as StoreFacts}
 use Rattle.dm_store.specs.declared.journal.Journal.{Journal}
 use Rattle.dm_table.specs.Value.{TableValue}
 use Rattle.dm_table_desk.specs.Tables.{setting_of}
@@ -41,59 +42,46 @@ well_is_no_fault e = cc
 well_is_no_want : Well ≢ NoMemory
 well_is_no_want e = cc
 
-module _ {K S T : Type 0} (taken : K → Option (List ℕ)) (sink_faults : K → ℕ) (tells : S → Type 0) (seen : S → List ℕ) (shown : S → List (List ℕ)) (may_leave : S → Image → Type 0) (moment : S → ℕ) (left_since : S → ℕ → Image → Type 0)
-    (store_faults : S → ℕ) (given : T → Option (List ℕ)) (faults : T → ℕ) (up : Net → Published → List Note → Type 0) (names : List (List ℕ)) (store : List ℕ) (s : Setting) (feeds : List (Option T)) (before now : K) (start new : Journal S) where
+module _ {K S T : Type 0} (taken : K → Option (List ℕ)) (sink_faults : K → ℕ) (facts : StoreFacts S) (given : T → Option (List ℕ)) (faults : T → ℕ) (up : Net → Published → List Note → Type 0) (names : List (List ℕ)) (store : List ℕ) (s : Setting) (feeds : List (Option T)) (before now : K) (start new : Journal S) where
   abbrev Due : List (Tail T) → Status → List ℕ → Type 0
-  Due tails status text = IsDueOver tells seen shown may_leave moment left_since store_faults given faults up names store feeds tails start new status s text
+  Due tails status text = IsDueOver facts given faults up names store feeds tails start new status s text
 
   -- there was no memory, and nothing was written
-  pub ends_wanting_so : (tails : List (Tail T)) (status : Status) → now ≡ before → status ≡ NoMemory → Ends taken sink_faults store_faults faults (Due tails) before now start new status
-  ends_wanting_so tails status same is = ends_wanting taken sink_faults store_faults faults (Due tails) before now start new status same is
+  pub ends_wanting_so : (tails : List (Tail T)) (status : Status) → now ≡ before → status ≡ NoMemory → Ends taken sink_faults facts faults (Due tails) before now start new status
+  ends_wanting_so tails status same is = ends_wanting taken sink_faults facts faults (Due tails) before now start new status same is
 
-  pub ends_round : (watch : Watch T) (old : Journal S) → setting_of watch.desk.plans watch.desk.table ≡ s → store_faults start.store ≤ store_faults old.store
-      → HasGoneSince tells seen shown may_leave moment left_since s (length names) watch start.store old → (tails : List (Tail T)) (result : Status) (stopped : RoundStop)
-      → StopsGoing tells seen shown may_leave moment left_since given store_faults faults watch old new stopped → EndsRound taken sink_faults stopped before now result
-      → Ends taken sink_faults store_faults faults (Due tails) before now start new result
-  ends_round watch old setting low since tails result round.OutOfMemory stops h = ends_wanting taken sink_faults store_faults faults (Due tails) before now start new result h.0 h.1
-  ends_round watch old setting low since tails result (round.Unsynced number) stops h = ends_failed taken sink_faults store_faults faults (Due tails) before now start new result h.0 h.1 (inr stops)
+  pub ends_round : (watch : Watch T) (old : Journal S) → setting_of watch.desk.plans watch.desk.table ≡ s → facts.faults start.store ≤ facts.faults old.store
+      → HasGoneSince facts s (length names) watch start.store old → (tails : List (Tail T)) (result : Status) (stopped : RoundStop)
+      → StopsGoing facts given faults watch old new stopped → EndsRound taken sink_faults stopped before now result
+      → Ends taken sink_faults facts faults (Due tails) before now start new result
+  ends_round watch old setting low since tails result round.OutOfMemory stops h = ends_wanting taken sink_faults facts faults (Due tails) before now start new result h.0 h.1
+  ends_round watch old setting low since tails result (round.Unsynced number) stops h = ends_failed taken sink_faults facts faults (Due tails) before now start new result h.0 h.1 (inr stops)
   ends_round watch old setting low since tails result round.Failed stops h =
-      ends_failed taken sink_faults store_faults faults (Due tails) before now start new result h.0 h.1
-      (inl (risen_since (store_faults start.store) (store_faults old.store) (store_faults new.store) low stops))
+      ends_failed taken sink_faults facts faults (Due tails) before now start new result h.0 h.1
+      (inl (risen_since (facts.faults start.store) (facts.faults old.store) (facts.faults new.store) low stops))
   ends_round watch old setting low since tails result round.Full stops h =
-      ends_as taken sink_faults store_faults faults (Due tails) before now start new Refused (store_line (codes "full")) result refused_is_no_fault refused_is_no_want
+      ends_as taken sink_faults facts faults (Due tails) before now start new Refused (store_line (codes "full")) result refused_is_no_fault refused_is_no_want
       (inr (inr (inr (record { cause = λ contents first t. stops s first start.store setting (since contents first t); line = refl })))) h
 
-  pub ends_round_so : (watch : Watch T) (old : Journal S) → setting_of watch.desk.plans watch.desk.table ≡ s → store_faults start.store ≤ store_faults old.store
-      → HasGoneSince tells seen shown may_leave moment left_since s (length names) watch start.store old → (tails : List (Tail T)) (result : Status) (stopped : RoundStop)
-      → StopsGoing tells seen shown may_leave moment left_since given store_faults faults watch old new stopped → EndsRound taken sink_faults stopped before now result
-      → (status : Status) → status ≡ result → Ends taken sink_faults store_faults faults (Due tails) before now start new status
+  pub ends_round_so : (watch : Watch T) (old : Journal S) → setting_of watch.desk.plans watch.desk.table ≡ s → facts.faults start.store ≤ facts.faults old.store
+      → HasGoneSince facts s (length names) watch start.store old → (tails : List (Tail T)) (result : Status) (stopped : RoundStop)
+      → StopsGoing facts given faults watch old new stopped → EndsRound taken sink_faults stopped before now result
+      → (status : Status) → status ≡ result → Ends taken sink_faults facts faults (Due tails) before now start new status
   ends_round_so watch old setting low since tails result stopped stops h status is =
-      subst (Ends taken sink_faults store_faults faults (Due tails) before now start new) (sym is) (ends_round watch old setting low since tails result stopped stops h)
+      subst (Ends taken sink_faults facts faults (Due tails) before now start new) (sym is) (ends_round watch old setting low since tails result stopped stops h)
 
   -- its run was printed, or there was no memory for that
   pub ends_day : (table : TableValue) (watched : List (Watched T)) (notes : List Note) (end : DayEnd T)
       → (end.tails.items ≡ map tail_in watched → FitsRun (run_in table (map log_in watched) notes)
-      → IsDayOf tells seen shown may_leave moment left_since given up s (length names) end.tails.items start new (run_text 2 (run_in table (map log_in watched) notes)))
-      → EndsDay taken sink_faults table watched notes before now end → Ends taken sink_faults store_faults faults (Due end.tails.items) before now start new end.status
+      → IsDayOf facts given up s (length names) end.tails.items start new (run_text 2 (run_in table (map log_in watched) notes)))
+      → EndsDay taken sink_faults table watched notes before now end → Ends taken sink_faults facts faults (Due end.tails.items) before now start new end.status
   ends_day table watched notes end day h =
       elim h [
-        | inl none ↦ ends_wanting taken sink_faults store_faults faults (Due end.tails.items) before now start new end.status none.0 none.1
+        | inl none ↦ ends_wanting taken sink_faults facts faults (Due end.tails.items) before now start new end.status none.0 none.1
         | inr printed ↦
-            ends_as taken sink_faults store_faults faults (Due end.tails.items) before now start new Well (run_text 2 (run_in table (map log_in watched) notes)) end.status well_is_no_fault well_is_no_want
+            ends_as taken sink_faults facts faults (Due end.tails.items) before now start new Well (run_text 2 (run_in table (map log_in watched) notes)) end.status well_is_no_fault well_is_no_want
             (day printed.0 printed.1) printed.2
       ]
-
--- ---- where a round stops it, it was not told to end
-
-module _ {K : Type 0} (taken : K → Option (List ℕ)) (faults : K → ℕ) (before now : K) where
-  not_well : (stopped : RoundStop) (result : Status) → EndsRound taken faults stopped before now result → result ≡ Well → ⊥
-  not_well round.OutOfMemory result h well = cc h.1
-  not_well (round.Unsynced number) result h well = cc h.1
-  not_well round.Failed result h well = cc h.1
-  not_well round.Full result h well = elim h [ inl whole ↦ cc whole.0 | inr part ↦ cc part.0 ]
-
-  pub not_told : (stopped : RoundStop) (result status : Status) → EndsRound taken faults stopped before now result → status ≡ result → status ≡ Well → ⊥
-  not_told stopped result status h is well = not_well stopped result h (sym is ∙ well)
 
 -- ---- the planner of a server
 
@@ -113,6 +101,19 @@ plans_under pre post net penalty setting same_net same_penalty version may gives
       may snapshot asked (subst (λ (n : Net). IsSized n snapshot.now.rows) same_net sized) (subst (λ (n : Net). HasNoCycle n snapshot.now.rows) same_net no_cycle) some few;
   gives = λ snapshot asked given plans. plans_for net penalty setting same_net same_penalty snapshot.now asked given (gives snapshot asked given plans);
   version = version;
+}
+
+-- rows that a planner is asked about, with numbers within the limits, may be searched
+pub may_search : (net : Bor Net) (penalty workers : ℕ) (snapshot : Bor Snapshot) (asked : Search) → IsSized net.now snapshot.now.rows → HasNoCycle net.now snapshot.now.rows → 1 ≤ budget_of asked → budget_of asked ≤ BUDGET
+    → penalty ≤ PENALTY → (1 ≤ workers) × (workers ≤ WORKERS) → MaySearch (record { net = net; penalty = penalty; snapshot = snapshot; asked = asked; workers = workers })
+may_search net penalty workers snapshot asked sized no_cycle some few affordable many = record {
+  sized = sized;
+  no_cycle = no_cycle;
+  affordable = affordable;
+  some = some;
+  bounded = few;
+  worker = many.0;
+  few = many.1;
 }
 
 -- ---- few feeds

@@ -3,8 +3,8 @@ use Rattle.std.proofs.Common.{◌≡◌, ℕ, ◌≤◌, inl, inr, Bool, List, l
 use Rattle.std.proofs.lemmas.List.{length-append}
 use Rattle.dm_outside.specs.Faults.{HasRisen}
 use Rattle.dm_cert.specs.Answers.{Setting}
+use Rattle.dm_store.specs.declared.store.Store.{Ghosts as StoreFacts}
 use Rattle.dm_store.specs.Calls.{Image, LeavesOnly}
-use Rattle.dm_store.specs.Fronts.{front_of_front, fronts_of_fronts}
 use Rattle.dm_store.specs.declared.journal.Journal.{Journal}
 use Rattle.dm_store.proofs.Moments.{and_then, weaker}
 use Rattle.dm_book.specs.Books.{Book, IsFrontBook, IsSafe}
@@ -24,14 +24,9 @@ use Rattle.dm_serve.specs.Ends.{IsFullOf}
 use Rattle.dm_serve.specs.Lives.{LivesOn}
 use Rattle.dm_serve.specs.Inside.Stages.{HasGone, IsGoing, StopsGoing}
 use Rattle.dm_serve.proofs.Stays.{ShowsOn, shown_stays}
+use Rattle.dm_book.proofs.Growing.{grows_on}
 
 -- ---- books that grow
-
-pub grows_on : (one more most : Book) → IsFrontBook one more → IsFrontBook more most → IsFrontBook one most
-grows_on one more most p q = record {
-  history = front_of_front one.history more.history most.history p.history q.history;
-  logs = fronts_of_fronts one.logs more.logs most.logs p.logs q.logs;
-}
 
 -- what is safe between two books is so from one that went before
 pub safe_more : (s : Setting) (first before after : Book) → IsFrontBook first before → (image : Image) → IsSafe s before after image → IsSafe s first after image
@@ -73,32 +68,32 @@ later_on a b c low high = omega (arith, low, high)
 
 -- ---- one round
 
-module _ {S T : Type 0} (tells : S → Type 0) (seen : S → List ℕ) (shown : S → List (List ℕ)) (may_leave : S → Image → Type 0) (moment : S → ℕ) (left_since : S → ℕ → Image → Type 0)
-    (s : Setting) (first : Book) (start : S) (watch : Watch T) (old new : Journal S) (gone : HasGone tells seen shown may_leave moment left_since s first watch start old) where
-  round_leaves : (sources : List (Option (List ℕ))) (result : Result (Watch T × Bool) RoundStop) (r : Rounds tells seen shown may_leave moment left_since s sources (book_in watch) old new result) → LeavesOnly moment left_since start new.store (IsSafe s first r.after)
+module _ {S T : Type 0} (facts : StoreFacts S)
+    (s : Setting) (first : Book) (start : S) (watch : Watch T) (old new : Journal S) (gone : HasGone facts s first watch start old) where
+  round_leaves : (sources : List (Option (List ℕ))) (result : Result (Watch T × Bool) RoundStop) (r : Rounds facts s sources (book_in watch) old new result) → LeavesOnly facts.moment facts.left_since start new.store (IsSafe s first r.after)
   round_leaves sources result r =
-      and_then moment left_since start old.store new.store (IsSafe s first r.after)
-      (weaker moment left_since start old.store (IsSafe s first (book_in watch)) (IsSafe s first r.after) gone.leaves (safe_on s first (book_in watch) r.after r.grows))
-      (weaker moment left_since old.store new.store (IsSafe s (book_in watch) r.after) (IsSafe s first r.after) r.leaves (safe_more s first (book_in watch) r.after gone.grows))
+      and_then facts.moment facts.left_since start old.store new.store (IsSafe s first r.after)
+      (weaker facts.moment facts.left_since start old.store (IsSafe s first (book_in watch)) (IsSafe s first r.after) gone.leaves (safe_on s first (book_in watch) r.after r.grows))
+      (weaker facts.moment facts.left_since old.store new.store (IsSafe s (book_in watch) r.after) (IsSafe s first r.after) r.leaves (safe_more s first (book_in watch) r.after gone.grows))
 
-  pub round_lives : (sources : List (Option (List ℕ))) (result : Result (Watch T × Bool) RoundStop) → Rounds tells seen shown may_leave moment left_since s sources (book_in watch) old new result → (tells old.store → tells new.store) → ShowsOn tells shown moment left_since
-      → LivesOn shown moment left_since s first sources start new.store
+  pub round_lives : (sources : List (Option (List ℕ))) (result : Result (Watch T × Bool) RoundStop) → Rounds facts s sources (book_in watch) old new result → (facts.tells old.store → facts.tells new.store) → ShowsOn facts
+      → LivesOn facts s first sources start new.store
   round_lives sources result r tell on =
       let leaves = round_leaves sources result r in
       record {
         last = r.after;
         grows = grows_on first (book_in watch) r.after gone.grows r.grows;
         leaves = leaves;
-        shows = shown_stays tells shown moment left_since on start new.store leaves.later (tell gone.settled.settled.rest.told);
+        shows = shown_stays facts on start new.store leaves.later (tell gone.settled.settled.rest.told);
         answers = inr r.answers;
       }
 
   -- where it was finished
-  pub round_gone : (sources : List (Option (List ℕ))) (now : Watch T) (is_new : Bool) → Rounds tells seen shown may_leave moment left_since s sources (book_in watch) old new (Ok (now, is_new)) → HasGone tells seen shown may_leave moment left_since s first now start new
+  pub round_gone : (sources : List (Option (List ℕ))) (now : Watch T) (is_new : Bool) → Rounds facts s sources (book_in watch) old new (Ok (now, is_new)) → HasGone facts s first now start new
   round_gone sources now is_new r = record {
-    leaves = subst (λ (b : Book). LeavesOnly moment left_since start new.store (IsSafe s first b)) (sym r.is_it) (round_leaves sources (Ok (now, is_new)) r);
+    leaves = subst (λ (b : Book). LeavesOnly facts.moment facts.left_since start new.store (IsSafe s first b)) (sym r.is_it) (round_leaves sources (Ok (now, is_new)) r);
     grows = subst (IsFrontBook first) (sym r.is_it) (grows_on first (book_in watch) r.after gone.grows r.grows);
-    settled = subst (λ (b : Book). HaveSettled tells seen shown may_leave s b.logs new) (sym r.is_it) r.done;
+    settled = subst (λ (b : Book). HaveSettled facts s b.logs new) (sym r.is_it) r.done;
   }
 
   -- where the journal is full
@@ -124,24 +119,24 @@ module _ {S T : Type 0} (tells : S → Type 0) (seen : S → List ℕ) (shown : 
 
 -- ---- a round of a watch whose day has gone on since some start
 
-module _ {S T : Type 0} (tells : S → Type 0) (seen : S → List ℕ) (shown : S → List (List ℕ)) (may_leave : S → Image → Type 0) (moment : S → ℕ) (left_since : S → ℕ → Image → Type 0)
+module _ {S T : Type 0} (facts : StoreFacts S)
     (watch : Watch T) (old new : Journal S) where
   abbrev GoneOver : Setting → Book → S → Watch T → Journal S → Type 0
-  GoneOver s first start w journal = HasGone tells seen shown may_leave moment left_since s first w start journal
+  GoneOver s first start w journal = HasGone facts s first w start journal
 
   -- what a round does, whatever blocks are settled
   abbrev pub RoundsOf : List (Option (List ℕ)) → Result (Watch T × Bool) RoundStop → Type 0
   RoundsOf sources result =
-      (contents : List (List ℕ)) → AreSettled tells seen shown may_leave (setting_of watch.desk.plans watch.desk.table) contents (map all_items watch.feeds.items) old
-      → Rounds tells seen shown may_leave moment left_since (setting_of watch.desk.plans watch.desk.table) sources (book_in watch) old new result
+      (contents : List (List ℕ)) → AreSettled facts (setting_of watch.desk.plans watch.desk.table) contents (map all_items watch.feeds.items) old
+      → Rounds facts (setting_of watch.desk.plans watch.desk.table) sources (book_in watch) old new result
 
-  pub once_lives : (sources : List (Option (List ℕ))) (result : Result (Watch T × Bool) RoundStop) → RoundsOf sources result → (tells old.store → tells new.store) → ShowsOn tells shown moment left_since → (s : Setting) (first : Book) (start : S)
-      → setting_of watch.desk.plans watch.desk.table ≡ s → GoneOver s first start watch old → LivesOn shown moment left_since s first sources start new.store
+  pub once_lives : (sources : List (Option (List ℕ))) (result : Result (Watch T × Bool) RoundStop) → RoundsOf sources result → (facts.tells old.store → facts.tells new.store) → ShowsOn facts → (s : Setting) (first : Book) (start : S)
+      → setting_of watch.desk.plans watch.desk.table ≡ s → GoneOver s first start watch old → LivesOn facts s first sources start new.store
   once_lives sources result rounds tell on s first start is gone =
       let s0 : Setting = setting_of watch.desk.plans watch.desk.table in
       let here : GoneOver s0 first start watch old = subst (λ (x : Setting). GoneOver x first start watch old) (sym is) gone in
-      subst (λ (x : Setting). LivesOn shown moment left_since x first sources start new.store) is
-      (round_lives tells seen shown may_leave moment left_since s0 first start watch old new here sources result (rounds here.settled.contents here.settled.settled) tell on)
+      subst (λ (x : Setting). LivesOn facts x first sources start new.store) is
+      (round_lives facts s0 first start watch old new here sources result (rounds here.settled.contents here.settled.settled) tell on)
 
   pub once_gone : (sources : List (Option (List ℕ))) (now : Watch T) (is_new : Bool) → RoundsOf sources (Ok (now, is_new)) → (s : Setting) (first : Book) (start : S) → setting_of watch.desk.plans watch.desk.table ≡ s → GoneOver s first start watch old
       → GoneOver s first start now new
@@ -149,28 +144,28 @@ module _ {S T : Type 0} (tells : S → Type 0) (seen : S → List ℕ) (shown : 
       let s0 : Setting = setting_of watch.desk.plans watch.desk.table in
       let here : GoneOver s0 first start watch old = subst (λ (x : Setting). GoneOver x first start watch old) (sym is) gone in
       subst (λ (x : Setting). GoneOver x first start now new) is
-      (round_gone tells seen shown may_leave moment left_since s0 first start watch old new here sources now is_new (rounds here.settled.contents here.settled.settled))
+      (round_gone facts s0 first start watch old new here sources now is_new (rounds here.settled.contents here.settled.settled))
 
-  module _ (given : T → Option (List ℕ)) (store_faults : S → ℕ) (faults : T → ℕ) where
+  module _ (given : T → Option (List ℕ)) (faults : T → ℕ) where
     abbrev Stops : Watch T → Journal S → RoundStop → Type 0
-    Stops w journal stopped = StopsGoing tells seen shown may_leave moment left_since given store_faults faults w journal new stopped
+    Stops w journal stopped = StopsGoing facts given faults w journal new stopped
 
     pub once_stops : IsWatching given (desk_in watch) watch.feeds.items → (stopped : RoundStop)
-        → StopsRound given faults (store_faults old.store) (store_faults new.store) old.end watch.batch (desk_in watch) watch.feeds.items stopped → Stops watch old stopped
+        → StopsRound given faults (facts.faults old.store) (facts.faults new.store) old.end watch.batch (desk_in watch) watch.feeds.items stopped → Stops watch old stopped
     once_stops watching round.OutOfMemory h = tt
     once_stops watching (round.Unsynced number) h = record { feed = h.cause.watched.tail.feed; later = h.cause.later; risen = h.cause.risen }
     once_stops watching round.Failed h = h.cause
     once_stops watching round.Full h =
         λ s first start is gone.
-        round_full tells seen shown may_leave moment left_since s first start watch old new gone given faults (store_faults old.store) (store_faults new.store) watch.batch is watching h
+        round_full facts s first start watch old new gone given faults (facts.faults old.store) (facts.faults new.store) watch.batch is watching h
 
     -- a stop after rounds that were gone before
     pub stops_on : (before : Watch T) (was : Journal S) → setting_of watch.desk.plans watch.desk.table ≡ setting_of before.desk.plans before.desk.table
         → ((s : Setting) (first : Book) (start : S) → setting_of before.desk.plans before.desk.table ≡ s → GoneOver s first start before was → GoneOver s first start watch old)
-        → store_faults was.store ≤ store_faults old.store → (stopped : RoundStop) → Stops watch old stopped → Stops before was stopped
+        → facts.faults was.store ≤ facts.faults old.store → (stopped : RoundStop) → Stops watch old stopped → Stops before was stopped
     stops_on before was same on low round.OutOfMemory h = tt
     stops_on before was same on low (round.Unsynced number) h = h
-    stops_on before was same on low round.Failed h = risen_since (store_faults was.store) (store_faults old.store) (store_faults new.store) low h
+    stops_on before was same on low round.Failed h = risen_since (facts.faults was.store) (facts.faults old.store) (facts.faults new.store) low h
     stops_on before was same on low round.Full h = λ s first start is gone. h s first start (same ∙ is) (on s first start is gone)
 
 -- ---- a watch that goes on

@@ -21,7 +21,8 @@ use Rattle.dm_feed.specs.Lines.{HasSortedChoice}
 use Rattle.dm_cert.specs.Runs.{AreTrueNotes, IsTextOf, IsTrueRun}
 use Rattle.dm_cert.proofs.SortedEntries.{true_logs_have_sorted_entries}
 use Rattle.dm_rounds.proofs.Places.{mapped_at}
-use Rattle.dm_store.specs.Calls.{Image, LeavesOnly}
+use Rattle.dm_store.specs.declared.store.Store.{Ghosts as StoreFacts}
+use Rattle.dm_store.specs.Calls.{LeavesOnly}
 use Rattle.dm_store.specs.declared.journal.Journal.{Journal}
 use Rattle.dm_book.specs.Books.{Book, IsFrontBook, IsSafe, log_of}
 use Rattle.dm_table.specs.Value.{IsTable, TableValue}
@@ -109,19 +110,19 @@ module _ {T : Type 0} (given : T → Option (List ℕ)) (s : Setting) (n : ℕ) 
       (subst (λ (x : Tail T). AnswersWhole (given x.feed) one.0.log.items) feed
       (answers_whole given (desk_in watch) (place + 1) one.0 ended (going.watching.each place one.0 one.1)))
 
-  module _ {S : Type 0} (tells : S → Type 0) (seen : S → List ℕ) (shown : S → List (List ℕ)) (may_leave : S → Image → Type 0) (moment : S → ℕ) (left_since : S → ℕ → Image → Type 0)
+  module _ {S : Type 0} (facts : StoreFacts S)
       (up : Net → Published → List Note → Type 0) (old new : Journal S) (tails : List (Tail T)) where
-    goes_on : (first : Book) → HasGone tells seen shown may_leave moment left_since s first watch old.store new → GoesOnFrom tells seen shown may_leave moment left_since s first (run_in table logs notes) old new
+    goes_on : (first : Book) → HasGone facts s first watch old.store new → GoesOnFrom facts s first (run_in table logs notes) old new
     goes_on first gone = record {
       grows = subst (λ (l : List (List LogItem)). IsFrontBook first (record { history = table.history; logs = l })) (sym (items_in watch.feeds.items)) gone.grows;
-      settled = subst (λ (l : List (List LogItem)). HaveSettled tells seen shown may_leave s l new) (sym (items_in watch.feeds.items)) gone.settled;
+      settled = subst (λ (l : List (List LogItem)). HaveSettled facts s l new) (sym (items_in watch.feeds.items)) gone.settled;
       leaves =
-          subst (λ (l : List (List LogItem)). LeavesOnly moment left_since old.store new.store (IsSafe s first (record { history = table.history; logs = l })))
+          subst (λ (l : List (List LogItem)). LeavesOnly facts.moment facts.left_since old.store new.store (IsSafe s first (record { history = table.history; logs = l })))
           (sym (items_in watch.feeds.items)) gone.leaves;
     }
 
     pub is_day : IsTable table → FitsRun (run_in table logs notes) → AreTrueNotes (length table.history) notes → 1 ≤ n → n ≤ FEEDS → up table.network (shown_of table) notes → tails ≡ map tail_in watch.feeds.items → All HasNoneLeft watch.feeds.items
-        → HasGoneSince tells seen shown may_leave moment left_since s n watch old.store new → IsDayOf tells seen shown may_leave moment left_since given up s n tails old new (run_text 2 (run_in table logs notes))
+        → HasGoneSince facts s n watch old.store new → IsDayOf facts given up s n tails old new (run_text 2 (run_in table logs notes))
     is_day is fits noted some few boards are none_left gone = record {
       run = run_in table logs notes;
       net = ap (λ (x : Setting). x.net) going.setting;

@@ -1,6 +1,7 @@
 -- What a crash leaves at a start is safe: the book that was found.
 use Rattle.std.proofs.Common.{◌≡◌, ℕ, List, map, refl, sym, subst, ◌∙◌, inr}
 use Rattle.dm_cert.specs.Answers.{Setting}
+use Rattle.dm_store.specs.declared.store.Store.{Ghosts as StoreFacts}
 use Rattle.dm_store.specs.Blocks.{Stands, at_rest}
 use Rattle.dm_store.specs.Calls.{AreFronts, AddsNone, Goes, Image, LeavesOnly}
 use Rattle.dm_store.specs.Journals.{HasCrashEnd}
@@ -9,7 +10,7 @@ use Rattle.dm_book.specs.Books.{Book, IsBookIn, IsSafe, IsTrueBook, reply_text}
 use Rattle.dm_watch.proofs.Fronts.{book_of_itself}
 use Rattle.dm_watch.proofs.Safe.{rest_keeps}
 use Rattle.dm_serve.specs.Lives.{IsTakenUp}
-use Rattle.dm_serve.specs.Inside.Replies.{IsKeptIn, IsStarting}
+use Rattle.dm_serve.specs.Inside.Replies.{IsKeptIn}
 
 module _ (s : Setting) (first : Book) where
   pub safe_as : (contents : List (List ℕ)) (image : Image) → Stands contents image.journal → HasCrashEnd contents image.journal → IsBookIn s contents first → IsTrueBook s first
@@ -31,29 +32,29 @@ module _ (s : Setting) (first : Book) where
       let k = rest_keeps contents image.shown image is refl in
       safe_as contents image k.stands k.crash_end (inr kept.recorded) kept.is_true fronts
 
-module _ {S : Type 0} (tells : S → Type 0) (seen : S → List ℕ) (shown : S → List (List ℕ)) (may_leave : S → Image → Type 0) (moment : S → ℕ) (left_since : S → ℕ → Image → Type 0) (s : Setting) where
+module _ {S : Type 0} (facts : StoreFacts S) (s : Setting) where
   -- ---- a store that was found
 
-  pub safe_found : (feeds : ℕ) (store : S) (contents : List (List ℕ)) (first : Book) → IsTakenUp tells seen shown may_leave s feeds store contents first
-      → ((image : Image) → may_leave store image → image.shown ≡ shown store) → (image : Image) → may_leave store image → IsSafe s first first image
+  pub safe_found : (feeds : ℕ) (store : S) (contents : List (List ℕ)) (first : Book) → IsTakenUp facts s feeds store contents first
+      → ((image : Image) → facts.may_leave store image → image.shown ≡ facts.shown store) → (image : Image) → facts.may_leave store image → IsSafe s first first image
   safe_found feeds store contents first t shows image left =
-      let here : image.journal ≡ seen store = t.found.durable image left in
+      let here : image.journal ≡ facts.seen store = t.found.durable image left in
       safe_as s first contents image (subst (Stands contents) (sym here) t.found.stands) (subst (HasCrashEnd contents) (sym here) t.crash_end) t.restored.is_in t.restored.is_true
       (subst (λ (l : List (List ℕ)). AreFronts l (map reply_text first.logs)) (sym (shows image left)) t.shown_fronts)
 
-  pub found_leaves : (feeds : ℕ) (store : S) (contents : List (List ℕ)) (first : Book) → IsTakenUp tells seen shown may_leave s feeds store contents first
-      → ((image : Image) → may_leave store image → image.shown ≡ shown store) → ((image : Image) → left_since store (moment store) image → may_leave store image)
-      → LeavesOnly moment left_since store store (IsSafe s first first)
-  found_leaves feeds store contents first t shows only = started moment left_since store (IsSafe s first first) (λ image left. safe_found feeds store contents first t shows image (only image left))
+  pub found_leaves : (feeds : ℕ) (store : S) (contents : List (List ℕ)) (first : Book) → IsTakenUp facts s feeds store contents first
+      → ((image : Image) → facts.may_leave store image → image.shown ≡ facts.shown store) → ((image : Image) → facts.left_since store (facts.moment store) image → facts.may_leave store image)
+      → LeavesOnly facts.moment facts.left_since store store (IsSafe s first first)
+  found_leaves feeds store contents first t shows only = started facts.moment facts.left_since store (IsSafe s first first) (λ image left. safe_found feeds store contents first t shows image (only image left))
 
   -- ---- a call that changes nothing
 
-  module _ (old new : S) (none : AddsNone (may_leave old) (may_leave new)) (goes : Goes shown moment left_since may_leave old new) where
-    pub looked : (start : S) (P : Image → Type 0) → LeavesOnly moment left_since start old P → ((image : Image) → may_leave old image → P image) → LeavesOnly moment left_since start new P
-    looked start P leaves here = goes_on moment left_since start old new P (may_leave new) leaves goes.time (λ image left. here image (none image left))
+  module _ (old new : S) (none : AddsNone (facts.may_leave old) (facts.may_leave new)) (goes : Goes facts.shown facts.moment facts.left_since facts.may_leave old new) where
+    pub looked : (start : S) (P : Image → Type 0) → LeavesOnly facts.moment facts.left_since start old P → ((image : Image) → facts.may_leave old image → P image) → LeavesOnly facts.moment facts.left_since start new P
+    looked start P leaves here = goes_on facts.moment facts.left_since start old new P (facts.may_leave new) leaves goes.time (λ image left. here image (none image left))
 
-    module _ (told : tells new) (same : seen new ≡ seen old) where
-      pub found_still : (feeds : ℕ) (contents : List (List ℕ)) (first : Book) → IsTakenUp tells seen shown may_leave s feeds old contents first → IsTakenUp tells seen shown may_leave s feeds new contents first
+    module _ (told : facts.tells new) (same : facts.seen new ≡ facts.seen old) where
+      pub found_still : (feeds : ℕ) (contents : List (List ℕ)) (first : Book) → IsTakenUp facts s feeds old contents first → IsTakenUp facts s feeds new contents first
       found_still feeds contents first t = record {
         found = record {
           told = told;
@@ -63,15 +64,4 @@ module _ {S : Type 0} (tells : S → Type 0) (seen : S → List ℕ) (shown : S 
         crash_end = subst (HasCrashEnd contents) (sym same) t.crash_end;
         restored = t.restored;
         shown_fronts = subst (λ (l : List (List ℕ)). AreFronts l (map reply_text first.logs)) (sym goes.same) t.shown_fronts;
-      }
-
-      pub starting_still : (contents : List (List ℕ)) (book : Book) (start : S) → IsKeptIn s contents book → ((image : Image) → may_leave old image → image.shown ≡ shown old)
-          → IsStarting tells seen shown may_leave moment left_since s contents book start old → IsStarting tells seen shown may_leave moment left_since s contents book start new
-      starting_still contents book start kept shows now = record {
-        told = told;
-        file = same ∙ now.file;
-        durable = λ image left. now.durable image (none image left) ∙ sym same;
-        fronts = subst (λ (l : List (List ℕ)). AreFronts l (map reply_text book.logs)) (sym goes.same) now.fronts;
-        leaves = looked start (IsSafe s book book) now.leaves (λ image left. safe_at_rest s book contents image kept (now.durable image left ∙ now.file)
-            (subst (λ (l : List (List ℕ)). AreFronts l (map reply_text book.logs)) (sym (shows image left)) now.fronts));
       }

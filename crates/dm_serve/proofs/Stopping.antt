@@ -10,8 +10,8 @@ use Rattle.dm_publish.specs.Value.{Published}
 use Rattle.dm_cert.specs.declared.notes.Note.{Note}
 use Rattle.dm_cert.specs.declared.replies.LogItem.{LogItem}
 use Rattle.dm_cert.specs.Answers.{Setting}
+use Rattle.dm_store.specs.declared.store.Store.{Ghosts as StoreFacts}
 use Rattle.dm_store.specs.Blocks.{Stands, block, refusal}
-use Rattle.dm_store.specs.Calls.{Image}
 use Rattle.dm_store.specs.Journals.{IsFound}
 use Rattle.dm_store.specs.declared.journal.Journal.{Journal}
 use Rattle.dm_book.specs.Books.{Book}
@@ -99,25 +99,25 @@ at_feeds_never taken faults asked feeds stopped before now end (inr h) = start_n
 
 -- ---- stops that have their reason
 
-pub reading_reason : {S : Type 0} (tells : S → Type 0) (seen : S → List ℕ) (shown : S → List (List ℕ)) (may_leave : S → Image → Type 0) (faults : S → ℕ) (s : Setting) (feeds : ℕ) (old new : S) (stopped : StartStop)
-    → feeds ≤ FEEDS → StopsReadingBack tells seen shown may_leave faults s feeds old new stopped → HasReason stopped
-reading_reason tells seen shown may_leave faults s feeds old new stop.OutOfMemory few why = tt
-reading_reason tells seen shown may_leave faults s feeds old new stop.Unread few why = tt
-reading_reason tells seen shown may_leave faults s feeds old new (stop.Refused reason) few why = why.0
-reading_reason tells seen shown may_leave faults s feeds old new (stop.Reply place) few why = let low = why.within in omega (arith, low, few)
-reading_reason tells seen shown may_leave faults s feeds old new (stop.Fault place) few why = tt
-reading_reason tells seen shown may_leave faults s feeds old new (stop.Changed number line) few why = tt
-reading_reason tells seen shown may_leave faults s feeds old new stop.Failed few why = tt
+pub reading_reason : {S : Type 0} (facts : StoreFacts S) (s : Setting) (feeds : ℕ) (old new : S) (stopped : StartStop)
+    → feeds ≤ FEEDS → StopsReadingBack facts s feeds old new stopped → HasReason stopped
+reading_reason facts s feeds old new stop.OutOfMemory few why = tt
+reading_reason facts s feeds old new stop.Unread few why = tt
+reading_reason facts s feeds old new (stop.Refused reason) few why = why.0
+reading_reason facts s feeds old new (stop.Reply place) few why = let low = why.within in omega (arith, low, few)
+reading_reason facts s feeds old new (stop.Fault place) few why = tt
+reading_reason facts s feeds old new (stop.Changed number line) few why = tt
+reading_reason facts s feeds old new stop.Failed few why = tt
 
-pub putting_reason : {S : Type 0} (tells : S → Type 0) (seen : S → List ℕ) (shown : S → List (List ℕ)) (may_leave : S → Image → Type 0) (faults : S → ℕ) (old new : S) (stopped : StartStop)
-    → StopsPutting tells seen shown may_leave faults old new stopped → HasReason stopped
-putting_reason tells seen shown may_leave faults old new stop.OutOfMemory why = tt
-putting_reason tells seen shown may_leave faults old new stop.Unread why = tt
-putting_reason tells seen shown may_leave faults old new (stop.Refused reason) why = why.0
-putting_reason tells seen shown may_leave faults old new (stop.Reply place) why = absurd why
-putting_reason tells seen shown may_leave faults old new (stop.Fault place) why = tt
-putting_reason tells seen shown may_leave faults old new (stop.Changed number line) why = tt
-putting_reason tells seen shown may_leave faults old new stop.Failed why = tt
+pub putting_reason : {S : Type 0} (facts : StoreFacts S) (old new : S) (stopped : StartStop)
+    → StopsPutting facts old new stopped → HasReason stopped
+putting_reason facts old new stop.OutOfMemory why = tt
+putting_reason facts old new stop.Unread why = tt
+putting_reason facts old new (stop.Refused reason) why = why.0
+putting_reason facts old new (stop.Reply place) why = absurd why
+putting_reason facts old new (stop.Fault place) why = tt
+putting_reason facts old new (stop.Changed number line) why = tt
+putting_reason facts old new stop.Failed why = tt
 
 pub catching_reason : {T : Type 0} (given : T → Option (List ℕ)) (faults : T → ℕ) (logs : List (List LogItem)) (old new : List (Watched T)) (stopped : StartStop)
     → StopsCatchingUp given faults logs old new stopped → HasReason stopped
@@ -131,9 +131,9 @@ catching_reason given faults logs old new stop.Failed why = tt
 
 -- ---- a store that was only looked at
 
-module _ {S : Type 0} (tells : S → Type 0) (seen : S → List ℕ) (shown : S → List (List ℕ)) (may_leave : S → Image → Type 0) (moment : S → ℕ) (left_since : S → ℕ → Image → Type 0) (old new : S)
-    (looks : Looks tells seen shown may_leave moment left_since old new) where
-  pub found_looked : (contents : List (List ℕ)) → IsFound tells seen may_leave contents old → IsFound tells seen may_leave contents new
+module _ {S : Type 0} (facts : StoreFacts S) (old new : S)
+    (looks : Looks facts old new) where
+  pub found_looked : (contents : List (List ℕ)) → IsFound facts.tells facts.seen facts.may_leave contents old → IsFound facts.tells facts.seen facts.may_leave contents new
   found_looked contents found =
       let l = looks.0 found.told in
       record {
@@ -144,18 +144,17 @@ module _ {S : Type 0} (tells : S → Type 0) (seen : S → List ℕ) (shown : S 
 
 -- ---- over a network
 
-module _ {K S T : Type 0} (taken : K → Option (List ℕ)) (sink_faults : K → ℕ) (tells : S → Type 0) (seen : S → List ℕ) (shown : S → List (List ℕ)) (may_leave : S → Image → Type 0) (moment : S → ℕ)
-    (left_since : S → ℕ → Image → Type 0) (store_faults : S → ℕ) (given : T → Option (List ℕ)) (faults : T → ℕ) (up : Net → Published → List Note → Type 0) (s : Setting) (names : List (List ℕ)) (store : List ℕ)
+module _ {K S T : Type 0} (taken : K → Option (List ℕ)) (sink_faults : K → ℕ) (facts : StoreFacts S) (given : T → Option (List ℕ)) (faults : T → ℕ) (up : Net → Published → List Note → Type 0) (s : Setting) (names : List (List ℕ)) (store : List ℕ)
     (feeds : List (Option T)) (tails : List (Tail T)) (before now : K) (old new : Journal S) where
   abbrev Due : Status → List ℕ → Type 0
-  Due status text = IsDueOver tells seen shown may_leave moment left_since store_faults given faults up names store feeds tails old new status s text
+  Due status text = IsDueOver facts given faults up names store feeds tails old new status s text
 
   abbrev End : Status → Type 0
-  End result = Ends taken sink_faults store_faults faults Due before now old new result
+  End result = Ends taken sink_faults facts faults Due before now old new result
 
   -- there was no memory
   pub wanting_ends : (result : Status) → now ≡ before → result ≡ NoMemory → End result
-  wanting_ends result same is = ends_wanting taken sink_faults store_faults faults Due before now old new result same is
+  wanting_ends result same is = ends_wanting taken sink_faults facts faults Due before now old new result same is
 
   -- a feed was not read
   feed_unread : (place : ℕ) → place < length names → (slice_get feeds place ≡ Some None) ⊎ HasFailed faults feeds tails place → (result : Status)
@@ -163,7 +162,7 @@ module _ {K S T : Type 0} (taken : K → Option (List ℕ)) (sink_faults : K →
   feed_unread place low cause result h =
       let name : List ℕ = get_or names place [] in
       let at : slice_get names place ≡ Some name = slice_get-get_or names place [] low in
-      ends_as taken sink_faults store_faults faults Due before now old new ReadFault (unread_line name) result unread_is_no_fault unread_is_no_want
+      ends_as taken sink_faults facts faults Due before now old new ReadFault (unread_line name) result unread_is_no_fault unread_is_no_want
       (inl (record { place = place; name = name; named = at; cause = cause; line = refl })) (subst (λ (o : Option (List ℕ)). EndsUnread taken sink_faults o before now result) at h)
 
   -- not all feeds were opened
@@ -174,53 +173,53 @@ module _ {K S T : Type 0} (taken : K → Option (List ℕ)) (sink_faults : K →
       feed_unread place (omega (arith, many, low)) (inl why) result h
 
   -- what the store holds was not read back
-  pub reading_ends : (stopped : StartStop) (result : Status) → Looks tells seen shown may_leave moment left_since old.store new.store
-      → StopsReadingBack tells seen shown may_leave store_faults s (length names) old.store new.store stopped → EndsStart taken sink_faults store names stopped before now result → End result
+  pub reading_ends : (stopped : StartStop) (result : Status) → Looks facts old.store new.store
+      → StopsReadingBack facts s (length names) old.store new.store stopped → EndsStart taken sink_faults store names stopped before now result → End result
   reading_ends stop.OutOfMemory result looks why h = wanting_ends result h.0 h.1
   reading_ends stop.Unread result looks why h =
-      ends_as taken sink_faults store_faults faults Due before now old new ReadFault _ result unread_is_no_fault unread_is_no_want (inr (record { risen = why; left = λ contents found. (looks.0 found.told).1; line = refl })) h
+      ends_as taken sink_faults facts faults Due before now old new ReadFault _ result unread_is_no_fault unread_is_no_want (inr (record { risen = why; left = λ contents found. (looks.0 found.told).1; line = refl })) h
   reading_ends (stop.Refused reason) result looks why h =
-      ends_as taken sink_faults store_faults faults Due before now old new Refused _ result refused_is_no_fault refused_is_no_want
+      ends_as taken sink_faults facts faults Due before now old new Refused _ result refused_is_no_fault refused_is_no_want
       (inl (record { why = reason; some = why.0; cause = why.1; left = λ contents found. (looks.0 found.told).1; line = refl })) h
   reading_ends (stop.Reply place) result looks why h =
-      ends_as taken sink_faults store_faults faults Due before now old new Refused _ result refused_is_no_fault refused_is_no_want
+      ends_as taken sink_faults facts faults Due before now old new Refused _ result refused_is_no_fault refused_is_no_want
       (inr (inl (record { place = place; within = why.within; cause = why.cause; left = λ told. (looks.0 told).1; line = refl }))) h
   reading_ends (stop.Fault place) result looks why h = absurd why
   reading_ends (stop.Changed number line) result looks why h = absurd why
   reading_ends stop.Failed result looks why h = absurd why
 
   -- what was found could not be taken up
-  pub putting_ends : (book : Book) (is_new : Bool) (mid : S) (stopped : StartStop) (result : Status) → store_faults old.store ≤ store_faults mid
-      → IsReadBack tells seen shown may_leave moment left_since s (length names) book is_new old.store mid → StopsPutting tells seen shown may_leave store_faults mid new.store stopped
+  pub putting_ends : (book : Book) (is_new : Bool) (mid : S) (stopped : StartStop) (result : Status) → facts.faults old.store ≤ facts.faults mid
+      → IsReadBack facts s (length names) book is_new old.store mid → StopsPutting facts mid new.store stopped
       → EndsStart taken sink_faults store names stopped before now result → End result
   putting_ends book is_new mid stop.OutOfMemory result later back why h = wanting_ends result h.0 h.1
   putting_ends book is_new mid stop.Unread result later back why h =
-      ends_as taken sink_faults store_faults faults Due before now old new ReadFault _ result unread_is_no_fault unread_is_no_want
+      ends_as taken sink_faults facts faults Due before now old new ReadFault _ result unread_is_no_fault unread_is_no_want
       (inr (record {
-        risen = risen_since (store_faults old.store) (store_faults mid) (store_faults new.store) later why.0;
+        risen = risen_since (facts.faults old.store) (facts.faults mid) (facts.faults new.store) later why.0;
         left = λ contents found.
             let first = (back.looks.0 found.told).1 in
-            let then = why.1 contents (found_looked tells seen shown may_leave moment left_since old.store mid back.looks contents found) in
+            let then = why.1 contents (found_looked facts old.store mid back.looks contents found) in
             record { journal = then.journal ∙ first.journal; replies = then.replies ∙ first.replies; none = λ image left. first.none image (then.none image left) };
         line = refl;
       })) h
   putting_ends book is_new mid (stop.Refused reason) result later back why h =
-      let none : (contents : List (List ℕ)) → IsFound tells seen may_leave contents old.store → ⊥ =
+      let none : (contents : List (List ℕ)) → IsFound facts.tells facts.seen facts.may_leave contents old.store → ⊥ =
       λ contents found.
       let l = back.looks.0 found.told in
-      let there = found_looked tells seen shown may_leave moment left_since old.store mid back.looks contents found in
-      why.1 contents there (ap (refusal contents) (one_end contents (seen mid) (seen old.store) there.stands found.stands l.1.journal) ∙ back.whole contents found) in
-      ends_as taken sink_faults store_faults faults Due before now old new Refused (refusal_line reason) result refused_is_no_fault refused_is_no_want
+      let there = found_looked facts old.store mid back.looks contents found in
+      why.1 contents there (ap (refusal contents) (one_end contents (facts.seen mid) (facts.seen old.store) there.stands found.stands l.1.journal) ∙ back.whole contents found) in
+      ends_as taken sink_faults facts faults Due before now old new Refused (refusal_line reason) result refused_is_no_fault refused_is_no_want
       (inl (record { why = reason; some = why.0; cause = λ contents found. absurd (none contents found); left = λ contents found. absurd (none contents found); line = refl })) h
   putting_ends book is_new mid (stop.Reply place) result later back why h = absurd why
   putting_ends book is_new mid (stop.Fault place) result later back why h = absurd why
   putting_ends book is_new mid (stop.Changed number line) result later back why h = absurd why
   putting_ends book is_new mid stop.Failed result later back why h =
-      ends_failed taken sink_faults store_faults faults Due before now old new result h.0 h.1 (inl (risen_since (store_faults old.store) (store_faults mid) (store_faults new.store) later why))
+      ends_failed taken sink_faults facts faults Due before now old new result h.0 h.1 (inl (risen_since (facts.faults old.store) (facts.faults mid) (facts.faults new.store) later why))
 
   -- feeds that do not go on with the book that was read back
   module _ (book : Book) (is_new : Bool) (one other : List (Watched T)) (are : feeds ≡ map opened one) (many : length one ≡ length names) (entries : length book.logs ≡ length names) (last : tails ≡ map tail_in other)
-      (back : IsReadBack tells seen shown may_leave moment left_since s (length names) book is_new old.store new.store) where
+      (back : IsReadBack facts s (length names) book is_new old.store new.store) where
     pub catching_ends : (stopped : StartStop) (result : Status) → StopsCatchingUp given faults book.logs one other stopped → EndsStart taken sink_faults store names stopped before now result → End result
     catching_ends stop.OutOfMemory result why h = wanting_ends result h.0 h.1
     catching_ends stop.Unread result why h = absurd why
@@ -237,7 +236,7 @@ module _ {K S T : Type 0} (taken : K → Option (List ℕ)) (sink_faults : K →
           risen = why.risen;
         })) result h
     catching_ends (stop.Changed number line) result why h =
-        ends_as taken sink_faults store_faults faults Due before now old new Refused (feed_line number line) result refused_is_no_fault refused_is_no_want
+        ends_as taken sink_faults facts faults Due before now old new Refused (feed_line number line) result refused_is_no_fault refused_is_no_want
         (inr (inr (inl (record {
           place = why.place;
           within = omega (arith, entries, slice_get_within book.logs why.place why.items why.of);
@@ -254,13 +253,12 @@ module _ {K S T : Type 0} (taken : K → Option (List ℕ)) (sink_faults : K →
     catching_ends stop.Failed result why h = absurd why
 
 -- the same by what the end of feeds says
-module _ {K S T : Type 0} (taken : K → Option (List ℕ)) (sink_faults : K → ℕ) (tells : S → Type 0) (seen : S → List ℕ) (shown : S → List (List ℕ)) (may_leave : S → Image → Type 0) (moment : S → ℕ)
-    (left_since : S → ℕ → Image → Type 0) (store_faults : S → ℕ) (given : T → Option (List ℕ)) (faults : T → ℕ) (up : Net → Published → List Note → Type 0) (s : Setting) (asked : ServerAsked)
+module _ {K S T : Type 0} (taken : K → Option (List ℕ)) (sink_faults : K → ℕ) (facts : StoreFacts S) (given : T → Option (List ℕ)) (faults : T → ℕ) (up : Net → Published → List Note → Type 0) (s : Setting) (asked : ServerAsked)
     (before now : K) (old new : Journal S) (book : Book) (is_new : Bool) (one other : List (Watched T)) (end : DayEnd T) where
-  pub at_feeds_ends : (stopped : StartStop) → length one ≡ length asked.run.feeds → length book.logs ≡ length asked.run.feeds → IsReadBack tells seen shown may_leave moment left_since s (length asked.run.feeds) book is_new old.store new.store
+  pub at_feeds_ends : (stopped : StartStop) → length one ≡ length asked.run.feeds → length book.logs ≡ length asked.run.feeds → IsReadBack facts s (length asked.run.feeds) book is_new old.store new.store
       → StopsCatchingUp given faults book.logs one other stopped → EndsAtFeeds taken sink_faults asked other stopped before now end
-      → Ends taken sink_faults store_faults faults (λ status text. IsDueOver tells seen shown may_leave moment left_since store_faults given faults up asked.run.feeds asked.store (map opened one) end.tails.items old new status s text) before now old new end.status
+      → Ends taken sink_faults facts faults (λ status text. IsDueOver facts given faults up asked.run.feeds asked.store (map opened one) end.tails.items old new status s text) before now old new end.status
   at_feeds_ends stopped many entries back why (inl h) =
-      ends_wanting taken sink_faults store_faults faults (λ status text. IsDueOver tells seen shown may_leave moment left_since store_faults given faults up asked.run.feeds asked.store (map opened one) end.tails.items old new status s text) before now old new end.status h.0 h.1
+      ends_wanting taken sink_faults facts faults (λ status text. IsDueOver facts given faults up asked.run.feeds asked.store (map opened one) end.tails.items old new status s text) before now old new end.status h.0 h.1
   at_feeds_ends stopped many entries back why (inr h) =
-      catching_ends taken sink_faults tells seen shown may_leave moment left_since store_faults given faults up s asked.run.feeds asked.store (map opened one) end.tails.items before now old new book is_new one other refl many entries h.0 back stopped end.status why h.1
+      catching_ends taken sink_faults facts given faults up s asked.run.feeds asked.store (map opened one) end.tails.items before now old new book is_new one other refl many entries h.0 back stopped end.status why h.1

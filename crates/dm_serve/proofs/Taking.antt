@@ -10,7 +10,8 @@ use Rattle.dm_rounds.proofs.Places.{mapped_at}
 use Rattle.dm_desk.specs.Desks.{DeskValue}
 use Rattle.dm_tail.specs.declared.watched.Watched.{Watched}
 use Rattle.dm_cert.specs.Answers.{Setting}
-use Rattle.dm_store.specs.Calls.{Image, LeavesOnly}
+use Rattle.dm_store.specs.declared.store.Store.{Ghosts as StoreFacts}
+use Rattle.dm_store.specs.Calls.{LeavesOnly}
 use Rattle.dm_store.specs.declared.journal.Journal.{Journal}
 use Rattle.dm_store.proofs.Moments.{and_then}
 use Rattle.dm_book.specs.Books.{Book, IsSafe}
@@ -41,48 +42,48 @@ spelled_logs logs spelled = λ place d low.
     let within = slice_get_within logs place at.0 at.1 in
     subst (All IsSpelledItem) (sym at.2) (subst IsSpelledLog (get_or_from_slice_get logs place at.0 at.0 at.1) (spelled place at.0 within))
 
-module _ {S : Type 0} (tells : S → Type 0) (seen : S → List ℕ) (shown : S → List (List ℕ)) (may_leave : S → Image → Type 0) (moment : S → ℕ) (left_since : S → ℕ → Image → Type 0) (s : Setting) (n : ℕ) where
+module _ {S : Type 0} (facts : StoreFacts S) (s : Setting) (n : ℕ) where
   -- a store that was only looked at
-  pub looked_keeps : ShowsOn tells shown moment left_since → (sources : List (Option (List ℕ))) (old new : S) → Looks tells seen shown may_leave moment left_since old new → KeepsBooks tells seen shown may_leave moment left_since s n sources old new
+  pub looked_keeps : ShowsOn facts → (sources : List (Option (List ℕ))) (old new : S) → Looks facts old new → KeepsBooks facts s n sources old new
   looked_keeps on sources old new looks = λ contents first t.
       let leaves = (looks.1 s n contents first t).0 in
       record {
         last = first;
         grows = book_of_itself first;
         leaves = leaves;
-        shows = shown_stays tells shown moment left_since on old new leaves.later (looks.0 t.found.told).0;
+        shows = shown_stays facts on old new leaves.later (looks.0 t.found.told).0;
         answers = inl refl;
       }
 
   -- by another name of the book
-  pub read_back_as : (book other : Book) (is_new : Bool) (start mid : S) → book ≡ other → IsReadBack tells seen shown may_leave moment left_since s n book is_new start mid → IsReadBack tells seen shown may_leave moment left_since s n other is_new start mid
-  read_back_as book other is_new start mid same back = subst (λ (b : Book). IsReadBack tells seen shown may_leave moment left_since s n b is_new start mid) same back
+  pub read_back_as : (book other : Book) (is_new : Bool) (start mid : S) → book ≡ other → IsReadBack facts s n book is_new start mid → IsReadBack facts s n other is_new start mid
+  read_back_as book other is_new start mid same back = subst (λ (b : Book). IsReadBack facts s n b is_new start mid) same back
 
-  module _ {T : Type 0} (E : Type 0) (faults : S → ℕ) (head : Head) (is_new : Bool) (watch : Watch T) (start : S) (old new : Journal S) (penalty : s.penalty ≡ head.penalty) (plans : s.plans ≡ head.plans) (feeds : head.feeds ≡ n)
-      (back : IsReadBack tells seen shown may_leave moment left_since s n (book_in watch) is_new start old.store) where
-    taken_at : (result : Result (Unit {0}) E) → TakesUp tells seen shown may_leave moment left_since head is_new watch.feeds.items old new result → (contents : List (List ℕ)) (first : Book)
-        → IsTakenUp tells seen shown may_leave s n start contents first → LeavesOnly moment left_since old.store new.store (IsSafe s first first) × tells new.store × OnOk result (HaveSettled tells seen shown may_leave s first.logs new)
+  module _ {T : Type 0} (E : Type 0) (head : Head) (is_new : Bool) (watch : Watch T) (start : S) (old new : Journal S) (penalty : s.penalty ≡ head.penalty) (plans : s.plans ≡ head.plans) (feeds : head.feeds ≡ n)
+      (back : IsReadBack facts s n (book_in watch) is_new start old.store) where
+    taken_at : (result : Result (Unit {0}) E) → TakesUp facts head is_new watch.feeds.items old new result → (contents : List (List ℕ)) (first : Book)
+        → IsTakenUp facts s n start contents first → LeavesOnly facts.moment facts.left_since old.store new.store (IsSafe s first first) × facts.tells new.store × OnOk result (HaveSettled facts s first.logs new)
     taken_at result takes contents first t =
         let f = back.finds contents first t in
         let l = back.looks.1 s n contents first t in
-        takes s contents first penalty plans f.1 (sym (ap (λ (b : Book). b.logs) f.0)) (subst (λ (m : ℕ). IsTakenUp tells seen shown may_leave s m old.store contents first) (sym feeds) l.1)
+        takes s contents first penalty plans f.1 (sym (ap (λ (b : Book). b.logs) f.0)) (subst (λ (m : ℕ). IsTakenUp facts s m old.store contents first) (sym feeds) l.1)
 
     -- whether it was taken up or not
-    pub taken_keeps : ShowsOn tells shown moment left_since → (result : Result (Unit {0}) E) → TakesUp tells seen shown may_leave moment left_since head is_new watch.feeds.items old new result → (sources : List (Option (List ℕ)))
-        → KeepsBooks tells seen shown may_leave moment left_since s n sources start new.store
+    pub taken_keeps : ShowsOn facts → (result : Result (Unit {0}) E) → TakesUp facts head is_new watch.feeds.items old new result → (sources : List (Option (List ℕ)))
+        → KeepsBooks facts s n sources start new.store
     taken_keeps on result takes sources = λ contents first t.
         let taken = taken_at result takes contents first t in
-        let leaves = and_then moment left_since start old.store new.store (IsSafe s first first) (back.looks.1 s n contents first t).0 taken.0 in
+        let leaves = and_then facts.moment facts.left_since start old.store new.store (IsSafe s first first) (back.looks.1 s n contents first t).0 taken.0 in
         record {
           last = first;
           grows = book_of_itself first;
           leaves = leaves;
-          shows = shown_stays tells shown moment left_since on start new.store leaves.later taken.1;
+          shows = shown_stays facts on start new.store leaves.later taken.1;
           answers = inl refl;
         }
 
     -- where it was
-    pub taken_since : TakesUp {E = E} tells seen shown may_leave moment left_since head is_new watch.feeds.items old new (Ok tt) → HasGoneSince tells seen shown may_leave moment left_since s n watch start new
+    pub taken_since : TakesUp {E = E} facts head is_new watch.feeds.items old new (Ok tt) → HasGoneSince facts s n watch start new
     taken_since takes = λ contents first t.
         let h = taken_at (Ok tt) takes contents first t in
-        gone_since tells seen shown may_leave moment left_since faults s first start old.store watch new (back.looks.1 s n contents first t).0 h.0 (back.finds contents first t).0 h.2
+        gone_since facts s first start old.store watch new (back.looks.1 s n contents first t).0 h.0 (back.finds contents first t).0 h.2

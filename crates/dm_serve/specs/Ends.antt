@@ -11,8 +11,8 @@ use Rattle.dm_cert.specs.declared.replies.LogItem.{LogItem}
 use Rattle.dm_cert.specs.Answers.{Setting}
 use Rattle.dm_input.specs.Input.{Told}
 use Rattle.dm_words.specs.Serving.{ServerAsked}
+use Rattle.dm_store.specs.declared.store.Store.{Ghosts as StoreFacts}
 use Rattle.dm_store.specs.Blocks.{block}
-use Rattle.dm_store.specs.Calls.{Image}
 use Rattle.dm_store.specs.Journals.{IsFound}
 use Rattle.dm_store.specs.declared.journal.Journal.{Journal}
 use Rattle.dm_book.specs.Books.{AreRecorded, Book, IsFrontBook, reply_text}
@@ -37,32 +37,29 @@ use Rattle.dm_serve.specs.Served.{IsDayOf}
 -- ---- what is refused
 
 -- What the journal holds is refused: its blocks, where the store tells them, are refused for this. The store was only looked at.
-pub record IsStoreRefusal {S : Type 0} (tells : S → Type 0) (seen : S → List ℕ) (shown : S → List (List ℕ))
-    (may_leave : S → Image → Type 0) (s : Setting) (feeds : ℕ) (old new : Journal S) (text : List ℕ) : Type 0 where
+pub record IsStoreRefusal {S : Type 0} (facts : StoreFacts S) (s : Setting) (feeds : ℕ) (old new : Journal S) (text : List ℕ) : Type 0 where
   pub why : RestoreStop
   pub some : why ≢ NoRoom
-  pub cause : (contents : List (List ℕ)) (found : IsFound tells seen may_leave contents old.store) →
-      RefusesBook s feeds (seen old.store) contents found.stands.end why
-  pub left : (contents : List (List ℕ)) → IsFound tells seen may_leave contents old.store → IsLeft seen shown may_leave old.store new.store
+  pub cause : (contents : List (List ℕ)) (found : IsFound facts.tells facts.seen facts.may_leave contents old.store) →
+      RefusesBook s feeds (facts.seen old.store) contents found.stands.end why
+  pub left : (contents : List (List ℕ)) → IsFound facts.tells facts.seen facts.may_leave contents old.store → IsLeft facts old.store new.store
   pub line : text ≡ refusal_line why
 
 -- The reply file of this number, from 1, is no front of its log in the book that the blocks hold: it holds more. The store was only
 -- looked at.
-pub record IsReplyRefusal {S : Type 0} (tells : S → Type 0) (seen : S → List ℕ) (shown : S → List (List ℕ))
-    (may_leave : S → Image → Type 0) (s : Setting) (feeds : ℕ) (old new : Journal S) (text : List ℕ) : Type 0 where
+pub record IsReplyRefusal {S : Type 0} (facts : StoreFacts S) (s : Setting) (feeds : ℕ) (old new : Journal S) (text : List ℕ) : Type 0 where
   pub place : ℕ
   pub within : place < feeds
   pub cause : (contents : List (List ℕ)) (book : Book) (items : List LogItem) →
-      IsFound tells seen may_leave contents old.store → IsRestored s feeds contents book
-      → slice_get book.logs place ≡ Some items → place < length (shown old.store) →
-      IsPrefix (slice_index_or (shown old.store) place []) (reply_text items) → ⊥
-  pub left : tells old.store → IsLeft seen shown may_leave old.store new.store
+      IsFound facts.tells facts.seen facts.may_leave contents old.store → IsRestored s feeds contents book
+      → slice_get book.logs place ≡ Some items → place < length (facts.shown old.store) →
+      IsPrefix (slice_index_or (facts.shown old.store) place []) (reply_text items) → ⊥
+  pub left : facts.tells old.store → IsLeft facts old.store new.store
   pub line : text ≡ reply_line (place + 1)
 
 -- A feed has another line than was answered: what it has given does not go on with the log in the book that was found. The store was
 -- only looked at.
-pub record IsFeedRefusal {S T : Type 0} (tells : S → Type 0) (seen : S → List ℕ) (shown : S → List (List ℕ))
-    (may_leave : S → Image → Type 0) (given : T → Option (List ℕ)) (s : Setting) (feeds : ℕ) (tails : List (Tail T))
+pub record IsFeedRefusal {S T : Type 0} (facts : StoreFacts S) (given : T → Option (List ℕ)) (s : Setting) (feeds : ℕ) (tails : List (Tail T))
     (old new : Journal S) (text : List ℕ) : Type 0 where
   pub place : ℕ
   pub within : place < feeds
@@ -70,9 +67,9 @@ pub record IsFeedRefusal {S T : Type 0} (tells : S → Type 0) (seen : S → Lis
   pub tail : Tail T
   pub stands : slice_get tails place ≡ Some tail
   pub changed : (contents : List (List ℕ)) (first : Book) (items : List LogItem) →
-      IsTakenUp tells seen shown may_leave s feeds old.store contents first
+      IsTakenUp facts s feeds old.store contents first
       → slice_get first.logs place ≡ Some items → IfSome (given tail.feed) (λ bytes. DiffersAt bytes items at_line)
-  pub left : tells old.store → IsLeft seen shown may_leave old.store new.store
+  pub left : facts.tells old.store → IsLeft facts old.store new.store
   pub line : text ≡ feed_line (place + 1) at_line
 
 -- Feeds were answered from a book on to which the first grew, and its blocks would be too long with the round of what was answered.
@@ -91,11 +88,10 @@ pub record IsFullOf {T : Type 0} (given : T → Option (List ℕ)) (s : Setting)
   pub too_long : IsTooLong (length (flat_map block contents)) answered
 
 -- the journal is full
-pub record IsFull {S T : Type 0} (tells : S → Type 0) (seen : S → List ℕ) (shown : S → List (List ℕ))
-    (may_leave : S → Image → Type 0) (given : T → Option (List ℕ)) (s : Setting) (feeds : ℕ) (old : Journal S)
+pub record IsFull {S T : Type 0} (facts : StoreFacts S) (given : T → Option (List ℕ)) (s : Setting) (feeds : ℕ) (old : Journal S)
     (text : List ℕ) : Type 0 where
   pub cause : (contents : List (List ℕ)) (first : Book) →
-      IsTakenUp tells seen shown may_leave s feeds old.store contents first → IsFullOf given s first
+      IsTakenUp facts s feeds old.store contents first → IsFullOf given s first
   pub line : text ≡ store_line (codes "full")
 
 -- ---- what cannot be opened or read
@@ -118,40 +114,36 @@ pub record IsFeedFault {T : Type 0} (faults : T → ℕ) (names : List (List ℕ
   pub line : text ≡ unread_line name
 
 -- The store, of which a call has failed. It was only looked at.
-pub record IsStoreFault {S : Type 0} (tells : S → Type 0) (seen : S → List ℕ) (shown : S → List (List ℕ))
-    (may_leave : S → Image → Type 0) (faults : S → ℕ) (store : List ℕ) (old new : Journal S) (text : List ℕ) : Type 0 where
-  pub risen : HasRisen (faults old.store) (faults new.store)
-  pub left : (contents : List (List ℕ)) → IsFound tells seen may_leave contents old.store → IsLeft seen shown may_leave old.store new.store
+pub record IsStoreFault {S : Type 0} (facts : StoreFacts S) (store : List ℕ) (old new : Journal S) (text : List ℕ) : Type 0 where
+  pub risen : HasRisen (facts.faults old.store) (facts.faults new.store)
+  pub left : (contents : List (List ℕ)) → IsFound facts.tells facts.seen facts.may_leave contents old.store → IsLeft facts old.store new.store
   pub line : text ≡ unread_line store
 
 -- ---- by status
 
 -- The text that is due at a status over a network and start rows, to feeds of these names and a store of this one.
-abbrev pub IsDueOver : {S T : Type 0} → (S → Type 0) → (S → List ℕ) → (S → List (List ℕ)) → (S → Image → Type 0) → (S → ℕ) →
-    (S → ℕ → Image → Type 0) → (S → ℕ) → (T → Option (List ℕ)) → (T → ℕ) → (Net → Published → List Note → Type 0) → List (List ℕ) →
+abbrev pub IsDueOver : {S T : Type 0} → StoreFacts S → (T → Option (List ℕ)) → (T → ℕ) → (Net → Published → List Note → Type 0) → List (List ℕ) →
     List ℕ → List (Option T) → List (Tail T) → Journal S → Journal S → Status → Setting → List ℕ → Type 0
-IsDueOver tells seen shown may_leave moment left_since store_faults given faults up names store feeds tails old new Well s text =
-    IsDayOf tells seen shown may_leave moment left_since given up s (length names) tails old new text
-IsDueOver tells seen shown may_leave moment left_since store_faults given faults up names store feeds tails old new Refused s text =
-    IsStoreRefusal tells seen shown may_leave s (length names) old new text
-    ⊎ (IsReplyRefusal tells seen shown may_leave s (length names) old new text
-    ⊎ (IsFeedRefusal tells seen shown may_leave given s (length names) tails old new text
-    ⊎ IsFull tells seen shown may_leave given s (length names) old text))
-IsDueOver tells seen shown may_leave moment left_since store_faults given faults up names store feeds tails old new ReadFault s text =
-    IsFeedFault faults names feeds tails text ⊎ IsStoreFault tells seen shown may_leave store_faults store old new text
-IsDueOver tells seen shown may_leave moment left_since store_faults given faults up names store feeds tails old new Usage s text = ⊥
-IsDueOver tells seen shown may_leave moment left_since store_faults given faults up names store feeds tails old new WriteFault s text = ⊥
-IsDueOver tells seen shown may_leave moment left_since store_faults given faults up names store feeds tails old new NoMemory s text = ⊥
+IsDueOver facts given faults up names store feeds tails old new Well s text =
+    IsDayOf facts given up s (length names) tails old new text
+IsDueOver facts given faults up names store feeds tails old new Refused s text =
+    IsStoreRefusal facts s (length names) old new text
+    ⊎ (IsReplyRefusal facts s (length names) old new text
+    ⊎ (IsFeedRefusal facts given s (length names) tails old new text
+    ⊎ IsFull facts given s (length names) old text))
+IsDueOver facts given faults up names store feeds tails old new ReadFault s text =
+    IsFeedFault faults names feeds tails text ⊎ IsStoreFault facts store old new text
+IsDueOver facts given faults up names store feeds tails old new Usage s text = ⊥
+IsDueOver facts given faults up names store feeds tails old new WriteFault s text = ⊥
+IsDueOver facts given faults up names store feeds tails old new NoMemory s text = ⊥
 
 -- The text that is due at a status; a write fault and want of memory have none of their own.
-abbrev pub IsDue : {S T : Type 0} → (S → Type 0) → (S → List ℕ) → (S → List (List ℕ)) → (S → Image → Type 0) → (S → ℕ) →
-    (S → ℕ → Image → Type 0) → (S → ℕ) → (T → Option (List ℕ)) → (T → ℕ) → (Net → Published → List Note → Type 0) → Told →
+abbrev pub IsDue : {S T : Type 0} → StoreFacts S → (T → Option (List ℕ)) → (T → ℕ) → (Net → Published → List Note → Type 0) → Told →
     (List ℕ → Type 0) → ServerAsked → List (Option T) → List (Tail T) → Journal S → Journal S → Status → List ℕ → Type 0
-IsDue tells seen shown may_leave moment left_since store_faults given faults up told is_sound asked feeds tails old new status text =
+IsDue facts given faults up told is_sound asked feeds tails old new status text =
     IsOfFiles told is_sound asked status text
     ⊎ IsOver told asked
-    (IsDueOver tells seen shown may_leave moment left_since store_faults given faults up asked.run.feeds asked.store feeds tails old new status)
-    text
+    (IsDueOver facts given faults up asked.run.feeds asked.store feeds tails old new status) text
 
 -- a call of some feed has failed
 pub record HasUnsynced {T : Type 0} (faults : T → ℕ) : Type 0 where
@@ -160,16 +152,16 @@ pub record HasUnsynced {T : Type 0} (faults : T → ℕ) : Type 0 where
   pub risen : HasRisen (faults feed) (faults later)
 
 -- The sink failed so; or a call of the store has failed, or a feed could not be synced, and nothing was written to the sink.
-abbrev pub HasWriteFault : {K S T : Type 0} → (K → Option (List ℕ)) → (K → ℕ) → (S → ℕ) → (T → ℕ) → K → K → Journal S →
+abbrev pub HasWriteFault : {K S T : Type 0} → (K → Option (List ℕ)) → (K → ℕ) → StoreFacts S → (T → ℕ) → K → K → Journal S →
     Journal S → (Status → List ℕ → Type 0) → Type 0
-HasWriteFault taken sink_faults store_faults faults before now old new due =
+HasWriteFault taken sink_faults facts faults before now old new due =
     FailsToWrite taken sink_faults before now due
-    ⊎ (Keeps (taken before) (taken now) × (HasRisen (store_faults old.store) (store_faults new.store) ⊎ HasUnsynced faults))
+    ⊎ (Keeps (taken before) (taken now) × (HasRisen (facts.faults old.store) (facts.faults new.store) ⊎ HasUnsynced faults))
 
 -- how a server ends, by its status
-abbrev pub Ends : {K S T : Type 0} → (K → Option (List ℕ)) → (K → ℕ) → (S → ℕ) → (T → ℕ) → (Status → List ℕ → Type 0) → K → K →
+abbrev pub Ends : {K S T : Type 0} → (K → Option (List ℕ)) → (K → ℕ) → StoreFacts S → (T → ℕ) → (Status → List ℕ → Type 0) → K → K →
     Journal S → Journal S → Status → Type 0
-Ends taken sink_faults store_faults faults due before now old new WriteFault =
-    HasWriteFault taken sink_faults store_faults faults before now old new due
-Ends taken sink_faults store_faults faults due before now old new NoMemory = Keeps (taken before) (taken now)
-Ends taken sink_faults store_faults faults due before now old new status = Writes (taken before) (taken now) (due status)
+Ends taken sink_faults facts faults due before now old new WriteFault =
+    HasWriteFault taken sink_faults facts faults before now old new due
+Ends taken sink_faults facts faults due before now old new NoMemory = Keeps (taken before) (taken now)
+Ends taken sink_faults facts faults due before now old new status = Writes (taken before) (taken now) (due status)

@@ -3,7 +3,8 @@ use Rattle.std.specs.Prelude.{ℕ, ◌≡◌, ◌⊎◌, List, [], length, map, 
 use Rattle.dm_cert.specs.Answers.{Setting}
 use Rattle.dm_input.specs.Input.{Opening, OpeningAnswer, Told}
 use Rattle.dm_words.specs.Serving.{ServerAsked}
-use Rattle.dm_store.specs.Calls.{AreFronts, AddsNone, Image, LeavesOnly}
+use Rattle.dm_store.specs.declared.store.Store.{Ghosts as StoreFacts}
+use Rattle.dm_store.specs.Calls.{AreFronts, AddsNone, LeavesOnly}
 use Rattle.dm_store.specs.Journals.{HasCrashEnd, IsFound}
 use Rattle.dm_store.specs.declared.journal.Journal.{Journal}
 use Rattle.dm_book.specs.Books.{Book, IsFrontBook, IsSafe, reply_text}
@@ -19,18 +20,18 @@ NothingIsRead {T} given feeds = (place : ℕ) (feed : T) → slice_get feeds pla
 
 -- The store was found with these blocks on the disk, and an end that a crash may leave. They hold this true book, of so many feeds, and
 -- what was shown is a front of its logs. So it is after a crash of an earlier life, and where nothing was served yet.
-pub record IsTakenUp {S : Type 0} (tells : S → Type 0) (seen : S → List ℕ) (shown : S → List (List ℕ)) (may_leave : S → Image → Type 0)
+pub record IsTakenUp {S : Type 0} (facts : StoreFacts S)
     (s : Setting) (feeds : ℕ) (store : S) (contents : List (List ℕ)) (book : Book) : Type 0 where
-  pub found : IsFound tells seen may_leave contents store
-  pub crash_end : HasCrashEnd contents (seen store)
+  pub found : IsFound facts.tells facts.seen facts.may_leave contents store
+  pub crash_end : HasCrashEnd contents (facts.seen store)
   pub restored : IsRestored s feeds contents book
-  pub shown_fronts : AreFronts (shown store) (map reply_text book.logs)
+  pub shown_fronts : AreFronts (facts.shown store) (map reply_text book.logs)
 
 -- a store that was only looked at
-pub record IsLeft {S : Type 0} (seen : S → List ℕ) (shown : S → List (List ℕ)) (may_leave : S → Image → Type 0) (old new : S) : Type 0 where
-  pub journal : seen new ≡ seen old
-  pub replies : shown new ≡ shown old
-  pub none : AddsNone (may_leave old) (may_leave new)
+pub record IsLeft {S : Type 0} (facts : StoreFacts S) (old new : S) : Type 0 where
+  pub journal : facts.seen new ≡ facts.seen old
+  pub replies : facts.shown new ≡ facts.shown old
+  pub none : AddsNone (facts.may_leave old) (facts.may_leave new)
 
 -- ---- feeds
 
@@ -51,31 +52,28 @@ AreFeedsOf source sources tails = (tails ≡ []) ⊎ (map (tail_source source) t
 -- Whatever a crash left at any moment of a life is safe between the first book and one last book, which is the same for all moments and
 -- goes on from the first. What was shown then is a front of what is shown at the end. Nothing was answered in that life, or each log
 -- of the last book answers a front of its own feed's source.
-pub record LivesOn {S : Type 0} (shown : S → List (List ℕ)) (moment : S → ℕ) (left_since : S → ℕ → Image → Type 0) (s : Setting)
+pub record LivesOn {S : Type 0} (facts : StoreFacts S) (s : Setting)
     (first : Book) (sources : List (Option (List ℕ))) (old new : S) : Type 0 where
   pub last : Book
   pub grows : IsFrontBook first last
-  pub leaves : LeavesOnly moment left_since old new (IsSafe s first last)
-  pub shows : LeavesOnly moment left_since old new (λ image. AreFronts image.shown (shown new))
+  pub leaves : LeavesOnly facts.moment facts.left_since old new (IsSafe s first last)
+  pub shows : LeavesOnly facts.moment facts.left_since old new (λ image. AreFronts image.shown (facts.shown new))
   pub answers : (last ≡ first) ⊎ AnswerFronts sources last.logs
 
 -- Whatever true book was found, the life goes on from it.
-abbrev pub KeepsBooks : {S : Type 0} → (S → Type 0) → (S → List ℕ) → (S → List (List ℕ)) → (S → Image → Type 0) → (S → ℕ) →
-    (S → ℕ → Image → Type 0) → Setting → ℕ → List (Option (List ℕ)) → S → S → Type 0
-KeepsBooks tells seen shown may_leave moment left_since s feeds sources old new =
-    (contents : List (List ℕ)) (first : Book) → IsTakenUp tells seen shown may_leave s feeds old contents first →
-    LivesOn shown moment left_since s first sources old new
+abbrev pub KeepsBooks : {S : Type 0} → StoreFacts S → Setting → ℕ → List (Option (List ℕ)) → S → S → Type 0
+KeepsBooks facts s feeds sources old new =
+    (contents : List (List ℕ)) (first : Book) → IsTakenUp facts s feeds old contents first →
+    LivesOn facts s first sources old new
 
 -- The files under the names of the words determine a network and start rows, over which books are kept.
-pub record KeepsBooksOver {S : Type 0} (tells : S → Type 0) (seen : S → List ℕ) (shown : S → List (List ℕ))
-    (may_leave : S → Image → Type 0) (moment : S → ℕ) (left_since : S → ℕ → Image → Type 0)
+pub record KeepsBooksOver {S : Type 0} (facts : StoreFacts S)
     (told : Told) (asked : ServerAsked) (sources : List (Option (List ℕ))) (old new : S) : Type 0 where
   pub opening : Opening
   pub opens : OpeningAnswer told asked.run.files (Ok opening)
-  pub keeps : KeepsBooks tells seen shown may_leave moment left_since (setting_for asked opening) (length asked.run.feeds) sources old new
+  pub keeps : KeepsBooks facts (setting_for asked opening) (length asked.run.feeds) sources old new
 
 -- Nothing was done to the store, or it was taken up and books are kept.
-abbrev pub LivesSafely : {S : Type 0} → (S → Type 0) → (S → List ℕ) → (S → List (List ℕ)) → (S → Image → Type 0) → (S → ℕ) →
-    (S → ℕ → Image → Type 0) → Told → ServerAsked → List (Option (List ℕ)) → Journal S → Journal S → Type 0
-LivesSafely tells seen shown may_leave moment left_since told asked sources old new =
-    (new ≡ old) ⊎ KeepsBooksOver tells seen shown may_leave moment left_since told asked sources old.store new.store
+abbrev pub LivesSafely : {S : Type 0} → StoreFacts S → Told → ServerAsked → List (Option (List ℕ)) → Journal S → Journal S → Type 0
+LivesSafely facts told asked sources old new =
+    (new ≡ old) ⊎ KeepsBooksOver facts told asked sources old.store new.store

@@ -51,12 +51,11 @@ pub fn go_round<
     ensures going { IfOk result (IsGoing T.given (setting_of watch.entry.desk.plans watch.entry.desk.table)
         (length watch.entry.feeds.items)) }
     ensures goes { (s : Setting) (first : Book) (start : S)
-        → GoesOver S.tells S.seen S.shown S.may_leave S.moment S.left_since s first (map (source_in T.source) watch.entry.feeds.items) start
+        → GoesOver S.Store s first (map (source_in T.source) watch.entry.feeds.items) start
         watch.entry journal.old journal.new result }
     ensures sources { IfOk result (λ r. map (source_in T.source) r.feeds.items ≡ map (source_in T.source) watch.entry.feeds.items) }
     ensures none_left { IfOk result (λ r. All HasNoneLeft r.feeds.items) }
-    ensures stops { IfErr result (StopsGoing S.tells S.seen S.shown S.may_leave S.moment S.left_since T.given S.faults T.faults watch.entry
-        journal.old journal.new) }
+    ensures stops { IfErr result (StopsGoing S.Store T.given T.faults watch.entry journal.old journal.new) }
     ensures told { IfOk result (λ _. W.told pace.new) }
     ensures later { S.faults journal.old.store ≤ S.faults journal.new.store }
     ensures up { IfOk result (λ r. AreUp place times flags (λ b. (Board-box b).faults b.value) (λ b. (Board-box b).is_sound b.value)
@@ -101,17 +100,16 @@ fn go_once<
     ensures going { IfOk result (λ r. (s : Setting) (n : ℕ) → IsGoing T.given s n watch.entry → IsGoing T.given s n r.0) }
     ensures gone { IfOk result (λ r. (s : Setting) (first : Book) (start : S)
         → setting_of watch.entry.desk.plans watch.entry.desk.table ≡ s
-        → HasGone S.tells S.seen S.shown S.may_leave S.moment S.left_since s first watch.entry start journal.old
-        → HasGone S.tells S.seen S.shown S.may_leave S.moment S.left_since s first r.0 start journal.new) }
+        → HasGone S.Store s first watch.entry start journal.old
+        → HasGone S.Store s first r.0 start journal.new) }
     ensures leaves { (s : Setting) (first : Book) (start : S)
         → setting_of watch.entry.desk.plans watch.entry.desk.table ≡ s
-        → HasGone S.tells S.seen S.shown S.may_leave S.moment S.left_since s first watch.entry start journal.old
-        → LivesOn S.shown S.moment S.left_since s first (map (source_in T.source) watch.entry.feeds.items) start journal.new.store }
+        → HasGone S.Store s first watch.entry start journal.old
+        → LivesOn S.Store s first (map (source_in T.source) watch.entry.feeds.items) start journal.new.store }
     ensures sources { IfOk result (λ r. map (source_in T.source) r.0.feeds.items ≡ map (source_in T.source) watch.entry.feeds.items) }
     ensures none_left { IfOk result (λ r. r.1 ≡ false → 0 < watch.entry.batch → All HasNoneLeft r.0.feeds.items) }
     ensures batch { IfOk result (λ r. r.0.batch ≡ watch.entry.batch) }
-    ensures stops { IfErr result (StopsGoing S.tells S.seen S.shown S.may_leave S.moment S.left_since T.given S.faults T.faults watch.entry
-        journal.old journal.new) }
+    ensures stops { IfErr result (StopsGoing S.Store T.given T.faults watch.entry journal.old journal.new) }
     ensures later { S.faults journal.old.store ≤ S.faults journal.new.store }
     ensures up { IfOk result (λ r. (first : List _)
         → AreUp place times flags (λ b. (Board-box b).faults b.value) (λ b. (Board-box b).is_sound b.value) watch.entry.desk.table

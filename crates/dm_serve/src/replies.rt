@@ -17,8 +17,8 @@ pub fn compare_replies<S: Store>(
     logs: &[FeedLog],
 ) -> Result<(), StartStop>
     requires { All IsSpelledLog logs.now }
-    ensures looks { Looks S.tells S.seen S.shown S.may_leave S.moment S.left_since store.old store.new }
-    ensures stops { IfErr result (StopsComparing S.tells S.shown S.faults logs.now store.old store.new) }
+    ensures looks { Looks S.Store store.old store.new }
+    ensures stops { IfErr result (StopsComparing S.Store logs.now store.old store.new) }
     ensures later { S.faults store.old ≤ S.faults store.new }
 {
     for place in 0..logs.len() {
@@ -39,9 +39,9 @@ fn compare_reply<S: Store>(
     log: &FeedLog,
 ) -> Result<bool, StartStop>
     requires { IsSpelledLog log.now }
-    ensures looks { Looks S.tells S.seen S.shown S.may_leave S.moment S.left_since store.old store.new }
-    ensures compares { IfOk result (ComparesOne S.tells S.shown store.old log.now.items place) }
-    ensures stops { IfErr result (StopsReading S.faults store.old store.new) }
+    ensures looks { Looks S.Store store.old store.new }
+    ensures compares { IfOk result (ComparesOne S.Store store.old log.now.items place) }
+    ensures stops { IfErr result (StopsReading S.Store store.old store.new) }
     ensures later { S.faults store.old ≤ S.faults store.new }
 {
     let Ok(text) = items_text(alloc, log.items.as_slice()) else {
@@ -60,8 +60,8 @@ pub fn renew_replies<S: Store, T: Growing + Drop>(
     feeds: &[Watched<T>],
 ) -> Result<(), StartStop>
     requires spelled { All (λ w. All IsSpelledItem w.log.items) feeds.now }
-    ensures puts { PutsReplies S.tells S.seen S.shown S.may_leave S.moment S.left_since feeds.now store.old store.new result }
-    ensures stops { IfErr result (StopsRenewing S.faults store.old store.new) }
+    ensures puts { PutsReplies S.Store feeds.now store.old store.new result }
+    ensures stops { IfErr result (StopsRenewing S.Store store.old store.new) }
     ensures later { S.faults store.old ≤ S.faults store.new }
 {
     for place in 0..feeds.len() {
@@ -81,8 +81,8 @@ fn renew_reply<S: Store, T: Growing + Drop>(
     watched: &Watched<T>,
 ) -> Result<(), StartStop>
     requires { All IsSpelledItem watched.now.log.items }
-    ensures puts { PutsOne S.tells S.seen S.shown S.may_leave S.moment S.left_since watched.now place store.old store.new result }
-    ensures stops { IfErr result (StopsRenewing S.faults store.old store.new) }
+    ensures puts { PutsOne S.Store watched.now place store.old store.new result }
+    ensures stops { IfErr result (StopsRenewing S.Store store.old store.new) }
     ensures later { S.faults store.old ≤ S.faults store.new }
 {
     let Ok(text) = items_text(alloc, &watched.log) else {

@@ -1,11 +1,10 @@
 //! A server, from its words to its end.
 ghost use Rattle.std.specs.Prelude.{◌≡◌, ◌≤◌, ◌<◌, List, Option, Ok, All, length, map, vec_len, IfOk};
-ghost use Rattle.std.specs.Io.KnownBytes.{Keeps};
-ghost use Rattle.std.specs.Thread.{IsSync};
-ghost use Rattle.dm_base.specs.declared.limits.TheConstants.{BOARDS, BUDGET, PENALTY, WORKERS};
+ghost use Rattle.dm_base.specs.declared.limits.TheConstants.{BOARDS};
 ghost use Rattle.dm_rows.specs.Active.{HasNoCycle};
 ghost use Rattle.dm_rows.specs.Rows.{IsSized};
-ghost use Rattle.dm_desk.specs.Planning.{FindsFor, budget_of};
+ghost use Rattle.dm_desk.specs.Planning.{FindsFor};
+ghost use Rattle.dm_desk.specs.Searching.{MaySearch, Searches};
 ghost use Rattle.dm_cert.specs.RunTexts.{IsSpelledLog};
 ghost use Rattle.dm_input.specs.Stops.{IsKept};
 ghost use Rattle.dm_words.specs.ServerAsked.{server_of};
@@ -18,8 +17,7 @@ ghost use Rattle.dm_catch_up.specs.Catching.{IsFresh};
 ghost use Rattle.dm_restore.specs.Start.{book_back};
 ghost use Rattle.dm_serve.specs.Lives.{AreFeedsOf, KeepsBooks, LivesSafely, NothingIsRead, source_of};
 ghost use Rattle.dm_store_text.specs.Asked.{IsAsked, IsWithin, setting_for};
-ghost use Rattle.dm_serve.specs.Ends.{Ends, HasWriteFault, IsDue, IsDueOver};
-ghost use Rattle.dm_store_text.specs.Written.{Writes};
+ghost use Rattle.dm_serve.specs.Ends.{Ends, IsDue, IsDueOver};
 ghost use Rattle.dm_serve.specs.Inside.Opening.{asked_in, opened};
 ghost use Rattle.dm_serve.specs.Inside.Stages.{HasGoneSince, IsReadBack};
 
@@ -29,9 +27,8 @@ use crate::going::go_round;
 use crate::opening::watched_of;
 use crate::pace::Pace;
 use crate::starting::{catch_up_all, read_back, take_up};
-use dm_desk::{HoldPoint, Search};
+use dm_desk::{PlanRequest, Search};
 use dm_display::Display;
-use dm_find::find;
 use dm_input::{Opened, read_opening};
 use dm_network::Network;
 use dm_outside::{Board, Shelf, Sink};
@@ -45,14 +42,13 @@ use dm_watch::Watch;
 use dm_words::ServeWords;
 use std::alloc::{AllocError, Global};
 use std::sync::Wait;
-use std::thread::Threads;
 
-/// What a server may use: threads, memory, and the gate that workers pass.
+/// What a server may use: what may wait, memory, and what searches for plans.
 #[derive(Drop)]
-pub struct ServerMeans<'s, R, G> {
-    pub rt: &'s R,
+pub struct ServerMeans<'r, 's, R, F> {
+    pub rt: &'r R,
     pub alloc: Global,
-    pub gate: &'s G,
+    pub search: &'s F,
 }
 
 /// What a server is to do: the words that ask for it, and their feeds, each if it could be opened.
@@ -65,15 +61,15 @@ pub struct Server<'a, T: Drop> {
 /// Reads the files of a server, takes up what its store holds, and answers its feeds as they grow until it is told to end. Then it
 /// prints the text of the run. The journal is one of which nothing was read.
 pub fn serve_day<
-    R: Threads + Wait + Sync,
+    R: Wait,
+    F: Fn(&PlanRequest<'_>) -> Result<AnyPlan, AllocError>,
     H: Shelf,
     T: Growing + Drop,
     S: Store,
     W: Pace,
-    G: HoldPoint + Sync,
     K: Sink,
 >(
-    means: &ServerMeans<'_, R, G>,
+    means: &ServerMeans<'_, '_, R, F>,
     server: Server<'_, T>,
     shelf: &mut H,
     journal: &mut Journal<S>,
@@ -81,38 +77,26 @@ pub fn serve_day<
     pace: &mut W,
     out: &mut K,
 ) -> DayEnd<T>
+    requires searches { Searches (F.pre means.now.search.now) (F.post means.now.search.now) }
     requires asked { IsAsked (server_of server.words) }
     requires as_many { length server.feeds.items ≡ length (server_of server.words).run.feeds }
     requires unread { NothingIsRead T.given server.feeds.items }
     requires few_boards { vec_len boards.old ≤ BOARDS }
 
-    // The text is that of a true run, which goes on from what the store held. Each log answers a front of its feed.
-    ensures headline { result.status ≡ Status.Ok → Writes (K.taken out.old) (K.taken out.new)
-        (IsDue S.tells S.seen S.shown S.may_leave S.moment S.left_since S.faults T.given T.faults
+    // What is written has its cause, by the status. At Ok it is the text of a true run, which goes on from what the store held, and each
+    // log answers a front of its feed.
+    ensures ends { Ends K.taken K.faults S.Store T.faults (IsDue S.Store T.given T.faults
         (⟦<BoardList as Shown>⟧.up boards.old boards.new) (H.files shelf.old) (H.is_sound shelf.old)
-        (server_of server.entry.words) server.entry.feeds.items result.tails.items journal.old journal.new Status.Ok) }
+        (server_of server.entry.words) server.entry.feeds.items result.tails.items journal.old journal.new)
+        out.old out.new journal.old journal.new result.status }
 
-    // Each other status has its cause.
-    ensures refused { result.status ≡ Status.Refused → Writes (K.taken out.old) (K.taken out.new)
-        (IsDue S.tells S.seen S.shown S.may_leave S.moment S.left_since S.faults T.given T.faults
-        (⟦<BoardList as Shown>⟧.up boards.old boards.new) (H.files shelf.old) (H.is_sound shelf.old)
-        (server_of server.entry.words) server.entry.feeds.items result.tails.items journal.old journal.new Status.Refused) }
-    ensures read_fault { result.status ≡ Status.ReadFault → Writes (K.taken out.old) (K.taken out.new)
-        (IsDue S.tells S.seen S.shown S.may_leave S.moment S.left_since S.faults T.given T.faults
-        (⟦<BoardList as Shown>⟧.up boards.old boards.new) (H.files shelf.old) (H.is_sound shelf.old)
-        (server_of server.entry.words) server.entry.feeds.items result.tails.items journal.old journal.new Status.ReadFault) }
-    ensures write_fault { result.status ≡ Status.WriteFault → HasWriteFault K.taken K.faults S.faults T.faults out.old out.new
-        journal.old journal.new (IsDue S.tells S.seen S.shown S.may_leave S.moment S.left_since S.faults T.given T.faults
-        (⟦<BoardList as Shown>⟧.up boards.old boards.new) (H.files shelf.old) (H.is_sound shelf.old)
-        (server_of server.entry.words) server.entry.feeds.items result.tails.items journal.old journal.new) }
-    ensures no_memory { result.status ≡ Status.NoMemory → Keeps (K.taken out.old) (K.taken out.new) }
     // It ends so only where it was told to.
     ensures told { result.status ≡ Status.Ok → W.told pace.new }
     ensures words_are_good { result.status ≡ Status.Usage → ⊥ }
 
     // A crash at any moment leaves a true book between the one that was found and one last book, and whatever was shown is a front of
     // its logs. Each log of the last book answers a front of its own feed.
-    ensures any_moment { LivesSafely S.tells S.seen S.shown S.may_leave S.moment S.left_since (H.files shelf.old)
+    ensures any_moment { LivesSafely S.Store (H.files shelf.old)
         (server_of server.entry.words) (map (source_of T.source) server.entry.feeds.items) journal.old journal.new }
 
     // The feeds come back as they were given, in their order, or not at all.
@@ -129,15 +113,15 @@ pub fn serve_day<
 
 /// Reads the files of a server, and serves over the network and the start rows that they make.
 fn serve_files<
-    R: Threads + Wait + Sync,
+    R: Wait,
+    F: Fn(&PlanRequest<'_>) -> Result<AnyPlan, AllocError>,
     H: Shelf,
     T: Growing + Drop,
     S: Store,
     W: Pace,
-    G: HoldPoint + Sync,
     K: Sink,
 >(
-    means: &ServerMeans<'_, R, G>,
+    means: &ServerMeans<'_, '_, R, F>,
     server: Server<'_, T>,
     shelf: &mut H,
     journal: &mut Journal<S>,
@@ -145,16 +129,16 @@ fn serve_files<
     pace: &mut W,
     out: &mut K,
 ) -> DayEnd<T>
+    requires searches { Searches (F.pre means.now.search.now) (F.post means.now.search.now) }
     requires within { IsWithin (server_of server.words) }
     requires as_many { length server.feeds.items ≡ length (server_of server.words).run.feeds }
     requires unread { NothingIsRead T.given server.feeds.items }
     requires few_boards { vec_len boards.old ≤ BOARDS }
-    ensures ends { Ends K.taken K.faults S.faults T.faults
-        (IsDue S.tells S.seen S.shown S.may_leave S.moment S.left_since S.faults T.given T.faults
+    ensures ends { Ends K.taken K.faults S.Store T.faults (IsDue S.Store T.given T.faults
         (⟦<BoardList as Shown>⟧.up boards.old boards.new) (H.files shelf.old) (H.is_sound shelf.old)
         (server_of server.entry.words) server.entry.feeds.items result.tails.items journal.old journal.new)
         out.old out.new journal.old journal.new result.status }
-    ensures safely { LivesSafely S.tells S.seen S.shown S.may_leave S.moment S.left_since (H.files shelf.old)
+    ensures safely { LivesSafely S.Store (H.files shelf.old)
         (server_of server.entry.words) (map (source_of T.source) server.entry.feeds.items) journal.old journal.new }
     ensures same_feeds { AreFeedsOf T.source (map (source_of T.source) server.entry.feeds.items) result.tails.items }
     ensures told { result.status ≡ Status.Ok → W.told pace.new }
@@ -180,22 +164,22 @@ fn serve_files<
 
 /// A server whose files are read: what it may use, the words that ask for it, and its network.
 #[derive(Drop)]
-struct Serving<'s, 'm, 'w, R, G> {
-    means: &'s ServerMeans<'m, R, G>,
+struct Serving<'s, 'r, 'f, 'w, R, F> {
+    means: &'s ServerMeans<'r, 'f, R, F>,
     words: &'s ServeWords<'w>,
     net: &'s Network,
 }
 
 /// Serves over a network and start rows.
 fn serve_over<
-    R: Threads + Wait + Sync,
+    R: Wait,
+    F: Fn(&PlanRequest<'_>) -> Result<AnyPlan, AllocError>,
     T: Growing + Drop,
     S: Store,
     W: Pace,
-    G: HoldPoint + Sync,
     K: Sink,
 >(
-    serving: &Serving<'_, '_, '_, R, G>,
+    serving: &Serving<'_, '_, '_, '_, R, F>,
     rows: Rows,
     feeds: Vec<Option<T>>,
     journal: &mut Journal<S>,
@@ -203,19 +187,19 @@ fn serve_over<
     pace: &mut W,
     out: &mut K,
 ) -> DayEnd<T>
+    requires searches { Searches (F.pre serving.now.means.now.search.now) (F.post serving.now.means.now.search.now) }
     requires sized { IsSized serving.now.net.now rows }
     requires no_cycle { HasNoCycle serving.now.net.now rows }
     requires within { IsWithin (asked_in serving.now) }
     requires as_many { length feeds.items ≡ length (asked_in serving.now).run.feeds }
     requires unread { NothingIsRead T.given feeds.items }
     requires few_boards { vec_len boards.old ≤ BOARDS }
-    ensures ends { Ends K.taken K.faults S.faults T.faults
-        (λ status text. IsDueOver S.tells S.seen S.shown S.may_leave S.moment S.left_since S.faults T.given T.faults
+    ensures ends { Ends K.taken K.faults S.Store T.faults (λ status text. IsDueOver S.Store T.given T.faults
         (⟦<BoardList as Shown>⟧.up boards.old boards.new) (asked_in serving.now).run.feeds (asked_in serving.now).store feeds.items
         result.tails.items journal.old journal.new status
         (setting_for (asked_in serving.now) (record { net = serving.now.net.now; rows = rows })) text)
         out.old out.new journal.old journal.new result.status }
-    ensures keeps { KeepsBooks S.tells S.seen S.shown S.may_leave S.moment S.left_since
+    ensures keeps { KeepsBooks S.Store
         (setting_for (asked_in serving.now) (record { net = serving.now.net.now; rows = rows })) (length (asked_in serving.now).run.feeds)
         (map (source_of T.source) feeds.items) journal.old.store journal.new.store }
     ensures same_feeds { AreFeedsOf T.source (map (source_of T.source) feeds.items) result.tails.items }
@@ -253,14 +237,14 @@ fn serve_over<
 
 /// Serves feeds that go on with what was read back.
 fn serve_feeds<
-    R: Threads + Wait + Sync,
+    R: Wait,
+    F: Fn(&PlanRequest<'_>) -> Result<AnyPlan, AllocError>,
     T: Growing + Drop,
     S: Store,
     W: Pace,
-    G: HoldPoint + Sync,
     K: Sink,
 >(
-    serving: &Serving<'_, '_, '_, R, G>,
+    serving: &Serving<'_, '_, '_, '_, R, F>,
     restored: Restored<'_>,
     feeds: Vec<Watched<T>>,
     journal: &mut Journal<S>,
@@ -268,6 +252,7 @@ fn serve_feeds<
     pace: &mut W,
     out: &mut K,
 ) -> DayEnd<T>
+    requires searches { Searches (F.pre serving.now.means.now.search.now) (F.post serving.now.means.now.search.now) }
     requires network { restored.desk.table.network ≡ serving.now.net.now }
     requires within { IsWithin (asked_in serving.now) }
     requires penalty { restored.desk.table.penalty ≡ (asked_in serving.now).run.files.penalty }
@@ -279,18 +264,17 @@ fn serve_feeds<
     requires spelled { All IsSpelledLog restored.logs.items }
     requires few_boards { vec_len boards.old ≤ BOARDS }
     ensures ends { (start : Journal S) → S.faults start.store ≤ S.faults journal.old.store
-        → IsReadBack S.tells S.seen S.shown S.may_leave S.moment S.left_since
+        → IsReadBack S.Store
         (setting_of restored.entry.desk.plans restored.entry.desk.table) (length (asked_in serving.now).run.feeds)
         (book_back restored.entry) restored.entry.is_new start.store journal.old.store
-        → Ends K.taken K.faults S.faults T.faults
-        (λ status text. IsDueOver S.tells S.seen S.shown S.may_leave S.moment S.left_since S.faults T.given T.faults
+        → Ends K.taken K.faults S.Store T.faults (λ status text. IsDueOver S.Store T.given T.faults
         (⟦<BoardList as Shown>⟧.up boards.old boards.new) (asked_in serving.now).run.feeds (asked_in serving.now).store
         (map opened feeds.items) result.tails.items start journal.new status
         (setting_of restored.entry.desk.plans restored.entry.desk.table) text) out.old out.new start journal.new result.status }
-    ensures keeps { (start : S) → IsReadBack S.tells S.seen S.shown S.may_leave S.moment S.left_since
+    ensures keeps { (start : S) → IsReadBack S.Store
         (setting_of restored.entry.desk.plans restored.entry.desk.table) (length (asked_in serving.now).run.feeds)
         (book_back restored.entry) restored.entry.is_new start journal.old.store
-        → KeepsBooks S.tells S.seen S.shown S.may_leave S.moment S.left_since
+        → KeepsBooks S.Store
         (setting_of restored.entry.desk.plans restored.entry.desk.table) (length (asked_in serving.now).run.feeds)
         (map (source_in T.source) feeds.items) start journal.new.store }
     ensures same_feeds { AreFeedsOf T.source (map (source_in T.source) feeds.items) result.tails.items }
@@ -304,7 +288,7 @@ fn serve_feeds<
     let Ok(mut buffer) = zeros(serving.means.alloc, PIECE) else {
         return no_day(serving.means.alloc, Status::NoMemory);
     };
-    match catch_up_all(serving.means.alloc, &mut feeds, logs, &mut buffer) {
+    match catch_up_all(&mut feeds, logs, &mut buffer) {
         Ok(()) => {}
         Err(stop) => return end_at_feeds(serving.means.alloc, stop, serving.words, feeds, out),
     }
@@ -320,14 +304,14 @@ fn serve_feeds<
 
 /// Takes up what was found in the store, and serves feeds that go on with that.
 fn serve_found<
-    R: Threads + Wait + Sync,
+    R: Wait,
+    F: Fn(&PlanRequest<'_>) -> Result<AnyPlan, AllocError>,
     T: Growing + Drop,
     S: Store,
     W: Pace,
-    G: HoldPoint + Sync,
     K: Sink,
 >(
-    serving: &Serving<'_, '_, '_, R, G>,
+    serving: &Serving<'_, '_, '_, '_, R, F>,
     is_new: bool,
     watch: Watch<'_, T>,
     journal: &mut Journal<S>,
@@ -335,6 +319,7 @@ fn serve_found<
     pace: &mut W,
     out: &mut K,
 ) -> DayEnd<T>
+    requires searches { Searches (F.pre serving.now.means.now.search.now) (F.post serving.now.means.now.search.now) }
     requires network { watch.desk.table.network ≡ serving.now.net.now }
     requires within { IsWithin (asked_in serving.now) }
     requires penalty { watch.desk.table.penalty ≡ (asked_in serving.now).run.files.penalty }
@@ -345,19 +330,16 @@ fn serve_found<
     requires some { 0 < watch.batch }
     requires few_boards { vec_len boards.old ≤ BOARDS }
     ensures ends { (start : Journal S) (feeds : List (Option T)) → S.faults start.store ≤ S.faults journal.old.store
-        → IsReadBack S.tells S.seen S.shown S.may_leave S.moment S.left_since
-        (setting_of watch.entry.desk.plans watch.entry.desk.table) (length (asked_in serving.now).run.feeds)
+        → IsReadBack S.Store (setting_of watch.entry.desk.plans watch.entry.desk.table) (length (asked_in serving.now).run.feeds)
         (book_in watch.entry) is_new start.store journal.old.store
-        → Ends K.taken K.faults S.faults T.faults
-        (λ status text. IsDueOver S.tells S.seen S.shown S.may_leave S.moment S.left_since S.faults T.given T.faults
+        → Ends K.taken K.faults S.Store T.faults (λ status text. IsDueOver S.Store T.given T.faults
         (⟦<BoardList as Shown>⟧.up boards.old boards.new) (asked_in serving.now).run.feeds (asked_in serving.now).store
         feeds result.tails.items start journal.new status
         (setting_of watch.entry.desk.plans watch.entry.desk.table) text) out.old out.new start journal.new result.status }
-    ensures keeps { (start : S) → IsReadBack S.tells S.seen S.shown S.may_leave S.moment S.left_since
+    ensures keeps { (start : S) → IsReadBack S.Store
         (setting_of watch.entry.desk.plans watch.entry.desk.table) (length (asked_in serving.now).run.feeds)
         (book_in watch.entry) is_new start journal.old.store
-        → KeepsBooks S.tells S.seen S.shown S.may_leave S.moment S.left_since
-        (setting_of watch.entry.desk.plans watch.entry.desk.table) (length (asked_in serving.now).run.feeds)
+        → KeepsBooks S.Store (setting_of watch.entry.desk.plans watch.entry.desk.table) (length (asked_in serving.now).run.feeds)
         (map (source_in T.source) watch.entry.feeds.items) start journal.new.store }
     ensures same_feeds { AreFeedsOf T.source (map (source_in T.source) watch.entry.feeds.items) result.tails.items }
     ensures told { result.status ≡ Status.Ok → W.told pace.new }
@@ -385,20 +367,21 @@ fn zeros(alloc: Global, len: usize) -> Result<Vec<u8>, AllocError> {
 
 /// Goes round until the server is told to end, and prints the run then.
 fn serve_watch<
-    R: Threads + Wait + Sync,
+    R: Wait,
+    F: Fn(&PlanRequest<'_>) -> Result<AnyPlan, AllocError>,
     T: Growing + Drop,
     S: Store,
     W: Pace,
-    G: HoldPoint + Sync,
     K: Sink,
 >(
-    serving: &Serving<'_, '_, '_, R, G>,
+    serving: &Serving<'_, '_, '_, '_, R, F>,
     watch: Watch<'_, T>,
     journal: &mut Journal<S>,
     boards: &mut Vec<Box<dyn Board>>,
     pace: &mut W,
     out: &mut K,
 ) -> DayEnd<T>
+    requires searches { Searches (F.pre serving.now.means.now.search.now) (F.post serving.now.means.now.search.now) }
     requires network { watch.desk.table.network ≡ serving.now.net.now }
     requires within { IsWithin (asked_in serving.now) }
     requires penalty { watch.desk.table.penalty ≡ (asked_in serving.now).run.files.penalty }
@@ -408,20 +391,16 @@ fn serve_watch<
     requires some { 0 < watch.batch }
     requires few_boards { vec_len boards.old ≤ BOARDS }
     ensures ends { (start : Journal S) (feeds : List (Option T)) → S.faults start.store ≤ S.faults journal.old.store
-        → HasGoneSince S.tells S.seen S.shown S.may_leave S.moment S.left_since
-        (setting_of watch.entry.desk.plans watch.entry.desk.table)
+        → HasGoneSince S.Store (setting_of watch.entry.desk.plans watch.entry.desk.table)
         (length (asked_in serving.now).run.feeds) watch.entry start.store journal.old
-        → Ends K.taken K.faults S.faults T.faults
-        (λ status text. IsDueOver S.tells S.seen S.shown S.may_leave S.moment S.left_since S.faults T.given T.faults
+        → Ends K.taken K.faults S.Store T.faults (λ status text. IsDueOver S.Store T.given T.faults
         (⟦<BoardList as Shown>⟧.up boards.old boards.new) (asked_in serving.now).run.feeds (asked_in serving.now).store
         feeds result.tails.items start journal.new status
         (setting_of watch.entry.desk.plans watch.entry.desk.table) text) out.old out.new start journal.new result.status }
     ensures keeps { (start : S)
-        → HasGoneSince S.tells S.seen S.shown S.may_leave S.moment S.left_since
-        (setting_of watch.entry.desk.plans watch.entry.desk.table)
+        → HasGoneSince S.Store (setting_of watch.entry.desk.plans watch.entry.desk.table)
         (length (asked_in serving.now).run.feeds) watch.entry start journal.old
-        → KeepsBooks S.tells S.seen S.shown S.may_leave S.moment S.left_since
-        (setting_of watch.entry.desk.plans watch.entry.desk.table)
+        → KeepsBooks S.Store (setting_of watch.entry.desk.plans watch.entry.desk.table)
         (length (asked_in serving.now).run.feeds) (map (source_in T.source) watch.entry.feeds.items) start journal.new.store }
     ensures same_feeds { AreFeedsOf T.source (map (source_in T.source) watch.entry.feeds.items) result.tails.items }
     ensures told { result.status ≡ Status.Ok → W.told pace.new }
@@ -429,31 +408,30 @@ fn serve_watch<
     ensures store_later { S.faults journal.old.store ≤ S.faults journal.new.store }
     ensures stays { map place boards.new.items ≡ map place boards.old.items }
 {
+    let means = serving.means;
     let net = serving.net;
     net.reveal();
-    let Ok(mut display) = Display::new(serving.means.alloc, net, boards.len()) else {
-        return no_day(serving.means.alloc, Status::NoMemory);
+    let Ok(mut display) = Display::new(means.alloc, net, boards.len()) else {
+        return no_day(means.alloc, Status::NoMemory);
     };
     let penalty = serving.words.run.files.penalty;
     let workers = serving.words.run.workers;
     let planner = |snapshot: &Snapshot, asked: Search| -> Result<AnyPlan, AllocError>
-        requires { IsSync R.row × IsSync G.row × (penalty ≤ PENALTY) × (1 ≤ workers) × (workers ≤ WORKERS) × (1 ≤ budget_of asked)
-            × (budget_of asked ≤ BUDGET) × IsSized net.now snapshot.now.rows × HasNoCycle net.now snapshot.now.rows }
+        requires { Searches (F.pre means.now.search.now) (F.post means.now.search.now)
+            × MaySearch (record { net = net; penalty = penalty; snapshot = snapshot; asked = asked; workers = workers }) }
         ensures { IfOk result (FindsFor net.entry.now penalty snapshot.now asked) }
     {
-        find(
-            serving.means.rt,
-            serving.means.alloc,
+        let request = PlanRequest {
             net,
             penalty,
             snapshot,
             asked,
             workers,
-            serving.means.gate,
-        )
+        };
+        (means.search)(&request)
     };
     match go_round(
-        serving.means.rt,
+        means.rt,
         watch,
         journal,
         &planner,
@@ -462,6 +440,6 @@ fn serve_watch<
         pace,
     ) {
         Ok(watch) => end_day(watch, display.publisher.notes(), out),
-        Err(stop) => no_day(serving.means.alloc, end_round(stop, out)),
+        Err(stop) => no_day(means.alloc, end_round(stop, out)),
     }
 }

@@ -65,12 +65,11 @@ pub fn read_back<'n, S: Store>(
     ensures is_true { IfOk result (λ r. IsTrueBook (setting_of_head net.now start head) (book_back r)) }
     ensures spelled { IfOk result (λ r. All IsSpelledLog r.logs.items) }
     ensures as_many { IfOk result (λ r. length r.logs.items ≡ head.feeds) }
-    ensures looks { Looks S.tells S.seen S.shown S.may_leave S.moment S.left_since store.old store.new }
-    ensures finds { IfOk result (λ r. FindsBook S.tells S.seen S.shown S.may_leave (setting_of_head net.now start head) head.feeds
+    ensures looks { Looks S.Store store.old store.new }
+    ensures finds { IfOk result (λ r. FindsBook S.Store (setting_of_head net.now start head) head.feeds
         (book_back r) r.is_new store.old) }
-    ensures whole { IfOk result (λ _. IsWholeEnd S.tells S.seen S.may_leave store.old) }
-    ensures stops { IfErr result (StopsReadingBack S.tells S.seen S.shown S.may_leave S.faults (setting_of_head net.now start head)
-        head.feeds store.old store.new) }
+    ensures whole { IfOk result (λ _. IsWholeEnd S.Store store.old) }
+    ensures stops { IfErr result (StopsReadingBack S.Store (setting_of_head net.now start head) head.feeds store.old store.new) }
     ensures later { S.faults store.old ≤ S.faults store.new }
 {
     let bytes = match store.read(alloc) {
@@ -96,9 +95,8 @@ pub fn take_up<S: Store, T: Growing + Drop>(
     feeds: &[Watched<T>],
 ) -> Result<(), StartStop>
     requires spelled { All (λ w. All IsSpelledItem w.log.items) feeds.now }
-    ensures takes { TakesUp S.tells S.seen S.shown S.may_leave S.moment S.left_since head is_new feeds.now journal.old journal.new
-        result }
-    ensures stops { IfErr result (StopsPutting S.tells S.seen S.shown S.may_leave S.faults journal.old.store journal.new.store) }
+    ensures takes { TakesUp S.Store head is_new feeds.now journal.old journal.new result }
+    ensures stops { IfErr result (StopsPutting S.Store journal.old.store journal.new.store) }
     ensures later { S.faults journal.old.store ≤ S.faults journal.new.store }
 {
     match put_right(alloc, head, is_new, journal) {
@@ -115,9 +113,9 @@ fn put_right<S: Store>(
     is_new: bool,
     journal: &mut Journal<S>,
 ) -> Result<(), StartStop>
-    ensures right { PutsRight S.tells S.seen S.shown S.may_leave S.moment S.left_since head is_new journal.old journal.new result }
+    ensures right { PutsRight S.Store head is_new journal.old journal.new result }
     ensures told { S.tells journal.old.store → S.tells journal.new.store }
-    ensures stops { IfErr result (StopsPutting S.tells S.seen S.shown S.may_leave S.faults journal.old.store journal.new.store) }
+    ensures stops { IfErr result (StopsPutting S.Store journal.old.store journal.new.store) }
     ensures later { S.faults journal.old.store ≤ S.faults journal.new.store }
 {
     match journal.recover(alloc) {
@@ -139,7 +137,6 @@ fn put_right<S: Store>(
 
 /// Lets each feed go on with its log.
 pub fn catch_up_all<T: Growing + Drop>(
-    alloc: Global,
     feeds: &mut Vec<Watched<T>>,
     logs: Vec<FeedLog>,
     buffer: &mut [u8],
@@ -154,7 +151,7 @@ pub fn catch_up_all<T: Growing + Drop>(
 {
     let mut place = 0;
     for log in logs {
-        match go_on_with(alloc, &mut feeds[place], log, buffer) {
+        match go_on_with(&mut feeds[place], log, buffer) {
             Ok(()) => {}
             Err(stop) => return Err(stop_of_feed(place, stop)),
         }
@@ -165,7 +162,6 @@ pub fn catch_up_all<T: Growing + Drop>(
 
 /// Lets a feed of which nothing was read go on with a log.
 fn go_on_with<T: Growing + Drop>(
-    alloc: Global,
     watched: &mut Watched<T>,
     log: FeedLog,
     buffer: &mut [u8],
@@ -178,7 +174,7 @@ fn go_on_with<T: Growing + Drop>(
     let FeedLog { items, stop: _ } = log;
     watched.log = items.into_vec();
     watched.shown = watched.log.len();
-    catch_up(alloc, watched, buffer)
+    catch_up(watched, buffer)
 }
 
 pub fn stop_of_read(error: StoreError) -> StartStop

@@ -1,9 +1,9 @@
 -- How the text of a store ends.
-use Rattle.std.proofs.Common.{◌≡◌, ◌≢◌, ℕ, inl, inr, List, length, Option, None, Some, Ok, refl, sym, subst, ◌∙◌}
+use Rattle.std.proofs.Common.{◌≡◌, ◌≢◌, ℕ, inl, inr, List, length, Option, None, Some, Ok, refl, sym, subst}
 use Rattle.std.specs.Io.KnownBytes.{Appends, Keeps}
 use Rattle.dm_cert.specs.Answers.{Setting}
 use Rattle.dm_input.specs.Input.{IsHeld, Opening, OpeningAnswer, Told}
-use Rattle.dm_input.specs.Stops.{IsKept, IsLong, StopsOpening}
+use Rattle.dm_input.specs.Stops.{IsLong, StopsOpening}
 use Rattle.dm_input.specs.declared.flaws.InputStop.{InputStop}
 use Rattle.dm_input.specs.declared.flaws.InputStop.TheVariants as files
 use Rattle.dm_words.specs.Serving.{ServerAsked}
@@ -153,7 +153,3 @@ module _ {K : Type 0} (taken : K → Option (List ℕ)) (faults : K → ℕ) (to
   ends_over later sound_later opening same sound opens result h =
       ends_more taken faults before now (λ status text. IsOfStore later sound_later asked status (setting_for asked opening) text) (IsDueText told is_sound asked)
       (λ status text is. inr (record { opening = opening; opens = opens; is_due = of_kept later sound_later opening same sound status text is })) result h
-
--- shelves one after another
-pub kept_then : {H : Type 0} (files : H → Told) (is_sound : H → List ℕ → Type 0) (a b c : H) → IsKept files is_sound a b → IsKept files is_sound b c → IsKept files is_sound a c
-kept_then files is_sound a b c one two = record { same = two.same ∙ one.same; sound = λ name s. two.sound name (one.sound name s) }

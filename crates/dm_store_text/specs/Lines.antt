@@ -3,22 +3,10 @@ use Rattle.std.specs.Prelude.{ℕ, List, [], ◌∷◌, ◌++◌, codes}
 use Rattle.std.specs.Fmt.{decimal}
 use Rattle.dm_outside.specs.Printing.{joined}
 use Rattle.dm_input.specs.Lines.{line_end}
+use Rattle.dm_check.specs.KindWords.{kind_word}
 use Rattle.dm_check.specs.declared.verdicts.BadKind.{BadKind}
-use Rattle.dm_check.specs.declared.verdicts.BadKind.TheVariants.{Form, Truncated, Entry, Reply, Plan, Unnamed, Board, Time, Cost}
 use Rattle.dm_restore.specs.declared.stops.RestoreStop.{RestoreStop}
 use Rattle.dm_restore.specs.declared.stops.RestoreStop.TheVariants.{OutOfMemory as NoRoom, Full as IsTooFull, Head as IsOther, Form as IsMisshapen, Bad as IsBad}
-
--- what is wrong with a line of a run's text, in a word
-abbrev pub kind_word : BadKind → List ℕ
-kind_word Form = codes "form"
-kind_word Truncated = codes "truncated"
-kind_word Entry = codes "entry"
-kind_word Reply = codes "reply"
-kind_word Plan = codes "plan"
-kind_word Unnamed = codes "unnamed"
-kind_word Board = codes "board"
-kind_word Time = codes "time"
-kind_word Cost = codes "cost"
 
 -- something of this name could not be opened or read
 abbrev pub unread_line : List ℕ → List ℕ

@@ -1,27 +1,16 @@
 //! The ends that print one line: why nothing else is printed.
-ghost use Rattle.std.specs.Prelude.{◌≡◌, ◌≢◌, ◌≤◌};
-ghost use Rattle.dm_outside.specs.Printing.{Puts, pieces_text};
+ghost use Rattle.std.specs.Prelude.{◌≢◌, ◌≤◌};
+ghost use Rattle.dm_outside.specs.Printing.{Puts};
 ghost use Rattle.dm_words.specs.Asked.{files_of};
-ghost use Rattle.dm_store_text.specs.Lines.{kind_word, refusal_line, store_line, form_line, bad_line, reply_line, feed_line, unread_line};
+ghost use Rattle.dm_store_text.specs.Lines.{refusal_line, store_line, form_line, bad_line, reply_line, feed_line, unread_line};
 ghost use Rattle.dm_store_text.specs.Written.{EndsAs, EndsFiles};
 
 use crate::status::Status;
 use dm_check::BadKind;
 use dm_input::{InputStop, put_read_fault, put_refused};
-use dm_outside::{Page, Piece, Sink, WriteFault};
+use dm_outside::{Piece, Sink, WriteFault, put_pieces};
 use dm_restore::RestoreStop;
 use dm_words::FileWords;
-
-/// Puts the pieces, one after another.
-fn put_pieces<K: Sink>(sink: &mut K, pieces: &[Piece<'_>]) -> Result<(), WriteFault>
-    ensures { Puts K.taken K.faults sink.old sink.new result (pieces_text pieces.now) }
-{
-    let mut page = Page::new();
-    let Ok(()) = page.put(sink, pieces) else {
-        return Err(WriteFault);
-    };
-    page.finish(sink)
-}
 
 /// The end where files are refused or cannot be read.
 pub fn end_files<K: Sink>(files: &FileWords<'_>, stop: &InputStop, out: &mut K) -> Status
@@ -100,7 +89,7 @@ fn put_bad<K: Sink>(sink: &mut K, line: u32, kind: BadKind) -> Result<(), WriteF
             Piece::Text("refused store "),
             Piece::Number(line as u128),
             Piece::Text(" "),
-            Piece::Text(kind_word(kind)),
+            Piece::Text(kind.word()),
             Piece::Text("\n"),
         ],
     )
@@ -164,21 +153,5 @@ pub fn end_feed<K: Sink>(out: &mut K, number: u32, line: u32) -> Status
     ) {
         Ok(()) => Status::Refused,
         Err(WriteFault) => Status::WriteFault,
-    }
-}
-
-fn kind_word(kind: BadKind) -> &'static str
-    ensures { result.now ≡ kind_word kind }
-{
-    match kind {
-        BadKind::Form => "form",
-        BadKind::Truncated => "truncated",
-        BadKind::Entry => "entry",
-        BadKind::Reply => "reply",
-        BadKind::Plan => "plan",
-        BadKind::Unnamed => "unnamed",
-        BadKind::Board => "board",
-        BadKind::Time => "time",
-        BadKind::Cost => "cost",
     }
 }

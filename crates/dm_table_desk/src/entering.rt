@@ -65,7 +65,7 @@ pub(crate) fn adopt(
     if now == ENTRIES {
         return Err(AdoptRefusal::Full { now });
     }
-    let Ok(choices) = copy_of(alloc, choices) else {
+    let Ok(choices) = Items::from_slice(alloc, choices) else {
         return Err(AdoptRefusal::OutOfMemory);
     };
     let message = Message::Adopt(choices);
@@ -76,23 +76,8 @@ pub(crate) fn adopt(
     };
     match enter(table, adopted) {
         Ok(number) => Ok(number),
-        Err(why) => Err(want_of_memory(why)),
+        Err(why) => Err(AdoptRefusal::want_of_memory(why)),
     }
-}
-
-/// The answer to a plan whose message nothing but want of memory refuses.
-fn want_of_memory(refusal: Refusal) -> AdoptRefusal
-    requires { refusal ≡ Refusal.OutOfMemory }
-    ensures { result ≡ AdoptRefusal.OutOfMemory }
-{
-    prove!(matches!(refusal, Refusal::OutOfMemory));
-    AdoptRefusal::OutOfMemory
-}
-
-fn copy_of(alloc: Global, decisions: &[Decision]) -> Result<Items<Decision>, AllocError>
-    ensures { IfOk result (λ items. items ≡ decisions.now) }
-{
-    Ok(Items::from_vec(Vec::from_slice(alloc, decisions)?))
 }
 
 /// Enters those of the choices that are free after the history, or says why that is refused.

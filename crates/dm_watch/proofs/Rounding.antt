@@ -7,7 +7,7 @@ use Rattle.std.proofs.lemmas.Simd.{map-map}
 use Rattle.dm_cert.specs.declared.replies.LogItem.{LogItem}
 use Rattle.dm_cert.specs.Answers.{Setting}
 use Rattle.dm_rows.specs.declared.messages.Entry.{Entry}
-use Rattle.dm_store.specs.Calls.{Image}
+use Rattle.dm_store.specs.declared.store.Store.{Ghosts as StoreFacts}
 use Rattle.dm_store.specs.declared.journal.Journal.{Journal}
 use Rattle.dm_desk.specs.Desks.{DeskValue}
 use Rattle.dm_book.specs.Books.{Book, IsTrueBook}
@@ -45,9 +45,9 @@ all_shown_still given (w ∷ feeds) some none =
 -- ---- feeds that were synced
 
 module _ {T : Type 0} (given : T → Option (List ℕ)) (feeds now : List (Watched T)) (same : map (log_parts given) now ≡ map (log_parts given) feeds) where
-  pub may_settle_now : {S : Type 0} (tells : S → Type 0) (seen : S → List ℕ) (shown : S → List (List ℕ)) (may_leave : S → Image → Type 0)
-      (s : Setting) (contents : List (List ℕ)) (before after : Book) (journal : Journal S) → MaySettle tells seen shown may_leave s contents before after feeds journal → MaySettle tells seen shown may_leave s contents before after now journal
-  may_settle_now tells seen shown may_leave s contents before after journal may = record {
+  pub may_settle_now : {S : Type 0} (facts : StoreFacts S)
+      (s : Setting) (contents : List (List ℕ)) (before after : Book) (journal : Journal S) → MaySettle facts s contents before after feeds journal → MaySettle facts s contents before after now journal
+  may_settle_now facts s contents before after journal may = record {
     settled = may.settled;
     true_before = may.true_before;
     true_after = may.true_after;
@@ -67,12 +67,12 @@ module _ {T : Type 0} (given : T → Option (List ℕ)) (feeds now : List (Watch
 
 -- ---- what was answered may be settled
 
-module _ {S T : Type 0} (tells : S → Type 0) (seen : S → List ℕ) (shown : S → List (List ℕ)) (may_leave : S → Image → Type 0) (given : T → Option (List ℕ)) (batch : ℕ)
+module _ {S T : Type 0} (facts : StoreFacts S) (given : T → Option (List ℕ)) (batch : ℕ)
     (d0 d1 : DeskValue) (feeds answered : List (Watched T)) (journal : Journal S) (contents : List (List ℕ))
     (a : AnswersAll given batch d0 d1 feeds answered) (watching : IsWatching given d0 feeds) (all_shown : All IsShown feeds)
     (mine0 : d0.mine ≡ range_with_len 1 (length d0.seen)) (mine1 : d1.mine ≡ range_with_len 1 (length d1.seen)) (kept : All IsKeptPart (map new_items answered))
-    (settled : AreSettled tells seen shown may_leave d0.setting contents (map all_items feeds) journal) where
-  pub may_settle : MaySettle tells seen shown may_leave d0.setting contents (book_of d0 feeds) (book_of d1 answered) answered journal
+    (settled : AreSettled facts d0.setting contents (map all_items feeds) journal) where
+  pub may_settle : MaySettle facts d0.setting contents (book_of d0 feeds) (book_of d1 answered) answered journal
   may_settle = record {
     settled = settled;
     true_before = true_book given d0 feeds mine0 watching;
@@ -96,11 +96,11 @@ pub same_logs : {T : Type 0} (given : T → Option (List ℕ)) (feeds now : List
 same_logs given feeds now same = sym (map-map (λ (p : LogParts). p.items) (log_parts given) now) ∙ (ap (map (λ (p : LogParts). p.items)) same ∙ map-map (λ (p : LogParts). p.items) (shown_parts given) feeds)
 
 -- what settles a round leaves the later book in the journal
-pub settles_some : {S T : Type 0} (tells : S → Type 0) (seen : S → List ℕ) (shown : S → List (List ℕ)) (may_leave : S → Image → Type 0) (moment : S → ℕ) (left_since : S → ℕ → Image → Type 0)
+pub settles_some : {S T : Type 0} (facts : StoreFacts S)
     (s : Setting) (contents : List (List ℕ)) (before after : Book) (feeds : List (Watched T)) (old new : Journal S) (result : Result (Vec (Watched T) Global) RoundStop)
-    → Settles tells seen shown may_leave moment left_since s contents before after feeds old new result → SettlesSome tells seen shown may_leave moment left_since s before after old new result
-settles_some tells seen shown may_leave moment left_since s contents before after feeds old new (Ok now) h = record { leaves = h.leaves; done = record { contents = with_new contents feeds; settled = h.done } }
-settles_some tells seen shown may_leave moment left_since s contents before after feeds old new (Err stop) h = record { leaves = h.leaves; done = tt }
+    → Settles facts s contents before after feeds old new result → SettlesSome facts s before after old new result
+settles_some facts s contents before after feeds old new (Ok now) h = record { leaves = h.leaves; done = record { contents = with_new contents feeds; settled = h.done } }
+settles_some facts s contents before after feeds old new (Err stop) h = record { leaves = h.leaves; done = tt }
 
 -- feeds that were synced and then shown
 pub all_shown_too : {T : Type 0} (given : T → Option (List ℕ)) (feeds synced : List (Watched T)) → map (log_parts given) synced ≡ map (log_parts given) feeds → (result : Result (Vec (Watched T) Global) RoundStop)

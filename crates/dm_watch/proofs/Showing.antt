@@ -8,6 +8,7 @@ use Rattle.std.proofs.Math.Seq.{set-append_seam, get_or-append_seam}
 use mathlib.Core.List.{IsPrefix}
 use Rattle.dm_cert.specs.Answers.{Setting}
 use Rattle.dm_cert.specs.RunTexts.{item_text}
+use Rattle.dm_store.specs.declared.store.Store.{Ghosts as StoreFacts}
 use Rattle.dm_store.specs.Blocks.{at_rest}
 use Rattle.dm_store.specs.Calls.{AreFronts, Image, OnShown, After, LeavesOnly, GoesShowing, ShowsFront, shown_behind}
 use Rattle.dm_store.specs.Fronts.{fronts_of_themselves}
@@ -56,19 +57,19 @@ fronts_so_far yielded rest =
 
 -- ---- one call
 
-module _ {S T : Type 0} (tells : S → Type 0) (seen : S → List ℕ) (shown : S → List (List ℕ)) (may_leave : S → Image → Type 0) (moment : S → ℕ) (left_since : S → ℕ → Image → Type 0)
+module _ {S T : Type 0} (facts : StoreFacts S)
     (watched : Watched T) (place : ℕ) (old new : S) (bytes : List ℕ) (text : bytes ≡ reply_text (new_items watched)) where
   module _ (s : Setting) (contents : List (List ℕ)) (before after : Book) (start : S) (first rest : List (List ℕ)) (here : place ≡ length first) (book : IsKeptBook s contents before after)
       (fronts : AreFronts (first ++ all_text watched ∷ rest) (map reply_text after.logs))
-      (so_far : IsShowing tells seen shown may_leave moment left_since s contents before after start old (first ++ old_text watched ∷ rest)) where
-    pub within : place < length (shown old)
+      (so_far : IsShowing facts s contents before after start old (first ++ old_text watched ∷ rest)) where
+    pub within : place < length (facts.shown old)
     within = omega (arith, here, ap length so_far.is_shown, length-append first (old_text watched ∷ rest))
 
     whole : old_text watched ++ bytes ≡ all_text watched
     whole = ap (λ (l : List ℕ). old_text watched ++ l) text ∙ text_more watched
 
-    module _ (shows : (image : Image) → may_leave old image → image.shown ≡ shown old) (goes : GoesShowing seen moment left_since may_leave (ShowsFront place bytes) old new) where
-      meanwhile : (image : Image) → After (OnShown (ShowsFront place bytes)) (may_leave old) image → IsSafe s before after image
+    module _ (shows : (image : Image) → facts.may_leave old image → image.shown ≡ facts.shown old) (goes : GoesShowing facts.seen facts.moment facts.left_since facts.may_leave (ShowsFront place bytes) old new) where
+      meanwhile : (image : Image) → After (OnShown (ShowsFront place bytes)) (facts.may_leave old) image → IsSafe s before after image
       meanwhile image a =
           let was : a.from.journal ≡ at_rest contents = so_far.durable a.from a.was ∙ so_far.file in
           let texts : a.from.shown ≡ first ++ old_text watched ∷ rest = shows a.from a.was ∙ so_far.is_shown in
@@ -80,16 +81,16 @@ module _ {S T : Type 0} (tells : S → Type 0) (seen : S → List ℕ) (shown : 
           (rest_keeps contents image.shown image (a.stepped.same ∙ was) refl)
           (subst (λ (l : List (List ℕ)). AreFronts l (map reply_text after.logs)) (sym now) (fronts_shorter first rest (old_text watched) step.front step.rest (map reply_text after.logs) all))
 
-      pub one_leaves : LeavesOnly moment left_since start new (IsSafe s before after)
-      one_leaves = goes_on moment left_since start old new (IsSafe s before after) (After (OnShown (ShowsFront place bytes)) (may_leave old)) so_far.leaves goes.time meanwhile
+      pub one_leaves : LeavesOnly facts.moment facts.left_since start new (IsSafe s before after)
+      one_leaves = goes_on facts.moment facts.left_since start old new (IsSafe s before after) (After (OnShown (ShowsFront place bytes)) (facts.may_leave old)) so_far.leaves goes.time meanwhile
 
-      pub one_shown : tells new → shown new ≡ shown_behind (shown old) place bytes → IsShowing tells seen shown may_leave moment left_since s contents before after start new (first ++ all_text watched ∷ rest)
+      pub one_shown : facts.tells new → facts.shown new ≡ shown_behind (facts.shown old) place bytes → IsShowing facts s contents before after start new (first ++ all_text watched ∷ rest)
       one_shown told is = record {
         told = told;
         file = goes.same ∙ so_far.file;
         durable = λ image left. let a = goes.crash image left in a.stepped.same ∙ (so_far.durable a.from a.was ∙ sym goes.same);
         is_shown =
-            is ∙ (behind_is first rest (old_text watched) bytes place (shown old) so_far.is_shown here
+            is ∙ (behind_is first rest (old_text watched) bytes place (facts.shown old) so_far.is_shown here
             ∙ ap (λ (l : List ℕ). first ++ l ∷ rest) whole);
         fronts = fronts;
         leaves = one_leaves;
@@ -132,8 +133,8 @@ texts_end feeds yielded rest none whole =
     ∙ (append-nil (map all_text yielded) ∙ ap (map all_text) (all_yielded yielded rest feeds none whole))
 
 -- the journal and what is shown are as they were, seen as other texts
-pub showing_as : {S : Type 0} (tells : S → Type 0) (seen : S → List ℕ) (shown : S → List (List ℕ)) (may_leave : S → Image → Type 0) (moment : S → ℕ) (left_since : S → ℕ → Image → Type 0)
+pub showing_as : {S : Type 0} (facts : StoreFacts S)
     (s : Setting) (contents : List (List ℕ)) (before after : Book) (start now : S) (texts others : List (List ℕ)) → texts ≡ others
-    → IsShowing tells seen shown may_leave moment left_since s contents before after start now texts → IsShowing tells seen shown may_leave moment left_since s contents before after start now others
-showing_as tells seen shown may_leave moment left_since s contents before after start now texts others same showing =
-    subst (IsShowing tells seen shown may_leave moment left_since s contents before after start now) same showing
+    → IsShowing facts s contents before after start now texts → IsShowing facts s contents before after start now others
+showing_as facts s contents before after start now texts others same showing =
+    subst (IsShowing facts s contents before after start now) same showing

@@ -3,7 +3,8 @@ use Rattle.std.specs.Prelude.{ℕ, ◌≡◌, ◌+◌, Bool, List, length, map, 
 use Rattle.dm_cert.specs.Answers.{Setting}
 use Rattle.dm_desk.specs.Desks.{DeskValue}
 use Rattle.dm_desk.specs.Answered.{HasSeenLegal, times}
-use Rattle.dm_store.specs.Calls.{Image, LeavesOnly}
+use Rattle.dm_store.specs.declared.store.Store.{Ghosts as StoreFacts}
+use Rattle.dm_store.specs.Calls.{LeavesOnly}
 use Rattle.dm_store.specs.declared.journal.Journal.{Journal}
 use Rattle.dm_book.specs.Books.{Book, IsFrontBook, IsSafe}
 use Rattle.dm_table_desk.specs.Tables.{desk_of}
@@ -52,13 +53,12 @@ HasNoneLeft watched = IsUnended watched.tail.pending.items
 
 -- In a round a book grew to another, whose logs answer fronts of the feeds' sources, each that of its own feed. A crash at any moment of
 -- the round leaves a true book between the two. At Ok the other is that of the watch; the journal has it, and it is shown.
-pub record Rounds {S T : Type 0} (tells : S → Type 0) (seen : S → List ℕ) (shown : S → List (List ℕ))
-    (may_leave : S → Image → Type 0) (moment : S → ℕ) (left_since : S → ℕ → Image → Type 0)
+pub record Rounds {S T : Type 0} (facts : StoreFacts S)
     (s : Setting) (sources : List (Option (List ℕ))) (before : Book) (old new : Journal S)
     (result : Result (Watch T × Bool) RoundStop) : Type 0 where
   pub after : Book
   pub grows : IsFrontBook before after
   pub answers : AnswerFronts sources after.logs
-  pub leaves : LeavesOnly moment left_since old.store new.store (IsSafe s before after)
+  pub leaves : LeavesOnly facts.moment facts.left_since old.store new.store (IsSafe s before after)
   pub is_it : IfOk result (λ r. book_in r.0 ≡ after)
-  pub done : OnOk result (HaveSettled tells seen shown may_leave s after.logs new)
+  pub done : OnOk result (HaveSettled facts s after.logs new)

@@ -3,7 +3,7 @@ use Rattle.std.specs.Prelude.{ℕ, ◌≡◌, List, length, take, drop, map, Boo
 use Rattle.dm_cert.specs.declared.replies.LogItem.{LogItem}
 use Rattle.dm_cert.specs.Answers.{Setting}
 use Rattle.dm_feed.specs.declared.feed.FeedStop.{FeedStop}
-use Rattle.dm_store.specs.Calls.{Image}
+use Rattle.dm_store.specs.declared.store.Store.{Ghosts as StoreFacts}
 use Rattle.dm_store.specs.Journals.{IsAtRest}
 use Rattle.dm_store.specs.declared.journal.Journal.{Journal}
 use Rattle.dm_book.specs.Books.{AreRecorded, reply_text}
@@ -24,17 +24,17 @@ abbrev pub IsShown : {T : Type 0} → Watched T → Type 0
 IsShown watched = watched.shown ≡ length watched.log.items
 
 -- The journal is at rest with these logs in its blocks, and the reply files show them.
-pub record AreSettled {S : Type 0} (tells : S → Type 0) (seen : S → List ℕ) (shown : S → List (List ℕ)) (may_leave : S → Image → Type 0)
+pub record AreSettled {S : Type 0} (facts : StoreFacts S)
     (s : Setting) (contents : List (List ℕ)) (logs : List (List LogItem)) (journal : Journal S) : Type 0 where
-  pub rest : IsAtRest tells seen may_leave contents journal
+  pub rest : IsAtRest facts.tells facts.seen facts.may_leave contents journal
   pub recorded : AreRecorded s contents logs
-  pub all_shown : shown journal.store ≡ map reply_text logs
+  pub all_shown : facts.shown journal.store ≡ map reply_text logs
 
 -- the journal has these logs in some blocks, and the reply files show them
-pub record HaveSettled {S : Type 0} (tells : S → Type 0) (seen : S → List ℕ) (shown : S → List (List ℕ)) (may_leave : S → Image → Type 0)
+pub record HaveSettled {S : Type 0} (facts : StoreFacts S)
     (s : Setting) (logs : List (List LogItem)) (journal : Journal S) : Type 0 where
   pub contents : List (List ℕ)
-  pub settled : AreSettled tells seen shown may_leave s contents logs journal
+  pub settled : AreSettled facts s contents logs journal
 
 -- what is known of a feed: what it has given, what of it is pending, how many bytes were read, whether a line may be pending, how
 -- many lines were passed, why it is read no further, and the log with how many of its items were shown

@@ -67,9 +67,9 @@ impl<'n, T: Growing + Drop> Watch<'n, T> {
         ensures later { S.faults journal.old.store ≤ S.faults journal.new.store }
 
         // A crash at any moment leaves a true book between that before the round and that after it, whose logs answer the feeds.
-        ensures rounds { (contents : List (List ℕ)) → AreSettled S.tells S.seen S.shown S.may_leave
+        ensures rounds { (contents : List (List ℕ)) → AreSettled S.Store
             (setting_of self.entry.desk.plans self.entry.desk.table) contents (map all_items self.entry.feeds.items) journal.old
-            → Rounds S.tells S.seen S.shown S.may_leave S.moment S.left_since
+            → Rounds S.Store
             (setting_of self.entry.desk.plans self.entry.desk.table) (map (source_in T.source) self.entry.feeds.items)
             (book_in self.entry) journal.old journal.new result }
         ensures told { S.tells journal.old.store → S.tells journal.new.store }
@@ -112,8 +112,8 @@ fn settle_new<S: Store, T: Growing + Drop>(
     requires spelled { All (λ w. All IsSpelledItem w.log.items) feeds.items }
     requires none { is_new ≡ false → All (λ w. length w.log.items ≤ w.shown) feeds.items }
     ensures settles { (s : Setting) (contents : List (List ℕ)) (before after : Book)
-        → MaySettle S.tells S.seen S.shown S.may_leave s contents before after feeds.items journal.old
-        → SettlesSome S.tells S.seen S.shown S.may_leave S.moment S.left_since s before after journal.old journal.new result }
+        → MaySettle S.Store s contents before after feeds.items journal.old
+        → SettlesSome S.Store s before after journal.old journal.new result }
     ensures told { S.tells journal.old.store → S.tells journal.new.store }
     ensures parts { IfOk result (λ now. AreAllShown T.given feeds.items now.items) }
     ensures sources { IfOk result (λ now. map (source_in T.source) now.items ≡ map (source_in T.source) feeds.items) }

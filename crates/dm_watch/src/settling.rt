@@ -107,7 +107,7 @@ fn show_one<S: Store, T: Growing + Drop>(
 ) -> Result<Watched<T>, RoundStop>
     requires some { watched.shown ≤ length watched.log.items }
     requires spelled { All IsSpelledItem watched.log.items }
-    ensures shows { ShowsOne S.tells S.seen S.shown S.may_leave S.moment S.left_since watched place store.old store.new result }
+    ensures shows { ShowsOne S.Store watched place store.old store.new result }
     ensures told { S.tells store.old → S.tells store.new }
     ensures cause { HasCauseInStore (S.faults store.old) (S.faults store.new) result }
     ensures parts { IfOk result (λ now. log_parts T.given now ≡ shown_parts T.given watched) }
@@ -133,7 +133,7 @@ fn show_feeds<S: Store, T: Growing + Drop>(
 ) -> Result<Vec<Watched<T>>, RoundStop>
     requires some { All (λ w. w.shown ≤ length w.log.items) feeds.items }
     requires spelled { All (λ w. All IsSpelledItem w.log.items) feeds.items }
-    ensures shows { ShowsAll S.tells S.seen S.shown S.may_leave S.moment S.left_since feeds.items store.old store.new result }
+    ensures shows { ShowsAll S.Store feeds.items store.old store.new result }
     ensures told { S.tells store.old → S.tells store.new }
     ensures cause { HasCauseInStore (S.faults store.old) (S.faults store.new) result }
     ensures parts { IfOk result (λ now. AreAllShown T.given feeds.items now.items) }
@@ -164,9 +164,8 @@ pub(crate) fn settle<S: Store, T: Growing + Drop>(
     requires some { All (λ w. w.shown ≤ length w.log.items) feeds.items }
     requires spelled { All (λ w. All IsSpelledItem w.log.items) feeds.items }
     ensures settles { (s : Setting) (contents : List (List ℕ)) (before after : Book)
-        → MaySettle S.tells S.seen S.shown S.may_leave s contents before after feeds.items journal.old
-        → Settles S.tells S.seen S.shown S.may_leave S.moment S.left_since s contents before after feeds.items
-        journal.old journal.new result }
+        → MaySettle S.Store s contents before after feeds.items journal.old
+        → Settles S.Store s contents before after feeds.items journal.old journal.new result }
     ensures told { S.tells journal.old.store → S.tells journal.new.store }
     ensures cause { HasCauseToSettle (S.faults journal.old.store) (S.faults journal.new.store) journal.old.end feeds.items result }
     ensures parts { IfOk result (λ now. AreAllShown T.given feeds.items now.items) }

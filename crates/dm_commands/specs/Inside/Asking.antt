@@ -33,8 +33,8 @@ use Rattle.dm_commands.specs.Ruled.{rule_named, ComparesFor}
 use Rattle.dm_commands.specs.Travelled.{journeys_text, stop_numbered}
 use Rattle.dm_commands.specs.Verdicts.{long_text_line, unread_text_line}
 use Rattle.dm_commands.specs.Searching.{search_for}
-use Rattle.dm_window.specs.declared.windows.Window.{Window}
-use Rattle.dm_window.specs.Held.{IsFirstWithout}
+use Rattle.dm_stretch.specs.declared.windows.Window.{Window}
+use Rattle.dm_stretch.specs.Held.{IsFirstWithout}
 use Rattle.dm_commands.specs.Windowed.{IsWindowAsked, no_choice_line, unknown_entry_line}
 use Rattle.dm_outlook.specs.Texts.{outlook_text}
 use Rattle.dm_commands.specs.Inside.Checking.{EndsAtFiles}

@@ -9,7 +9,7 @@ use Rattle.dm_serve.specs.declared.opening.Unopened.TheVariants.{OutOfMemory, Fe
 use Rattle.dm_serve.specs.declared.serving.Serving.{Serving}
 
 -- what the words of a server ask for
-abbrev pub asked_in : {R G : Type 0} → Serving R G → ServerAsked
+abbrev pub asked_in : {R F : Type 0} → Serving R F → ServerAsked
 asked_in serving = server_of serving.words.now
 
 -- nothing was read of the feed, and nothing answered

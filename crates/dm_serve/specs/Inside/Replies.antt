@@ -5,8 +5,9 @@ use Rattle.dm_outside.specs.Faults.{HasRisen}
 use Rattle.dm_cert.specs.declared.replies.FeedLog.{FeedLog}
 use Rattle.dm_cert.specs.declared.replies.LogItem.{LogItem}
 use Rattle.dm_cert.specs.Answers.{Setting}
+use Rattle.dm_store.specs.declared.store.Store.{Ghosts as StoreFacts}
 use Rattle.dm_store.specs.Blocks.{at_rest}
-use Rattle.dm_store.specs.Calls.{AreFronts, Image, LeavesJournal, LeavesOnly}
+use Rattle.dm_store.specs.Calls.{AreFronts, LeavesJournal, LeavesOnly}
 use Rattle.dm_book.specs.Books.{AreRecorded, Book, IsSafe, IsTrueBook, reply_text}
 use Rattle.dm_tail.specs.declared.watched.Watched.{Watched}
 use Rattle.dm_watch.specs.Settled.{all_items}
@@ -20,78 +21,73 @@ pub record IsKeptIn (s : Setting) (contents : List (List ℕ)) (book : Book) : T
   pub is_true : IsTrueBook s book
 
 -- Since a start a crash left the book. The journal is at rest with these blocks, and what is shown is a front of the book's logs.
-pub record IsStarting {S : Type 0} (tells : S → Type 0) (seen : S → List ℕ) (shown : S → List (List ℕ))
-    (may_leave : S → Image → Type 0) (moment : S → ℕ) (left_since : S → ℕ → Image → Type 0)
+pub record IsStarting {S : Type 0} (facts : StoreFacts S)
     (s : Setting) (contents : List (List ℕ)) (book : Book) (start now : S) : Type 0 where
-  pub told : tells now
-  pub file : seen now ≡ at_rest contents
-  pub durable : LeavesJournal (seen now) (may_leave now)
-  pub fronts : AreFronts (shown now) (map reply_text book.logs)
-  pub leaves : LeavesOnly moment left_since start now (IsSafe s book book)
+  pub told : facts.tells now
+  pub file : facts.seen now ≡ at_rest contents
+  pub durable : LeavesJournal (facts.seen now) (facts.may_leave now)
+  pub fronts : AreFronts (facts.shown now) (map reply_text book.logs)
+  pub leaves : LeavesOnly facts.moment facts.left_since start now (IsSafe s book book)
 
 -- what the reply file of a feed shows of its whole log
 abbrev pub log_text : {T : Type 0} → Watched T → List ℕ
 log_text watched = reply_text (all_items watched)
 
 -- The store was only looked at. What was found is still there, and a crash meanwhile left it.
-abbrev pub Looks : {S : Type 0} → (S → Type 0) → (S → List ℕ) → (S → List (List ℕ)) → (S → Image → Type 0) → (S → ℕ) →
-    (S → ℕ → Image → Type 0) → S → S → Type 0
-Looks {S} tells seen shown may_leave moment left_since old new =
-    (tells old → tells new × IsLeft seen shown may_leave old new)
-    × ((s : Setting) (feeds : ℕ) (contents : List (List ℕ)) (first : Book) → IsTakenUp tells seen shown may_leave s feeds old contents first
-    → LeavesOnly moment left_since old new (IsSafe s first first) × IsTakenUp tells seen shown may_leave s feeds new contents first)
+abbrev pub Looks : {S : Type 0} → StoreFacts S → S → S → Type 0
+Looks {S} facts old new =
+    (facts.tells old → facts.tells new × IsLeft facts old new)
+    × ((s : Setting) (feeds : ℕ) (contents : List (List ℕ)) (first : Book) → IsTakenUp facts s feeds old contents first
+    → LeavesOnly facts.moment facts.left_since old new (IsSafe s first first) × IsTakenUp facts s feeds new contents first)
 
 -- the reply file at this place is no front of its log
-pub record ShowsMore {S : Type 0} (tells : S → Type 0) (shown : S → List (List ℕ)) (logs : List FeedLog) (store : S)
-    (place : ℕ) : Type 0 where
+pub record ShowsMore {S : Type 0} (facts : StoreFacts S) (logs : List FeedLog) (store : S) (place : ℕ) : Type 0 where
   pub log : FeedLog
   pub stands : slice_get logs place ≡ Some log
-  pub more : tells store → place < length (shown store) → IsPrefix (slice_index_or (shown store) place []) (reply_text log.items) → ⊥
+  pub more : facts.tells store → place < length (facts.shown store) → IsPrefix (slice_index_or (facts.shown store) place []) (reply_text log.items) → ⊥
 
 -- The reply file of one feed was put anew, or shows what it did where the call failed.
-abbrev pub PutsOne : {S T E : Type 0} → (S → Type 0) → (S → List ℕ) → (S → List (List ℕ)) → (S → Image → Type 0) → (S → ℕ) →
-    (S → ℕ → Image → Type 0) → Watched T → ℕ → S → S → Result (Unit {0}) E → Type 0
-PutsOne {S} tells seen shown may_leave moment left_since watched place old new result =
+abbrev pub PutsOne : {S T E : Type 0} → StoreFacts S → Watched T → ℕ → S → S → Result (Unit {0}) E → Type 0
+PutsOne {S} facts watched place old new result =
     (s : Setting) (contents : List (List ℕ)) (book : Book) (start : S) (first rest : List (List ℕ)) (text : List ℕ) → place ≡ length first
-    → shown old ≡ first ++ text ∷ rest → IsPrefix text (log_text watched)
+    → facts.shown old ≡ first ++ text ∷ rest → IsPrefix text (log_text watched)
     → AreFronts (first ++ log_text watched ∷ rest) (map reply_text book.logs) → IsKeptIn s contents book
-    → IsStarting tells seen shown may_leave moment left_since s contents book start old
-    → LeavesOnly moment left_since start new (IsSafe s book book) × tells new
-    × OnOk result (IsStarting tells seen shown may_leave moment left_since s contents book start new
-    × (shown new ≡ first ++ log_text watched ∷ rest))
+    → IsStarting facts s contents book start old
+    → LeavesOnly facts.moment facts.left_since start new (IsSafe s book book) × facts.tells new
+    × OnOk result (IsStarting facts s contents book start new
+    × (facts.shown new ≡ first ++ log_text watched ∷ rest))
 
 -- Since a start, reply files were put anew: a crash leaves the book, and at Ok they show it whole.
-abbrev pub PutsReplies : {S T E : Type 0} → (S → Type 0) → (S → List ℕ) → (S → List (List ℕ)) → (S → Image → Type 0) → (S → ℕ) →
-    (S → ℕ → Image → Type 0) → List (Watched T) → S → S → Result (Unit {0}) E → Type 0
-PutsReplies {S} tells seen shown may_leave moment left_since feeds old new result =
+abbrev pub PutsReplies : {S T E : Type 0} → StoreFacts S → List (Watched T) → S → S → Result (Unit {0}) E → Type 0
+PutsReplies {S} facts feeds old new result =
     (s : Setting) (contents : List (List ℕ)) (book : Book) (start : S) → book.logs ≡ map all_items feeds → IsKeptIn s contents book
-    → IsStarting tells seen shown may_leave moment left_since s contents book start old
-    → LeavesOnly moment left_since start new (IsSafe s book book) × tells new
-    × OnOk result (IsStarting tells seen shown may_leave moment left_since s contents book start new
-    × (shown new ≡ map reply_text book.logs))
+    → IsStarting facts s contents book start old
+    → LeavesOnly facts.moment facts.left_since start new (IsSafe s book book) × facts.tells new
+    × OnOk result (IsStarting facts s contents book start new
+    × (facts.shown new ≡ map reply_text book.logs))
 
 -- the reply file at this place shows a front of the items, or not
-abbrev pub ComparesOne : {S : Type 0} → (S → Type 0) → (S → List (List ℕ)) → S → List LogItem → ℕ → Bool → Type 0
-ComparesOne tells shown store items place true = tells store → place < length (shown store) →
-    IsPrefix (slice_index_or (shown store) place []) (reply_text items)
-ComparesOne tells shown store items place false = tells store → place < length (shown store) →
-    IsPrefix (slice_index_or (shown store) place []) (reply_text items) → ⊥
+abbrev pub ComparesOne : {S : Type 0} → StoreFacts S → S → List LogItem → ℕ → Bool → Type 0
+ComparesOne facts store items place true = facts.tells store → place < length (facts.shown store) →
+    IsPrefix (slice_index_or (facts.shown store) place []) (reply_text items)
+ComparesOne facts store items place false = facts.tells store → place < length (facts.shown store) →
+    IsPrefix (slice_index_or (facts.shown store) place []) (reply_text items) → ⊥
 
 -- the cause of a stop as a reply file is read
-abbrev pub StopsReading : {S : Type 0} → (S → ℕ) → S → S → StartStop → Type 0
-StopsReading faults old new stop.OutOfMemory = Unit {0}
-StopsReading faults old new stop.Unread = HasRisen (faults old) (faults new)
-StopsReading faults old new stopped = ⊥
+abbrev pub StopsReading : {S : Type 0} → StoreFacts S → S → S → StartStop → Type 0
+StopsReading facts old new stop.OutOfMemory = Unit {0}
+StopsReading facts old new stop.Unread = HasRisen (facts.faults old) (facts.faults new)
+StopsReading facts old new stopped = ⊥
 
 -- the cause of a stop as the reply file of a log is compared
-abbrev pub StopsComparing : {S : Type 0} → (S → Type 0) → (S → List (List ℕ)) → (S → ℕ) → List FeedLog → S → S → StartStop → Type 0
-StopsComparing tells shown faults logs old new stop.OutOfMemory = Unit {0}
-StopsComparing tells shown faults logs old new stop.Unread = HasRisen (faults old) (faults new)
-StopsComparing tells shown faults logs old new (stop.Reply place) = ShowsMore tells shown logs old place
-StopsComparing tells shown faults logs old new stopped = ⊥
+abbrev pub StopsComparing : {S : Type 0} → StoreFacts S → List FeedLog → S → S → StartStop → Type 0
+StopsComparing facts logs old new stop.OutOfMemory = Unit {0}
+StopsComparing facts logs old new stop.Unread = HasRisen (facts.faults old) (facts.faults new)
+StopsComparing facts logs old new (stop.Reply place) = ShowsMore facts logs old place
+StopsComparing facts logs old new stopped = ⊥
 
 -- the cause of a stop as reply files are put anew
-abbrev pub StopsRenewing : {S : Type 0} → (S → ℕ) → S → S → StartStop → Type 0
-StopsRenewing faults old new stop.OutOfMemory = Unit {0}
-StopsRenewing faults old new stop.Failed = HasRisen (faults old) (faults new)
-StopsRenewing faults old new stopped = ⊥
+abbrev pub StopsRenewing : {S : Type 0} → StoreFacts S → S → S → StartStop → Type 0
+StopsRenewing facts old new stop.OutOfMemory = Unit {0}
+StopsRenewing facts old new stop.Failed = HasRisen (facts.faults old) (facts.faults new)
+StopsRenewing facts old new stopped = ⊥

@@ -15,8 +15,9 @@ use Rattle.dm_cert.specs.Logs.{IsInOrder}
 use Rattle.dm_cert.specs.RunTexts.{FitsRun, IsSpelledItem, run_text}
 use Rattle.dm_desk.specs.Answered.{AreTrueOf}
 use Rattle.dm_desk.specs.Desks.{DeskValue}
+use Rattle.dm_store.specs.declared.store.Store.{Ghosts as StoreFacts}
 use Rattle.dm_store.specs.Blocks.{block, refusal}
-use Rattle.dm_store.specs.Calls.{Image, LeavesOnly}
+use Rattle.dm_store.specs.Calls.{LeavesOnly}
 use Rattle.dm_store.specs.Journals.{IsFound}
 use Rattle.dm_store.specs.declared.journal.Journal.{Journal}
 use Rattle.dm_book.specs.Books.{Book, IsFrontBook, IsSafe, reply_text}
@@ -52,87 +53,79 @@ use Rattle.dm_serve.specs.declared.starting.StartStop.TheVariants as stop
 
 -- The book that was read back is the one that was found. It stands in the blocks, at whose end the journal is at rest; a crash since
 -- the start left it, and what is shown is a front of its logs.
-pub record HasBegun {S : Type 0} (tells : S → Type 0) (seen : S → List ℕ) (shown : S → List (List ℕ))
-    (may_leave : S → Image → Type 0) (moment : S → ℕ) (left_since : S → ℕ → Image → Type 0)
+pub record HasBegun {S : Type 0} (facts : StoreFacts S)
     (s : Setting) (book first : Book) (start : S) (now : Journal S) : Type 0 where
   pub is : book ≡ first
   pub contents : List (List ℕ)
   pub kept : IsKeptIn s contents first
   pub gate : now.end ≡ length (flat_map block contents)
-  pub starting : IsStarting tells seen shown may_leave moment left_since s contents first start now.store
+  pub starting : IsStarting facts s contents first start now.store
 
 -- whatever true book is found, this is it, and the journal is new exactly where it has no blocks
-abbrev pub FindsBook : {S : Type 0} → (S → Type 0) → (S → List ℕ) → (S → List (List ℕ)) → (S → Image → Type 0) → Setting → ℕ →
-    Book → Bool → S → Type 0
-FindsBook tells seen shown may_leave s feeds book is_new store =
-    (contents : List (List ℕ)) (first : Book) → IsTakenUp tells seen shown may_leave s feeds store contents first →
+abbrev pub FindsBook : {S : Type 0} → StoreFacts S → Setting → ℕ → Book → Bool → S → Type 0
+FindsBook facts s feeds book is_new store =
+    (contents : List (List ℕ)) (first : Book) → IsTakenUp facts s feeds store contents first →
     (book ≡ first) × (IsTrue is_new ↔ (contents ≡ []))
 
 -- nothing is refused of the blocks that are found, or of the end behind them
-abbrev pub IsWholeEnd : {S : Type 0} → (S → Type 0) → (S → List ℕ) → (S → Image → Type 0) → S → Type 0
-IsWholeEnd tells seen may_leave store = (contents : List (List ℕ)) (found : IsFound tells seen may_leave contents store) →
+abbrev pub IsWholeEnd : {S : Type 0} → StoreFacts S → S → Type 0
+IsWholeEnd facts store = (contents : List (List ℕ)) (found : IsFound facts.tells facts.seen facts.may_leave contents store) →
     refusal contents found.stands.end ≡ None
 
 -- What a store holds was read back, as this book; the store was only looked at since a start.
-pub record IsReadBack {S : Type 0} (tells : S → Type 0) (seen : S → List ℕ) (shown : S → List (List ℕ))
-    (may_leave : S → Image → Type 0) (moment : S → ℕ) (left_since : S → ℕ → Image → Type 0)
+pub record IsReadBack {S : Type 0} (facts : StoreFacts S)
     (s : Setting) (feeds : ℕ) (book : Book) (is_new : Bool) (start now : S) : Type 0 where
-  pub looks : Looks tells seen shown may_leave moment left_since start now
-  pub finds : FindsBook tells seen shown may_leave s feeds book is_new start
-  pub whole : IsWholeEnd tells seen may_leave start
+  pub looks : Looks facts start now
+  pub finds : FindsBook facts s feeds book is_new start
+  pub whole : IsWholeEnd facts start
 
 -- the reply file at this place is no front of its log in the book that is restored from the blocks
-pub record HoldsMore {S : Type 0} (tells : S → Type 0) (seen : S → List ℕ) (shown : S → List (List ℕ))
-    (may_leave : S → Image → Type 0) (s : Setting) (feeds : ℕ) (store : S) (place : ℕ) : Type 0 where
+pub record HoldsMore {S : Type 0} (facts : StoreFacts S) (s : Setting) (feeds : ℕ) (store : S) (place : ℕ) : Type 0 where
   pub within : place < feeds
-  pub cause : (contents : List (List ℕ)) (book : Book) (items : List LogItem) → IsFound tells seen may_leave contents store →
+  pub cause : (contents : List (List ℕ)) (book : Book) (items : List LogItem) → IsFound facts.tells facts.seen facts.may_leave contents store →
       IsRestored s feeds contents book
-      → slice_get book.logs place ≡ Some items → place < length (shown store) →
-      IsPrefix (slice_index_or (shown store) place []) (reply_text items) → ⊥
+      → slice_get book.logs place ≡ Some items → place < length (facts.shown store) →
+      IsPrefix (slice_index_or (facts.shown store) place []) (reply_text items) → ⊥
 
 -- the cause of a stop as what a store holds is read back
-abbrev pub StopsReadingBack : {S : Type 0} → (S → Type 0) → (S → List ℕ) → (S → List (List ℕ)) → (S → Image → Type 0) →
-    (S → ℕ) → Setting → ℕ → S → S → StartStop → Type 0
-StopsReadingBack tells seen shown may_leave faults s feeds old new stop.OutOfMemory = Unit {0}
-StopsReadingBack tells seen shown may_leave faults s feeds old new stop.Unread = HasRisen (faults old) (faults new)
-StopsReadingBack tells seen shown may_leave faults s feeds old new (stop.Refused reason) =
-    (reason ≡ why.OutOfMemory → ⊥) × ((contents : List (List ℕ)) (found : IsFound tells seen may_leave contents old) →
-    RefusesBook s feeds (seen old) contents found.stands.end reason)
-StopsReadingBack tells seen shown may_leave faults s feeds old new (stop.Reply place) =
-    HoldsMore tells seen shown may_leave s feeds old place
-StopsReadingBack tells seen shown may_leave faults s feeds old new stopped = ⊥
+abbrev pub StopsReadingBack : {S : Type 0} → StoreFacts S → Setting → ℕ → S → S → StartStop → Type 0
+StopsReadingBack facts s feeds old new stop.OutOfMemory = Unit {0}
+StopsReadingBack facts s feeds old new stop.Unread = HasRisen (facts.faults old) (facts.faults new)
+StopsReadingBack facts s feeds old new (stop.Refused reason) =
+    (reason ≡ why.OutOfMemory → ⊥) × ((contents : List (List ℕ)) (found : IsFound facts.tells facts.seen facts.may_leave contents old) →
+    RefusesBook s feeds (facts.seen old) contents found.stands.end reason)
+StopsReadingBack facts s feeds old new (stop.Reply place) =
+    HoldsMore facts s feeds old place
+StopsReadingBack facts s feeds old new stopped = ⊥
 
 -- Whatever true book was found, a crash while its journal is put right leaves that, and at Ok it was taken up.
-abbrev pub PutsRight : {S E : Type 0} → (S → Type 0) → (S → List ℕ) → (S → List (List ℕ)) → (S → Image → Type 0) → (S → ℕ) →
-    (S → ℕ → Image → Type 0) → Head → Bool → Journal S → Journal S → Result (Unit {0}) E → Type 0
-PutsRight tells seen shown may_leave moment left_since head is_new old new result =
+abbrev pub PutsRight : {S E : Type 0} → StoreFacts S → Head → Bool → Journal S → Journal S → Result (Unit {0}) E → Type 0
+PutsRight facts head is_new old new result =
     (s : Setting) (contents : List (List ℕ)) (first : Book) → s.penalty ≡ head.penalty → s.plans ≡ head.plans →
     (IsTrue is_new ↔ (contents ≡ []))
-    → IsTakenUp tells seen shown may_leave s head.feeds old.store contents first
-    → LeavesOnly moment left_since old.store new.store (IsSafe s first first)
-    × OnOk result (HasBegun tells seen shown may_leave moment left_since s first first old.store new)
+    → IsTakenUp facts s head.feeds old.store contents first
+    → LeavesOnly facts.moment facts.left_since old.store new.store (IsSafe s first first)
+    × OnOk result (HasBegun facts s first first old.store new)
 
 -- The cause of a stop as a journal is put right. One that could not be read is left, and one that nothing is refused of is not refused.
-abbrev pub StopsPutting : {S : Type 0} → (S → Type 0) → (S → List ℕ) → (S → List (List ℕ)) → (S → Image → Type 0) → (S → ℕ) →
-    S → S → StartStop → Type 0
-StopsPutting tells seen shown may_leave faults old new stop.OutOfMemory = Unit {0}
-StopsPutting tells seen shown may_leave faults old new stop.Unread = HasRisen (faults old) (faults new)
-    × ((contents : List (List ℕ)) → IsFound tells seen may_leave contents old → IsLeft seen shown may_leave old new)
-StopsPutting tells seen shown may_leave faults old new stop.Failed = HasRisen (faults old) (faults new)
-StopsPutting tells seen shown may_leave faults old new (stop.Refused reason) =
-    (reason ≡ why.OutOfMemory → ⊥) × ((contents : List (List ℕ)) (found : IsFound tells seen may_leave contents old) →
+abbrev pub StopsPutting : {S : Type 0} → StoreFacts S → S → S → StartStop → Type 0
+StopsPutting facts old new stop.OutOfMemory = Unit {0}
+StopsPutting facts old new stop.Unread = HasRisen (facts.faults old) (facts.faults new)
+    × ((contents : List (List ℕ)) → IsFound facts.tells facts.seen facts.may_leave contents old → IsLeft facts old new)
+StopsPutting facts old new stop.Failed = HasRisen (facts.faults old) (facts.faults new)
+StopsPutting facts old new (stop.Refused reason) =
+    (reason ≡ why.OutOfMemory → ⊥) × ((contents : List (List ℕ)) (found : IsFound facts.tells facts.seen facts.may_leave contents old) →
     refusal contents found.stands.end ≡ None → ⊥)
-StopsPutting tells seen shown may_leave faults old new stopped = ⊥
+StopsPutting facts old new stopped = ⊥
 
 -- Whatever true book was found whose logs are those of the feeds, a crash while it is taken up leaves it, and at Ok it is settled.
-abbrev pub TakesUp : {S T E : Type 0} → (S → Type 0) → (S → List ℕ) → (S → List (List ℕ)) → (S → Image → Type 0) → (S → ℕ) →
-    (S → ℕ → Image → Type 0) → Head → Bool → List (Watched T) → Journal S → Journal S → Result (Unit {0}) E → Type 0
-TakesUp tells seen shown may_leave moment left_since head is_new feeds old new result =
+abbrev pub TakesUp : {S T E : Type 0} → StoreFacts S → Head → Bool → List (Watched T) → Journal S → Journal S → Result (Unit {0}) E → Type 0
+TakesUp facts head is_new feeds old new result =
     (s : Setting) (contents : List (List ℕ)) (first : Book) → s.penalty ≡ head.penalty → s.plans ≡ head.plans →
     (IsTrue is_new ↔ (contents ≡ []))
-    → first.logs ≡ map all_items feeds → IsTakenUp tells seen shown may_leave s head.feeds old.store contents first
-    → LeavesOnly moment left_since old.store new.store (IsSafe s first first) × tells new.store
-    × OnOk result (HaveSettled tells seen shown may_leave s first.logs new)
+    → first.logs ≡ map all_items feeds → IsTakenUp facts s head.feeds old.store contents first
+    → LeavesOnly facts.moment facts.left_since old.store new.store (IsSafe s first first) × facts.tells new.store
+    × OnOk result (HaveSettled facts s first.logs new)
 
 -- ---- feeds
 
@@ -192,31 +185,28 @@ pub record IsGoing {T : Type 0} (given : T → Option (List ℕ)) (s : Setting) 
   pub shown : All IsShown watch.feeds.items
 
 -- Since the start a crash left a book that goes on from the first. The journal has that of the watch, and it is shown.
-pub record HasGone {S T : Type 0} (tells : S → Type 0) (seen : S → List ℕ) (shown : S → List (List ℕ))
-    (may_leave : S → Image → Type 0) (moment : S → ℕ) (left_since : S → ℕ → Image → Type 0)
+pub record HasGone {S T : Type 0} (facts : StoreFacts S)
     (s : Setting) (first : Book) (watch : Watch T) (start : S) (now : Journal S) : Type 0 where
-  pub leaves : LeavesOnly moment left_since start now.store (IsSafe s first (book_in watch))
+  pub leaves : LeavesOnly facts.moment facts.left_since start now.store (IsSafe s first (book_in watch))
   pub grows : IsFrontBook first (book_in watch)
-  pub settled : HaveSettled tells seen shown may_leave s (book_in watch).logs now
+  pub settled : HaveSettled facts s (book_in watch).logs now
 
 -- Where a day has gone on since a start, it goes on as rounds are gone.
-abbrev pub GoesOver : {S T E : Type 0} → (S → Type 0) → (S → List ℕ) → (S → List (List ℕ)) → (S → Image → Type 0) → (S → ℕ) →
-    (S → ℕ → Image → Type 0) → Setting → Book → List (Option (List ℕ)) → S → Watch T → Journal S → Journal S → Result (Watch T) E → Type 0
-GoesOver tells seen shown may_leave moment left_since s first sources start watch old new result =
-    setting_of watch.desk.plans watch.desk.table ≡ s → HasGone tells seen shown may_leave moment left_since s first watch start old
-    → LivesOn shown moment left_since s first sources start new.store
-    × IfOk result (λ r. HasGone tells seen shown may_leave moment left_since s first r start new)
+abbrev pub GoesOver : {S T E : Type 0} → StoreFacts S → Setting → Book → List (Option (List ℕ)) → S → Watch T → Journal S → Journal S → Result (Watch T) E → Type 0
+GoesOver facts s first sources start watch old new result =
+    setting_of watch.desk.plans watch.desk.table ≡ s → HasGone facts s first watch start old
+    → LivesOn facts s first sources start new.store
+    × IfOk result (λ r. HasGone facts s first r start new)
 
 -- the cause of a stop as rounds are gone
-abbrev pub StopsGoing : {S T : Type 0} → (S → Type 0) → (S → List ℕ) → (S → List (List ℕ)) → (S → Image → Type 0) → (S → ℕ) →
-    (S → ℕ → Image → Type 0) → (T → Option (List ℕ)) → (S → ℕ) → (T → ℕ) → Watch T → Journal S → Journal S → RoundStop → Type 0
-StopsGoing tells seen shown may_leave moment left_since given store_faults faults watch old new round.OutOfMemory = Unit {0}
-StopsGoing tells seen shown may_leave moment left_since given store_faults faults watch old new (round.Unsynced number) = HasUnsynced faults
-StopsGoing tells seen shown may_leave moment left_since given store_faults faults watch old new round.Failed =
-    HasRisen (store_faults old.store) (store_faults new.store)
-StopsGoing {S} tells seen shown may_leave moment left_since given store_faults faults watch old new round.Full =
+abbrev pub StopsGoing : {S T : Type 0} → StoreFacts S → (T → Option (List ℕ)) → (T → ℕ) → Watch T → Journal S → Journal S → RoundStop → Type 0
+StopsGoing facts given faults watch old new round.OutOfMemory = Unit {0}
+StopsGoing facts given faults watch old new (round.Unsynced number) = HasUnsynced faults
+StopsGoing facts given faults watch old new round.Failed =
+    HasRisen (facts.faults old.store) (facts.faults new.store)
+StopsGoing {S} facts given faults watch old new round.Full =
     (s : Setting) (first : Book) (start : S) → setting_of watch.desk.plans watch.desk.table ≡ s →
-    HasGone tells seen shown may_leave moment left_since s first watch start old → IsFullOf given s first
+    HasGone facts s first watch start old → IsFullOf given s first
 
 -- ---- the end
 
@@ -268,16 +258,11 @@ EndsRound taken faults stopped before now result = (now ≡ before) × (result �
 
 -- ---- the whole
 
--- the book of logs beside a table
-abbrev pub book_beside : TableValue → List (List LogItem) → Book
-book_beside table logs = record { history = table.history; logs = logs }
-
 -- since the start, whatever true book was found, the day has gone on
-abbrev pub HasGoneSince : {S T : Type 0} → (S → Type 0) → (S → List ℕ) → (S → List (List ℕ)) → (S → Image → Type 0) → (S → ℕ) →
-    (S → ℕ → Image → Type 0) → Setting → ℕ → Watch T → S → Journal S → Type 0
-HasGoneSince tells seen shown may_leave moment left_since s feeds watch start now =
-    (contents : List (List ℕ)) (first : Book) → IsTakenUp tells seen shown may_leave s feeds start contents first →
-    HasGone tells seen shown may_leave moment left_since s first watch start now
+abbrev pub HasGoneSince : {S T : Type 0} → StoreFacts S → Setting → ℕ → Watch T → S → Journal S → Type 0
+HasGoneSince facts s feeds watch start now =
+    (contents : List (List ℕ)) (first : Book) → IsTakenUp facts s feeds start contents first →
+    HasGone facts s first watch start now
 
 -- a run was printed, or there was no memory for that
 abbrev pub EndsDay : {K T : Type 0} → (K → Option (List ℕ)) → (K → ℕ) → TableValue → List (Watched T) → List Note → K → K →

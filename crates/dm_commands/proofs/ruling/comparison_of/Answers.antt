@@ -11,7 +11,7 @@ compare-requires-clause-no_cycle g c = rw (c.network-net.ensures, c.in_ok-snapsh
 
 pub returns : goal.returns
 returns g c =
-    let finds = c.requires.searches.gives c.network-net.result c.penalty-penalty.result _ c.search_for.result c.args.asked.workers (Ok c.in_ok-plan.plan) c.in_ok-plan.ensures in
+    let finds = c.requires.searches.gives _ (Ok c.in_ok-plan.plan) c.in_ok-plan.ensures in
     let found = found_is _ _ _ c.search_for.result c.in_ok-plan.plan finds in
     let is_true =
     subst (λ (n : ℕ). IsTrueAny (whole_task c.network-net.result.now c.in_ok-snapshot.snapshot.rows c.penalty-penalty.result n) c.in_ok-plan.plan) c.search_for.ensures.budget found.0 in

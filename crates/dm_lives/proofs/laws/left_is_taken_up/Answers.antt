@@ -2,4 +2,4 @@ use Rattle.dm_lives.proofs.Again.{taken_up_again}
 use Rattle.dm_lives.proofs.laws.left_is_taken_up.Goals as goal
 
 pub returns : goal.returns
-returns g c = taken_up_again g.S.Store.tells g.S.Store.seen g.S.Store.shown g.S.Store.may_leave
+returns g c = taken_up_again g.S.Store

@@ -10,24 +10,6 @@ use Rattle.dm_program.proofs.top.dispatch.Goals as goal
 pub returns-clause-headline : goal.returns-clause-headline
 returns-clause-headline g c = λ e. rw e at c.dispatch_with.ensures.ends
 
-pub returns-clause-bad : goal.returns-clause-bad
-returns-clause-bad g c = λ e. rw e at c.dispatch_with.ensures.ends
-
-pub returns-clause-usage : goal.returns-clause-usage
-returns-clause-usage g c = λ e. rw e at c.dispatch_with.ensures.ends
-
-pub returns-clause-refused : goal.returns-clause-refused
-returns-clause-refused g c = λ e. rw e at c.dispatch_with.ensures.ends
-
-pub returns-clause-read_fault : goal.returns-clause-read_fault
-returns-clause-read_fault g c = λ e. rw e at c.dispatch_with.ensures.ends
-
-pub returns-clause-write_fault : goal.returns-clause-write_fault
-returns-clause-write_fault g c = λ e. rw e at c.dispatch_with.ensures.ends
-
-pub returns-clause-no_memory : goal.returns-clause-no_memory
-returns-clause-no_memory g c = λ e. rw e at c.dispatch_with.ensures.ends
-
 pub returns-clause-outside : goal.returns-clause-outside
 returns-clause-outside g c = λ outside.
     ends_outside g.K.Sink.taken g.K.Sink.faults (g.H.Shelf.files c.args.shelf.now) (g.H.Shelf.is_sound c.args.shelf.now) _ (map (string_bytes {Z = Global}) c.args.words.now) c.args.out.now c.dispatch_with.new.out outside c.dispatch_with.result c.dispatch_with.ensures.ends

@@ -12,12 +12,12 @@ show_growth-requires-clause-has g c = λ some. earlier_later g.T.Growing.given c
 
 pub returns-in-Err-clause-leaves : goal.returns-in-Err-clause-leaves
 returns-in-Err-clause-leaves g c =
-    once_lives g.S.Store.tells g.S.Store.seen g.S.Store.shown g.S.Store.may_leave g.S.Store.moment g.S.Store.left_since c.args.watch c.args.journal.now c.round.new.journal (map (source_in g.T.Growing.source) c.args.watch.feeds.items) _ c.in-Err.ensures.rounds c.round.ensures.told (λ store t image told left. g.met.S.Store.shows_on store t image told left)
+    once_lives g.S.Store c.args.watch c.args.journal.now c.round.new.journal (map (source_in g.T.Growing.source) c.args.watch.feeds.items) _ c.in-Err.ensures.rounds c.round.ensures.told (λ store t image told left. g.met.S.Store.shows_on store t image told left)
 
 pub returns-in-Err-clause-stops : goal.returns-in-Err-clause-stops
 returns-in-Err-clause-stops g c =
-    once_stops g.S.Store.tells g.S.Store.seen g.S.Store.shown g.S.Store.may_leave g.S.Store.moment g.S.Store.left_since c.args.watch c.args.journal.now c.round.new.journal
-    g.T.Growing.given g.S.Store.faults g.T.Growing.faults c.requires.watching c.in-Err.stop c.in-Err.ensures.cause
+    once_stops g.S.Store c.args.watch c.args.journal.now c.round.new.journal
+    g.T.Growing.given g.T.Growing.faults c.requires.watching c.in-Err.stop c.in-Err.ensures.cause
 
 pub returns-clause-going : goal.returns-clause-going
 returns-clause-going g c = λ s n going.
@@ -27,13 +27,13 @@ returns-clause-going g c = λ s n going.
 pub returns-clause-gone : goal.returns-clause-gone
 returns-clause-gone g c = λ s first start is gone.
     same_watch c.in-Ok.answered.0 c.show_growth.new.table c.show_growth.ensures.same
-    (λ w. HasGone g.S.Store.tells g.S.Store.seen g.S.Store.shown g.S.Store.may_leave g.S.Store.moment g.S.Store.left_since s first w start c.round.new.journal)
-    (once_gone g.S.Store.tells g.S.Store.seen g.S.Store.shown g.S.Store.may_leave g.S.Store.moment g.S.Store.left_since c.args.watch c.args.journal.now c.round.new.journal
+    (λ w. HasGone g.S.Store s first w start c.round.new.journal)
+    (once_gone g.S.Store c.args.watch c.args.journal.now c.round.new.journal
     (map (source_in g.T.Growing.source) c.args.watch.feeds.items) c.in-Ok.answered.0 c.in-Ok.answered.1 c.in-Ok.ensures.rounds s first start is gone)
 
 pub returns-clause-leaves : goal.returns-clause-leaves
 returns-clause-leaves g c =
-    once_lives g.S.Store.tells g.S.Store.seen g.S.Store.shown g.S.Store.may_leave g.S.Store.moment g.S.Store.left_since c.args.watch c.args.journal.now c.round.new.journal (map (source_in g.T.Growing.source) c.args.watch.feeds.items) _ c.in-Ok.ensures.rounds c.round.ensures.told (λ store t image told left. g.met.S.Store.shows_on store t image told left)
+    once_lives g.S.Store c.args.watch c.args.journal.now c.round.new.journal (map (source_in g.T.Growing.source) c.args.watch.feeds.items) _ c.in-Ok.ensures.rounds c.round.ensures.told (λ store t image told left. g.met.S.Store.shows_on store t image told left)
 
 pub returns-clause-up : goal.returns-clause-up
 returns-clause-up g c = λ first up.

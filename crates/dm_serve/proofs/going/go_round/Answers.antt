@@ -48,15 +48,15 @@ loop-round-preserved g c = record {
 
 pub returns-in-Err-clause-goes : goal.returns-in-Err-clause-goes
 returns-in-Err-clause-goes g c = λ s first start is gone. (
-  subst (λ (l : List (Option (List ℕ))). LivesOn g.S.Store.shown g.S.Store.moment g.S.Store.left_since s first l start c.go_once.new.journal.store) c.loop-round.invariant.sources
+  subst (λ (l : List (Option (List ℕ))). LivesOn g.S.Store s first l start c.go_once.new.journal.store) c.loop-round.invariant.sources
       (c.in-Err.ensures.leaves s first start (c.loop-round.invariant.going.setting ∙ is) (c.loop-round.invariant.gone s first start is gone)),
   tt,
 )
 
 pub returns-in-Err-clause-stops : goal.returns-in-Err-clause-stops
 returns-in-Err-clause-stops g c =
-    stops_on g.S.Store.tells g.S.Store.seen g.S.Store.shown g.S.Store.may_leave g.S.Store.moment g.S.Store.left_since c.loop-round.watch c.loop-round.journal c.go_once.new.journal
-    g.T.Growing.given g.S.Store.faults g.T.Growing.faults c.args.watch c.args.journal.now c.loop-round.invariant.going.setting c.loop-round.invariant.gone c.loop-round.invariant.later c.in-Err.stop
+    stops_on g.S.Store c.loop-round.watch c.loop-round.journal c.go_once.new.journal
+    g.T.Growing.given g.T.Growing.faults c.args.watch c.args.journal.now c.loop-round.invariant.going.setting c.loop-round.invariant.gone c.loop-round.invariant.later c.in-Err.stop
     c.in-Err.ensures.stops
 
 pub returns-in-Err-clause-later : goal.returns-in-Err-clause-later
@@ -71,7 +71,7 @@ returns-then-not-next-clause-going g c = c.in-Ok.ensures.going _ _ c.loop-round.
 pub returns-then-not-next-clause-goes : goal.returns-then-not-next-clause-goes
 returns-then-not-next-clause-goes g c = λ s first start is gone.
     let more = c.in-Ok.ensures.gone s first start (c.loop-round.invariant.going.setting ∙ is) (c.loop-round.invariant.gone s first start is gone) in (
-      subst (λ (l : List (Option (List ℕ))). LivesOn g.S.Store.shown g.S.Store.moment g.S.Store.left_since s first l start c.go_once.new.journal.store) c.loop-round.invariant.sources
+      subst (λ (l : List (Option (List ℕ))). LivesOn g.S.Store s first l start c.go_once.new.journal.store) c.loop-round.invariant.sources
           (c.in-Ok.ensures.leaves s first start (c.loop-round.invariant.going.setting ∙ is) (c.loop-round.invariant.gone s first start is gone)),
       more,
     )

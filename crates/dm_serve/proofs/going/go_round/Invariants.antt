@@ -12,8 +12,8 @@ invariant-loop-round g l =
     record {
       going : IsGoing g.T.Growing.given (setting_of l.fn.watch.desk.plans l.fn.watch.desk.table) (length l.fn.watch.feeds.items) l.watch;
       gone : (s : Setting) (first : Book) (start : _) → setting_of l.fn.watch.desk.plans l.fn.watch.desk.table ≡ s
-          → HasGone g.S.Store.tells g.S.Store.seen g.S.Store.shown g.S.Store.may_leave g.S.Store.moment g.S.Store.left_since s first l.fn.watch start l.fn.journal
-          → HasGone g.S.Store.tells g.S.Store.seen g.S.Store.shown g.S.Store.may_leave g.S.Store.moment g.S.Store.left_since s first l.watch start l.journal;
+          → HasGone g.S.Store s first l.fn.watch start l.fn.journal
+          → HasGone g.S.Store s first l.watch start l.journal;
       up :
           AreUp (λ b. (goal.Board-dyn g (b.vtable, b.value)).place b.value) (λ b. (goal.Board-dyn g (b.vtable, b.value)).times b.value) (λ b. (goal.Board-dyn g (b.vtable, b.value)).flags b.value)
           (λ b. (goal.Board-dyn g (b.vtable, b.value)).faults b.value) (λ b. (goal.Board-dyn g (b.vtable, b.value)).is_sound b.value)

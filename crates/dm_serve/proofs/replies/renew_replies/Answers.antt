@@ -18,7 +18,7 @@ loop-place-preserved g c =
     record {
       renewed = λ s contents book start logs kept before.
           let now = inv.renewed s contents book start logs kept before in
-          (renewed_one g.S.Store.tells g.S.Store.seen g.S.Store.shown g.S.Store.may_leave g.S.Store.moment g.S.Store.left_since c.args.feeds.now c.loop-place.place c.args.store.now c.loop-place.store c.index-feeds-place.result at
+          (renewed_one g.S.Store c.args.feeds.now c.loop-place.place c.args.store.now c.loop-place.store c.index-feeds-place.result at
           s contents book start logs before now.0 now.1 {E = StartStop} c.renew_reply.new.store (Ok tt) c.in-Ok.ensures.puts kept).2;
       later = omega (arith, inv.later, c.renew_reply.ensures.later);
     }
@@ -29,7 +29,7 @@ returns-in-Err-clause-puts g c = λ s contents book start logs kept before.
     let low : c.loop-place.place < length c.args.feeds.now = omega arith in
     let at = slice_get_read c.args.feeds.now (length c.args.feeds.now) c.loop-place.place c.index-feeds-place.result refl low c.index-feeds-place.is in
     let now = inv.renewed s contents book start logs kept before in
-    let one = renewed_one g.S.Store.tells g.S.Store.seen g.S.Store.shown g.S.Store.may_leave g.S.Store.moment g.S.Store.left_since c.args.feeds.now c.loop-place.place c.args.store.now c.loop-place.store c.index-feeds-place.result at
+    let one = renewed_one g.S.Store c.args.feeds.now c.loop-place.place c.args.store.now c.loop-place.store c.index-feeds-place.result at
     s contents book start logs before now.0 now.1 {E = StartStop} c.renew_reply.new.store (Err c.in-Err.stop) c.in-Err.ensures.puts kept in
     (one.0, one.1, tt)
 

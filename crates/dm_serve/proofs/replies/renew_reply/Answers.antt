@@ -14,11 +14,11 @@ returns-in-Ok-renew-clause-puts g c = λ s contents book start first rest text h
     let written : c.deref-2.result.now ≡ log_text c.args.watched.now = c.deref-2.ensures.value ∙ (c.in-Ok.ensures ∙ ap reply_text c.deref.ensures.value) in
     let more : GoesOnAs c.args.place (g.S.Store.shown c.args.store.now) c.deref-2.result.now =
     subst (λ (l : List ℕ). IsPrefix l c.deref-2.result.now) (sym (one_at first rest text c.args.place (g.S.Store.shown c.args.store.now) is here)) (subst (IsPrefix text) (sym written) longer) in
-    let low = within g.S.Store.tells g.S.Store.seen g.S.Store.shown g.S.Store.may_leave g.S.Store.moment g.S.Store.left_since s contents book start c.args.store.now c.renew.new.self first rest (log_text c.args.watched.now) text c.args.place here is fronts kept so_far in (
-      one_leaves g.S.Store.tells g.S.Store.seen g.S.Store.shown g.S.Store.may_leave g.S.Store.moment g.S.Store.left_since s contents book start c.args.store.now c.renew.new.self first rest (log_text c.args.watched.now) text c.args.place here is fronts kept so_far c.deref-2.result.now written
+    let low = within g.S.Store s contents book start c.args.store.now c.renew.new.self first rest (log_text c.args.watched.now) text c.args.place here is fronts kept so_far in (
+      one_leaves g.S.Store s contents book start c.args.store.now c.renew.new.self first rest (log_text c.args.watched.now) text c.args.place here is fronts kept so_far c.deref-2.result.now written
           (λ image left. g.met.S.Store.shows_now c.args.store.now image so_far.told left) (c.renew.ensures.goes so_far.told low more),
       c.renew.ensures.told so_far.told more,
-      one_put g.S.Store.tells g.S.Store.seen g.S.Store.shown g.S.Store.may_leave g.S.Store.moment g.S.Store.left_since s contents book start c.args.store.now c.renew.new.self first rest (log_text c.args.watched.now) text c.args.place here is fronts kept so_far c.deref-2.result.now written
+      one_put g.S.Store s contents book start c.args.store.now c.renew.new.self first rest (log_text c.args.watched.now) text c.args.place here is fronts kept so_far c.deref-2.result.now written
           (λ image left. g.met.S.Store.shows_now c.args.store.now image so_far.told left) (c.renew.ensures.goes so_far.told low more) (c.renew.ensures.told so_far.told more) (c.in-Ok-renew.ensures.shown so_far.told low more),
     )
 
@@ -27,8 +27,8 @@ returns-clause-puts g c = λ s contents book start first rest text here is longe
     let written : c.deref-2.result.now ≡ log_text c.args.watched.now = c.deref-2.ensures.value ∙ (c.in-Ok.ensures ∙ ap reply_text c.deref.ensures.value) in
     let more : GoesOnAs c.args.place (g.S.Store.shown c.args.store.now) c.deref-2.result.now =
     subst (λ (l : List ℕ). IsPrefix l c.deref-2.result.now) (sym (one_at first rest text c.args.place (g.S.Store.shown c.args.store.now) is here)) (subst (IsPrefix text) (sym written) longer) in
-    let low = within g.S.Store.tells g.S.Store.seen g.S.Store.shown g.S.Store.may_leave g.S.Store.moment g.S.Store.left_since s contents book start c.args.store.now c.renew.new.self first rest (log_text c.args.watched.now) text c.args.place here is fronts kept so_far in (
-      one_leaves g.S.Store.tells g.S.Store.seen g.S.Store.shown g.S.Store.may_leave g.S.Store.moment g.S.Store.left_since s contents book start c.args.store.now c.renew.new.self first rest (log_text c.args.watched.now) text c.args.place here is fronts kept so_far c.deref-2.result.now written
+    let low = within g.S.Store s contents book start c.args.store.now c.renew.new.self first rest (log_text c.args.watched.now) text c.args.place here is fronts kept so_far in (
+      one_leaves g.S.Store s contents book start c.args.store.now c.renew.new.self first rest (log_text c.args.watched.now) text c.args.place here is fronts kept so_far c.deref-2.result.now written
           (λ image left. g.met.S.Store.shows_now c.args.store.now image so_far.told left) (c.renew.ensures.goes so_far.told low more),
       c.renew.ensures.told so_far.told more,
       tt,

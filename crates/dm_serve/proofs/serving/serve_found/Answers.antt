@@ -18,7 +18,7 @@ take_up-requires g c = record {
 }
 
 pub end_start-requires : goal.end_start-requires
-end_start-requires g c = putting_reason g.S.Store.tells g.S.Store.seen g.S.Store.shown g.S.Store.may_leave g.S.Store.faults c.args.journal.now.store c.take_up.new.journal.store c.in-Err.stop c.in-Err.ensures.stops
+end_start-requires g c = putting_reason g.S.Store c.args.journal.now.store c.take_up.new.journal.store c.in-Err.stop c.in-Err.ensures.stops
 
 pub returns-in-Ok-clause-ends : goal.returns-in-Ok-clause-ends
 returns-in-Ok-clause-ends g c = λ start feeds later back.
@@ -26,9 +26,9 @@ returns-in-Ok-clause-ends g c = λ start feeds later back.
     let head : Head = record { penalty = c.args.serving.now.words.now.run.files.penalty; plans = c.args.serving.now.words.now.run.files.plans; feeds = c.len.result } in
     let many : c.len.result ≡ n = omega (arith, c.len.ensures, c.args.watch.feeds.ok.0, c.requires.as_many) in
     c.serve_watch.ensures.ends start feeds (omega (arith, later, c.take_up.ensures.later))
-    (taken_since g.S.Store.tells g.S.Store.seen g.S.Store.shown g.S.Store.may_leave g.S.Store.moment g.S.Store.left_since (setting_of c.args.watch.desk.plans c.args.watch.desk.table) n StartStop g.S.Store.faults head c.args.is_new c.args.watch start.store
+    (taken_since g.S.Store (setting_of c.args.watch.desk.plans c.args.watch.desk.table) n StartStop head c.args.is_new c.args.watch start.store
     c.args.journal.now c.take_up.new.journal c.requires.penalty c.requires.plans many back
-    (subst (λ (l : List (Watched _)). TakesUp {E = StartStop} g.S.Store.tells g.S.Store.seen g.S.Store.shown g.S.Store.may_leave g.S.Store.moment g.S.Store.left_since head c.args.is_new l c.args.journal.now c.take_up.new.journal (Ok tt)) c.deref.ensures.value
+    (subst (λ (l : List (Watched _)). TakesUp {E = StartStop} g.S.Store head c.args.is_new l c.args.journal.now c.take_up.new.journal (Ok tt)) c.deref.ensures.value
     c.in-Ok.ensures.takes))
 
 pub returns-in-Ok-clause-keeps : goal.returns-in-Ok-clause-keeps
@@ -37,15 +37,15 @@ returns-in-Ok-clause-keeps g c = λ start back.
     let head : Head = record { penalty = c.args.serving.now.words.now.run.files.penalty; plans = c.args.serving.now.words.now.run.files.plans; feeds = c.len.result } in
     let many : c.len.result ≡ n = omega (arith, c.len.ensures, c.args.watch.feeds.ok.0, c.requires.as_many) in
     c.serve_watch.ensures.keeps start
-    (taken_since g.S.Store.tells g.S.Store.seen g.S.Store.shown g.S.Store.may_leave g.S.Store.moment g.S.Store.left_since (setting_of c.args.watch.desk.plans c.args.watch.desk.table) n StartStop g.S.Store.faults head c.args.is_new c.args.watch start
+    (taken_since g.S.Store (setting_of c.args.watch.desk.plans c.args.watch.desk.table) n StartStop head c.args.is_new c.args.watch start
     c.args.journal.now c.take_up.new.journal c.requires.penalty c.requires.plans many back
-    (subst (λ (l : List (Watched _)). TakesUp {E = StartStop} g.S.Store.tells g.S.Store.seen g.S.Store.shown g.S.Store.may_leave g.S.Store.moment g.S.Store.left_since head c.args.is_new l c.args.journal.now c.take_up.new.journal (Ok tt)) c.deref.ensures.value
+    (subst (λ (l : List (Watched _)). TakesUp {E = StartStop} g.S.Store head c.args.is_new l c.args.journal.now c.take_up.new.journal (Ok tt)) c.deref.ensures.value
     c.in-Ok.ensures.takes))
 
 pub returns-in-Err-clause-ends : goal.returns-in-Err-clause-ends
 returns-in-Err-clause-ends g c = λ start feeds later back.
     rw c.no_day.ensures.status
-    (putting_ends g.K.Sink.taken g.K.Sink.faults g.S.Store.tells g.S.Store.seen g.S.Store.shown g.S.Store.may_leave g.S.Store.moment g.S.Store.left_since g.S.Store.faults g.T.Growing.given g.T.Growing.faults _
+    (putting_ends g.K.Sink.taken g.K.Sink.faults g.S.Store g.T.Growing.given g.T.Growing.faults _
     (setting_of c.args.watch.desk.plans c.args.watch.desk.table) (server_of c.args.serving.now.words.now).run.feeds (server_of c.args.serving.now.words.now).store feeds c.no_day.result.tails.items c.args.out.now c.end_start.new.out start c.take_up.new.journal
     (book_in c.args.watch) c.args.is_new c.args.journal.now.store c.in-Err.stop c.end_start.result later back c.in-Err.ensures.stops c.end_start.ensures.ends)
 
@@ -54,10 +54,10 @@ returns-in-Err-clause-keeps g c = λ start back.
     let n = length (server_of c.args.serving.now.words.now).run.feeds in
     let head : Head = record { penalty = c.args.serving.now.words.now.run.files.penalty; plans = c.args.serving.now.words.now.run.files.plans; feeds = c.len.result } in
     let many : c.len.result ≡ n = omega (arith, c.len.ensures, c.args.watch.feeds.ok.0, c.requires.as_many) in
-    taken_keeps g.S.Store.tells g.S.Store.seen g.S.Store.shown g.S.Store.may_leave g.S.Store.moment g.S.Store.left_since (setting_of c.args.watch.desk.plans c.args.watch.desk.table) n StartStop g.S.Store.faults head c.args.is_new c.args.watch start
+    taken_keeps g.S.Store (setting_of c.args.watch.desk.plans c.args.watch.desk.table) n StartStop head c.args.is_new c.args.watch start
     c.args.journal.now c.take_up.new.journal c.requires.penalty c.requires.plans many back
     (λ store t image told left. g.met.S.Store.shows_on store t image told left) c.take_up.result
-    (subst (λ (l : List (Watched _)). TakesUp {E = StartStop} g.S.Store.tells g.S.Store.seen g.S.Store.shown g.S.Store.may_leave g.S.Store.moment g.S.Store.left_since head c.args.is_new l c.args.journal.now c.take_up.new.journal c.take_up.result) c.deref.ensures.value
+    (subst (λ (l : List (Watched _)). TakesUp {E = StartStop} g.S.Store head c.args.is_new l c.args.journal.now c.take_up.new.journal c.take_up.result) c.deref.ensures.value
     c.take_up.ensures.takes)
     (map (source_in g.T.Growing.source) c.args.watch.feeds.items)
 

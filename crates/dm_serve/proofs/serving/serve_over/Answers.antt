@@ -21,14 +21,14 @@ use Rattle.dm_serve.proofs.serving.serve_over.Goals as goal
 pub returns-in-Err-clause-ends : goal.returns-in-Err-clause-ends
 returns-in-Err-clause-ends g c =
     rw c.no_day.ensures.status
-    (unopened_ends g.K.Sink.taken g.K.Sink.faults g.S.Store.tells g.S.Store.seen g.S.Store.shown g.S.Store.may_leave g.S.Store.moment g.S.Store.left_since g.S.Store.faults g.T.Growing.given g.T.Growing.faults _
+    (unopened_ends g.K.Sink.taken g.K.Sink.faults g.S.Store g.T.Growing.given g.T.Growing.faults _
     (setting_for (server_of c.args.serving.now.words.now) (record { net = c.args.serving.now.net.now; rows = c.args.rows })) (server_of c.args.serving.now.words.now).run.feeds (server_of c.args.serving.now.words.now).store c.args.feeds.items c.no_day.result.tails.items c.args.out.now c.end_unopened.new.out
     c.args.journal.now c.args.journal.now c.in-Err.stop c.end_unopened.result c.requires.as_many c.in-Err.ensures.unopened c.end_unopened.ensures.ends)
 
 pub returns-in-Err-clause-keeps : goal.returns-in-Err-clause-keeps
 returns-in-Err-clause-keeps g c =
-    looked_keeps g.S.Store.tells g.S.Store.seen g.S.Store.shown g.S.Store.may_leave g.S.Store.moment g.S.Store.left_since _ _ (λ store t image told left. g.met.S.Store.shows_on store t image told left) _ c.args.journal.now.store c.args.journal.now.store
-    (looks_none g.S.Store.tells g.S.Store.seen g.S.Store.shown g.S.Store.may_leave g.S.Store.moment g.S.Store.left_since g.met.S.Store.shows_now g.met.S.Store.only_now c.args.journal.now.store)
+    looked_keeps g.S.Store _ _ (λ store t image told left. g.met.S.Store.shows_on store t image told left) _ c.args.journal.now.store c.args.journal.now.store
+    (looks_none g.S.Store g.met.S.Store.shows_now g.met.S.Store.only_now c.args.journal.now.store)
 
 pub returns-in-Err-clause-told : goal.returns-in-Err-clause-told
 returns-in-Err-clause-told g c = λ e. absurd (unopened_never g.K.Sink.taken g.K.Sink.faults c.args.out.now c.end_unopened.new.out c.end_unopened.result _ c.in-Err.stop c.end_unopened.ensures.ends (sym c.no_day.ensures.status ∙ e))
@@ -47,27 +47,27 @@ read_back-requires-clause-feeds g c =
     (omega (arith, c.len.ensures, c.in-Ok.watched.ok.0, many, c.requires.as_many, some), omega (arith, c.len.ensures, c.in-Ok.watched.ok.0, many, c.requires.as_many, few))
 
 pub serve_feeds-requires-clause-network : goal.serve_feeds-requires-clause-network
-serve_feeds-requires-clause-network g c = λ lifetimes bounds. ap (λ (s : Setting). s.net) c.in-Ok-read_back.ensures.setting
+serve_feeds-requires-clause-network g c = ap (λ (s : Setting). s.net) c.in-Ok-read_back.ensures.setting
 
 pub serve_feeds-requires-clause-penalty : goal.serve_feeds-requires-clause-penalty
-serve_feeds-requires-clause-penalty g c = λ lifetimes bounds. ap (λ (s : Setting). s.penalty) c.in-Ok-read_back.ensures.setting
+serve_feeds-requires-clause-penalty g c = ap (λ (s : Setting). s.penalty) c.in-Ok-read_back.ensures.setting
 
 pub serve_feeds-requires-clause-plans : goal.serve_feeds-requires-clause-plans
-serve_feeds-requires-clause-plans g c = λ lifetimes bounds. ap (λ (s : Setting). s.plans) c.in-Ok-read_back.ensures.setting
+serve_feeds-requires-clause-plans g c = ap (λ (s : Setting). s.plans) c.in-Ok-read_back.ensures.setting
 
 pub serve_feeds-requires-clause-as_many : goal.serve_feeds-requires-clause-as_many
-serve_feeds-requires-clause-as_many g c = λ lifetimes bounds. as_many_opened c.args.feeds.items c.in-Ok.watched.items c.in-Ok.ensures.unread.are ∙ c.requires.as_many
+serve_feeds-requires-clause-as_many g c = as_many_opened c.args.feeds.items c.in-Ok.watched.items c.in-Ok.ensures.unread.are ∙ c.requires.as_many
 
 pub serve_feeds-requires-clause-logs : goal.serve_feeds-requires-clause-logs
-serve_feeds-requires-clause-logs g c = λ lifetimes bounds.
+serve_feeds-requires-clause-logs g c =
     let many = as_many_opened c.args.feeds.items c.in-Ok.watched.items c.in-Ok.ensures.unread.are in
     omega (arith, c.len.ensures, c.in-Ok.watched.ok.0, many, c.requires.as_many, c.in-Ok-read_back.ensures.as_many)
 
 pub serve_feeds-requires-clause-fresh : goal.serve_feeds-requires-clause-fresh
-serve_feeds-requires-clause-fresh g c = λ lifetimes bounds. all_fresh g.T.Growing.given c.args.feeds.items c.in-Ok.watched.items c.requires.unread c.in-Ok.ensures.unread
+serve_feeds-requires-clause-fresh g c = all_fresh g.T.Growing.given c.args.feeds.items c.in-Ok.watched.items c.requires.unread c.in-Ok.ensures.unread
 
 pub serve_feeds-requires-clause-is_true : goal.serve_feeds-requires-clause-is_true
-serve_feeds-requires-clause-is_true g c = λ lifetimes bounds.
+serve_feeds-requires-clause-is_true g c =
     subst (λ (s : Setting). IsTrueBook s (book_back c.in-Ok-read_back.restored)) (sym c.in-Ok-read_back.ensures.setting) c.in-Ok-read_back.ensures.is_true
 
 pub end_start-requires : goal.end_start-requires
@@ -75,7 +75,7 @@ end_start-requires g c =
     let many = as_many_opened c.args.feeds.items c.in-Ok.watched.items c.in-Ok.ensures.unread.are in
     let most = c.requires.within.few_feeds in
     let few : c.len.result ≤ FEEDS = omega (arith, c.len.ensures, c.in-Ok.watched.ok.0, many, c.requires.as_many, most) in
-    reading_reason g.S.Store.tells g.S.Store.seen g.S.Store.shown g.S.Store.may_leave g.S.Store.faults _ _ c.args.journal.now.store c.read_back.new.store c.in-Err-read_back.stop few c.in-Err-read_back.ensures.stops
+    reading_reason g.S.Store _ _ c.args.journal.now.store c.read_back.new.store c.in-Err-read_back.stop few c.in-Err-read_back.ensures.stops
 
 pub returns-in-Ok-read_back-clause-ends : goal.returns-in-Ok-read_back-clause-ends
 returns-in-Ok-read_back-clause-ends g c =
@@ -86,9 +86,9 @@ returns-in-Ok-read_back-clause-ends g c =
     let same : s_now ≡ s = c.in-Ok-read_back.ensures.setting in
     let opened_all = as_many_opened c.args.feeds.items c.in-Ok.watched.items c.in-Ok.ensures.unread.are in
     let many : c.len.result ≡ length asked.run.feeds = omega (arith, c.len.ensures, c.in-Ok.watched.ok.0, opened_all, c.requires.as_many) in
-    let back = was_read_back g.S.Store.tells g.S.Store.seen g.S.Store.shown g.S.Store.may_leave g.S.Store.moment g.S.Store.left_since s s_now same (length asked.run.feeds) c.len.result many (book_back r) r.is_new c.args.journal.now.store c.read_back.new.store
+    let back = was_read_back g.S.Store s s_now same (length asked.run.feeds) c.len.result many (book_back r) r.is_new c.args.journal.now.store c.read_back.new.store
     c.read_back.ensures.looks c.in-Ok-read_back.ensures.finds c.in-Ok-read_back.ensures.whole in
-    ends_over_same g.K.Sink.taken g.K.Sink.faults g.S.Store.tells g.S.Store.seen g.S.Store.shown g.S.Store.may_leave g.S.Store.moment g.S.Store.left_since g.S.Store.faults g.T.Growing.given g.T.Growing.faults _ asked.run.feeds asked.store
+    ends_over_same g.K.Sink.taken g.K.Sink.faults g.S.Store g.T.Growing.given g.T.Growing.faults _ asked.run.feeds asked.store
     c.serve_feeds.result.tails.items c.args.out.now c.serve_feeds.new.out c.args.journal.now c.serve_feeds.new.journal c.serve_feeds.result.status s s_now same c.args.feeds.items (map opened c.in-Ok.watched.items) c.in-Ok.ensures.unread.are
     (c.serve_feeds.ensures.ends c.args.journal.now c.read_back.ensures.later back)
 
@@ -101,9 +101,9 @@ returns-in-Ok-read_back-clause-keeps g c =
     let same : s_now ≡ s = c.in-Ok-read_back.ensures.setting in
     let opened_all = as_many_opened c.args.feeds.items c.in-Ok.watched.items c.in-Ok.ensures.unread.are in
     let many : c.len.result ≡ length asked.run.feeds = omega (arith, c.len.ensures, c.in-Ok.watched.ok.0, opened_all, c.requires.as_many) in
-    let back = was_read_back g.S.Store.tells g.S.Store.seen g.S.Store.shown g.S.Store.may_leave g.S.Store.moment g.S.Store.left_since s s_now same (length asked.run.feeds) c.len.result many (book_back r) r.is_new c.args.journal.now.store c.read_back.new.store
+    let back = was_read_back g.S.Store s s_now same (length asked.run.feeds) c.len.result many (book_back r) r.is_new c.args.journal.now.store c.read_back.new.store
     c.read_back.ensures.looks c.in-Ok-read_back.ensures.finds c.in-Ok-read_back.ensures.whole in
-    kept_over g.S.Store.tells g.S.Store.seen g.S.Store.shown g.S.Store.may_leave g.S.Store.moment g.S.Store.left_since s s_now same (length asked.run.feeds) c.len.result many (book_back r) r.is_new c.args.journal.now.store c.read_back.new.store
+    kept_over g.S.Store s s_now same (length asked.run.feeds) c.len.result many (book_back r) r.is_new c.args.journal.now.store c.read_back.new.store
     (map (source_of g.T.Growing.source) c.args.feeds.items) (map (source_in g.T.Growing.source) c.in-Ok.watched.items) (same_sources g.T.Growing.source c.args.feeds.items c.in-Ok.watched.items c.in-Ok.ensures.unread)
     c.serve_feeds.new.journal.store (c.serve_feeds.ensures.keeps c.args.journal.now.store back)
 
@@ -115,12 +115,12 @@ returns-in-Err-read_back-clause-ends g c =
     let many : c.len.result ≡ length asked.run.feeds = omega (arith, c.len.ensures, c.in-Ok.watched.ok.0, opened_all, c.requires.as_many) in
     let new : Journal _ = record { store = c.read_back.new.store; end = c.args.journal.now.end } in
     rw c.no_day-in-Err-read_back.ensures.status
-    (reading_ends g.K.Sink.taken g.K.Sink.faults g.S.Store.tells g.S.Store.seen g.S.Store.shown g.S.Store.may_leave g.S.Store.moment g.S.Store.left_since g.S.Store.faults g.T.Growing.given g.T.Growing.faults _
+    (reading_ends g.K.Sink.taken g.K.Sink.faults g.S.Store g.T.Growing.given g.T.Growing.faults _
     s asked.run.feeds asked.store c.args.feeds.items c.no_day-in-Err-read_back.result.tails.items c.args.out.now c.end_start.new.out c.args.journal.now new c.in-Err-read_back.stop c.end_start.result c.read_back.ensures.looks
-    (subst (λ (m : ℕ). StopsReadingBack g.S.Store.tells g.S.Store.seen g.S.Store.shown g.S.Store.may_leave g.S.Store.faults s m c.args.journal.now.store c.read_back.new.store c.in-Err-read_back.stop) many c.in-Err-read_back.ensures.stops) c.end_start.ensures.ends)
+    (subst (λ (m : ℕ). StopsReadingBack g.S.Store s m c.args.journal.now.store c.read_back.new.store c.in-Err-read_back.stop) many c.in-Err-read_back.ensures.stops) c.end_start.ensures.ends)
 
 pub returns-in-Err-read_back-clause-keeps : goal.returns-in-Err-read_back-clause-keeps
-returns-in-Err-read_back-clause-keeps g c = looked_keeps g.S.Store.tells g.S.Store.seen g.S.Store.shown g.S.Store.may_leave g.S.Store.moment g.S.Store.left_since _ _ (λ store t image told left. g.met.S.Store.shows_on store t image told left) _ c.args.journal.now.store c.read_back.new.store c.read_back.ensures.looks
+returns-in-Err-read_back-clause-keeps g c = looked_keeps g.S.Store _ _ (λ store t image told left. g.met.S.Store.shows_on store t image told left) _ c.args.journal.now.store c.read_back.new.store c.read_back.ensures.looks
 
 pub returns-in-Err-read_back-clause-told : goal.returns-in-Err-read_back-clause-told
 returns-in-Err-read_back-clause-told g c = λ e. absurd (start_never g.K.Sink.taken g.K.Sink.faults c.args.out.now c.end_start.new.out c.end_start.result _ _ c.in-Err-read_back.stop c.end_start.ensures.ends (sym c.no_day-in-Err-read_back.ensures.status ∙ e))

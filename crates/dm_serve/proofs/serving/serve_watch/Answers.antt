@@ -12,7 +12,7 @@ use Rattle.dm_watch.specs.Rounds.{book_in, desk_in}
 use Rattle.dm_words.specs.ServerAsked.{server_of}
 use Rattle.dm_serve.specs.Inside.Stages.{IsGoing}
 use Rattle.dm_serve.proofs.Caught.{feeds_of}
-use Rattle.dm_serve.proofs.Ended.{ends_day, ends_round_so, ends_wanting_so, few_feeds, plans_under}
+use Rattle.dm_serve.proofs.Ended.{ends_day, ends_round_so, ends_wanting_so, few_feeds, may_search, plans_under}
 use Rattle.dm_serve.proofs.Printed.{is_day, sorted_entries, spelled_logs}
 use Rattle.dm_serve.proofs.Stays.{shown_stays}
 use Rattle.dm_serve.proofs.serving.serve_watch.Goals as goal
@@ -20,7 +20,11 @@ use Rattle.dm_serve.proofs.serving.serve_watch.Goals as goal
 pub go_round-requires-clause-plans : goal.go_round-requires-clause-plans
 go_round-requires-clause-plans g c =
     plans_under _ _ c.args.serving.now.net.now c.args.serving.now.words.now.run.files.penalty (setting_of c.args.watch.desk.plans c.args.watch.desk.table) c.requires.network c.requires.penalty refl
-    (λ snapshot asked sized no_cycle some few. search rules) (λ snapshot asked given h. h.1)
+    (λ snapshot asked sized no_cycle some few.
+    let words = c.args.serving.now.words.now.run in
+    let may = may_search c.args.serving.now.net words.files.penalty words.workers snapshot asked sized no_cycle some few c.requires.within.penalty c.requires.within.workers in
+    search (rules, may, c.requires.searches))
+    (λ snapshot asked given h. h.1)
 
 pub go_round-requires-clause-few : goal.go_round-requires-clause-few
 go_round-requires-clause-few g c = few_feeds _ _ _ c.args.watch.feeds.ok.0 c.requires.as_many c.requires.within.few_feeds
@@ -40,7 +44,7 @@ end_day-requires-clause-sorted g c =
 
 pub returns-in_default-clause-ends : goal.returns-in_default-clause-ends
 returns-in_default-clause-ends g c = λ start feeds low since.
-    ends_wanting_so g.K.Sink.taken g.K.Sink.faults g.S.Store.tells g.S.Store.seen g.S.Store.shown g.S.Store.may_leave g.S.Store.moment g.S.Store.left_since g.S.Store.faults g.T.Growing.given g.T.Growing.faults
+    ends_wanting_so g.K.Sink.taken g.K.Sink.faults g.S.Store g.T.Growing.given g.T.Growing.faults
     _ (server_of c.args.serving.now.words.now).run.feeds (server_of c.args.serving.now.words.now).store (setting_of c.args.watch.desk.plans c.args.watch.desk.table) feeds c.args.out.now c.args.out.now start c.args.journal.now
     c.no_day.result.tails.items c.no_day.result.status refl c.no_day.ensures.status
 
@@ -51,7 +55,7 @@ returns-in_default-clause-keeps g c = λ start since contents first t.
       last = book_in watch;
       grows = (since contents first t).grows;
       leaves = (since contents first t).leaves;
-      shows = shown_stays g.S.Store.tells g.S.Store.shown g.S.Store.moment g.S.Store.left_since (λ store t image told left. g.met.S.Store.shows_on store t image told left)
+      shows = shown_stays g.S.Store (λ store t image told left. g.met.S.Store.shows_on store t image told left)
           start c.args.journal.now.store (since contents first t).leaves.later (since contents first t).settled.settled.rest.told;
       answers = inr (answer_sources g.T.Growing.given g.T.Growing.source g.met.T.Growing.from_source (desk_in watch) watch.feeds.items c.requires.watching.each);
     }
@@ -67,11 +71,11 @@ returns-in-Ok-go_round-clause-ends g c = λ start feeds low since.
     (λ b. (goal.Board-dyn g (b.vtable, b.value)).is_sound b.value) net x notes c.args.boards.now.items c.go_round.new.boards.items in
     let boards : up c.in-Ok-go_round.watch.desk.table.network (shown_of c.in-Ok-go_round.watch.desk.table) c.notes.result.now =
     subst (up c.in-Ok-go_round.watch.desk.table.network (shown_of c.in-Ok-go_round.watch.desk.table)) (sym c.notes.ensures) c.in-Ok-go_round.ensures.up.shown in
-    ends_day g.K.Sink.taken g.K.Sink.faults g.S.Store.tells g.S.Store.seen g.S.Store.shown g.S.Store.may_leave g.S.Store.moment g.S.Store.left_since g.S.Store.faults g.T.Growing.given g.T.Growing.faults
+    ends_day g.K.Sink.taken g.K.Sink.faults g.S.Store g.T.Growing.given g.T.Growing.faults
     up (server_of c.args.serving.now.words.now).run.feeds (server_of c.args.serving.now.words.now).store s feeds c.args.out.now c.end_day.new.out start c.go_round.new.journal
     c.in-Ok-go_round.watch.desk.table c.in-Ok-go_round.watch.feeds.items c.notes.result.now c.end_day.result
     (λ are fits.
-    is_day g.T.Growing.given s n c.in-Ok-go_round.watch going c.notes.result.now g.S.Store.tells g.S.Store.seen g.S.Store.shown g.S.Store.may_leave g.S.Store.moment g.S.Store.left_since
+    is_day g.T.Growing.given s n c.in-Ok-go_round.watch going c.notes.result.now g.S.Store
     up start c.go_round.new.journal c.end_day.result.tails.items c.end_day.ensures.table fits noted c.requires.within.some_feed c.requires.within.few_feeds boards are c.in-Ok-go_round.ensures.none_left
     (λ contents first t. (c.in-Ok-go_round.ensures.goes s first start.store refl (since contents first t)).1))
     c.end_day.ensures.ends
@@ -82,7 +86,7 @@ returns-in-Ok-go_round-clause-keeps g c = λ start since contents first t.
 
 pub returns-clause-ends : goal.returns-clause-ends
 returns-clause-ends g c = λ start feeds low since.
-    ends_round_so g.K.Sink.taken g.K.Sink.faults g.S.Store.tells g.S.Store.seen g.S.Store.shown g.S.Store.may_leave g.S.Store.moment g.S.Store.left_since g.S.Store.faults g.T.Growing.given g.T.Growing.faults
+    ends_round_so g.K.Sink.taken g.K.Sink.faults g.S.Store g.T.Growing.given g.T.Growing.faults
     _ (server_of c.args.serving.now.words.now).run.feeds (server_of c.args.serving.now.words.now).store (setting_of c.args.watch.desk.plans c.args.watch.desk.table) feeds c.args.out.now c.end_round.new.out start c.go_round.new.journal
     c.args.watch c.args.journal.now refl low since c.no_day-in-Err.result.tails.items c.end_round.result c.in-Err.stop c.in-Err.ensures.stops c.end_round.ensures.ends c.no_day-in-Err.result.status c.no_day-in-Err.ensures.status
 

@@ -9,4 +9,4 @@ returns g c =
     subst
     (λ (word : List ℕ). Puts g.K.Sink.taken g.K.Sink.faults c.args.sink.now c.put_pieces.new.sink c.put_pieces.result
     (joined (codes "refused store " ∷ decimal c.args.line ∷ codes " " ∷ word ∷ line_end ∷ [])))
-    c.kind_word.ensures c.put_pieces.ensures
+    c.word.ensures c.put_pieces.ensures

@@ -12,11 +12,11 @@ returns-then-not-is_new-clause-settles g c = λ s contents before after may.
     let none = old_is_all c.args.feeds.items (c.requires.none c.if-not-is_new.true) in
     record {
       leaves =
-          nothing_done g.S.Store.tells g.S.Store.seen g.S.Store.shown g.S.Store.may_leave g.S.Store.moment g.S.Store.left_since s contents before after c.args.feeds.items c.args.journal.now may
+          nothing_done g.S.Store s contents before after c.args.feeds.items c.args.journal.now may
           (λ image left. g.met.S.Store.only_now c.args.journal.now.store image may.settled.rest.told left) (λ image left. g.met.S.Store.shows_now c.args.journal.now.store image may.settled.rest.told left);
       done = record {
         contents = contents;
-        settled = subst (λ logs. AreSettled g.S.Store.tells g.S.Store.seen g.S.Store.shown g.S.Store.may_leave s contents logs c.args.journal.now) (may.old ∙ (none ∙ sym may.all)) may.settled;
+        settled = subst (λ logs. AreSettled g.S.Store s contents logs c.args.journal.now) (may.old ∙ (none ∙ sym may.all)) may.settled;
       };
     }
 
@@ -26,7 +26,7 @@ returns-then-not-is_new-clause-parts g c = all_shown_still g.T.Growing.given c.a
 pub returns-in-Err-clause-settles : goal.returns-in-Err-clause-settles
 returns-in-Err-clause-settles g c = λ s contents before after may. record {
   leaves =
-      nothing_done g.S.Store.tells g.S.Store.seen g.S.Store.shown g.S.Store.may_leave g.S.Store.moment g.S.Store.left_since s contents before after c.args.feeds.items c.args.journal.now may
+      nothing_done g.S.Store s contents before after c.args.feeds.items c.args.journal.now may
       (λ image left. g.met.S.Store.only_now c.args.journal.now.store image may.settled.rest.told left) (λ image left. g.met.S.Store.shows_now c.args.journal.now.store image may.settled.rest.told left);
   done = tt;
 }
@@ -39,8 +39,8 @@ settle-requires-clause-spelled g c = all_now g.T.Growing.given c.args.feeds.item
 
 pub returns-clause-settles : goal.returns-clause-settles
 returns-clause-settles g c = λ s contents before after may.
-    let now = may_settle_now g.T.Growing.given c.args.feeds.items c.in-Ok.synced.items c.in-Ok.ensures.same g.S.Store.tells g.S.Store.seen g.S.Store.shown g.S.Store.may_leave s contents before after c.args.journal.now may in
-    settles_some g.S.Store.tells g.S.Store.seen g.S.Store.shown g.S.Store.may_leave g.S.Store.moment g.S.Store.left_since s contents before after c.in-Ok.synced.items c.args.journal.now c.settle.new.journal c.settle.result (c.settle.ensures.settles s contents before after now)
+    let now = may_settle_now g.T.Growing.given c.args.feeds.items c.in-Ok.synced.items c.in-Ok.ensures.same g.S.Store s contents before after c.args.journal.now may in
+    settles_some g.S.Store s contents before after c.in-Ok.synced.items c.args.journal.now c.settle.new.journal c.settle.result (c.settle.ensures.settles s contents before after now)
 
 pub returns-clause-parts : goal.returns-clause-parts
 returns-clause-parts g c = all_shown_too g.T.Growing.given c.args.feeds.items c.in-Ok.synced.items c.in-Ok.ensures.same c.settle.result c.settle.ensures.parts

@@ -12,7 +12,7 @@ use Rattle.dm_watch.proofs.settling.settle.Goals as goal
 pub returns-in_default-clause-settles : goal.returns-in_default-clause-settles
 returns-in_default-clause-settles g c = λ s contents before after may. record {
   leaves =
-      nothing_done g.S.Store.tells g.S.Store.seen g.S.Store.shown g.S.Store.may_leave g.S.Store.moment g.S.Store.left_since s contents before after c.args.feeds.items c.args.journal.now may
+      nothing_done g.S.Store s contents before after c.args.feeds.items c.args.journal.now may
       (λ image left. g.met.S.Store.only_now c.args.journal.now.store image may.settled.rest.told left) (λ image left. g.met.S.Store.shows_now c.args.journal.now.store image may.settled.rest.told left);
   done = tt;
 }
@@ -22,7 +22,7 @@ returns-in-Err-clause-settles g c = λ s contents before after may.
     let text : c.deref-2.result.now ≡ round_text (map new_items c.args.feeds.items) = c.deref-2.ensures.value ∙ (c.in-Ok.ensures ∙ ap (λ l. round_text (map new_items l)) c.deref.ensures.value) in
     record {
       leaves =
-          commit_leaves g.S.Store.tells g.S.Store.seen g.S.Store.shown g.S.Store.may_leave g.S.Store.moment g.S.Store.left_since s contents before after c.args.feeds.items c.args.journal.now may c.commit.new.self.store
+          commit_leaves g.S.Store s contents before after c.args.feeds.items c.args.journal.now may c.commit.new.self.store
           (subst (λ (l : List ℕ). LeavesOnly g.S.Store.moment g.S.Store.left_since c.args.journal.now.store c.commit.new.self.store (IsBeforeOrAfter contents l (g.S.Store.shown c.args.journal.now.store))) text (c.commit.ensures.any_moment contents may.settled.rest));
       done = tt;
     }
@@ -31,12 +31,12 @@ pub returns-in-Ok-commit-clause-settles : goal.returns-in-Ok-commit-clause-settl
 returns-in-Ok-commit-clause-settles g c = λ s contents before after may.
     let text : c.deref-2.result.now ≡ round_text (map new_items c.args.feeds.items) = c.deref-2.ensures.value ∙ (c.in-Ok.ensures ∙ ap (λ l. round_text (map new_items l)) c.deref.ensures.value) in
     let leaves =
-    commit_leaves g.S.Store.tells g.S.Store.seen g.S.Store.shown g.S.Store.may_leave g.S.Store.moment g.S.Store.left_since s contents before after c.args.feeds.items c.args.journal.now may c.commit.new.self.store
+    commit_leaves g.S.Store s contents before after c.args.feeds.items c.args.journal.now may c.commit.new.self.store
     (subst (λ (l : List ℕ). LeavesOnly g.S.Store.moment g.S.Store.left_since c.args.journal.now.store c.commit.new.self.store (IsBeforeOrAfter contents l (g.S.Store.shown c.args.journal.now.store))) text (c.commit.ensures.any_moment contents may.settled.rest)) in
     let rest = subst (λ (l : List ℕ). IsAtRest g.S.Store.tells g.S.Store.seen g.S.Store.may_leave (contents ++ l ∷ []) c.commit.new.self) text (c.in-Ok-commit.ensures.acknowledged contents may.settled.rest) in
-    let showing = start_showing g.S.Store.tells g.S.Store.seen g.S.Store.shown g.S.Store.may_leave g.S.Store.moment g.S.Store.left_since s contents before after c.args.feeds.items c.args.journal.now may c.commit.new.self rest (c.commit.ensures.shown contents may.settled.rest) leaves in
-    let shows = c.show_feeds.ensures.shows s (with_new contents c.args.feeds.items) before after c.args.journal.now.store (kept_book g.S.Store.tells g.S.Store.seen g.S.Store.shown g.S.Store.may_leave g.S.Store.moment g.S.Store.left_since s contents before after c.args.feeds.items c.args.journal.now may) may.all showing in
-    settled_so g.S.Store.tells g.S.Store.seen g.S.Store.shown g.S.Store.may_leave g.S.Store.moment g.S.Store.left_since s contents before after c.args.feeds.items c.args.journal.now may c.commit.new.self c.show_feeds.new.store c.show_feeds.result rest shows.0 shows.1
+    let showing = start_showing g.S.Store s contents before after c.args.feeds.items c.args.journal.now may c.commit.new.self rest (c.commit.ensures.shown contents may.settled.rest) leaves in
+    let shows = c.show_feeds.ensures.shows s (with_new contents c.args.feeds.items) before after c.args.journal.now.store (kept_book g.S.Store s contents before after c.args.feeds.items c.args.journal.now may) may.all showing in
+    settled_so g.S.Store s contents before after c.args.feeds.items c.args.journal.now may c.commit.new.self c.show_feeds.new.store c.show_feeds.result rest shows.0 shows.1
 
 pub returns-in-Err-clause-cause : goal.returns-in-Err-clause-cause
 returns-in-Err-clause-cause g c =

@@ -21,7 +21,7 @@ loop-watched-init g c =
       told = λ told. told;
       later = omega arith;
       so_far = λ s contents before after start book logs showing.
-          showing_as g.S.Store.tells g.S.Store.seen g.S.Store.shown g.S.Store.may_leave g.S.Store.moment g.S.Store.left_since s contents before after start c.args.store.now _ _ (ap (map old_text) (sym whole)) showing;
+          showing_as g.S.Store s contents before after start c.args.store.now _ _ (ap (map old_text) (sym whole)) showing;
     }
 
 pub returns-in-Err-clause-shows : goal.returns-in-Err-clause-shows
@@ -29,7 +29,7 @@ returns-in-Err-clause-shows g c = λ s contents before after start book logs sho
     let inv = c.loop-watched.invariant in
     let is = c.in-Some.ensures.steps.0 in
     let here : c.len-place.result ≡ length (map all_text c.loop-watched.yielded) = omega (arith, c.len-place.ensures, c.loop-watched.shown.ok.0, inv.many, length-map c.loop-watched.yielded all_text) in
-    let now = showing_as g.S.Store.tells g.S.Store.seen g.S.Store.shown g.S.Store.may_leave g.S.Store.moment g.S.Store.left_since s contents before after start c.loop-watched.store _ _ (texts_here c.loop-watched.yielded _ _ c.in-Some.watched is) (inv.so_far s contents before after start book logs showing) in
+    let now = showing_as g.S.Store s contents before after start c.loop-watched.store _ _ (texts_here c.loop-watched.yielded _ _ c.in-Some.watched is) (inv.so_far s contents before after start book logs showing) in
     let step = c.show_one.ensures.shows s contents before after start (map all_text c.loop-watched.yielded) _ here book (all_fronts after c.args.feeds.items c.loop-watched.yielded _ _ c.in-Some.watched logs is inv.whole) now in
     (step.0, tt)
 
@@ -38,7 +38,7 @@ returns-in_default-push-clause-shows g c = λ s contents before after start book
     let inv = c.loop-watched.invariant in
     let is = c.in-Some.ensures.steps.0 in
     let here : c.len-place.result ≡ length (map all_text c.loop-watched.yielded) = omega (arith, c.len-place.ensures, c.loop-watched.shown.ok.0, inv.many, length-map c.loop-watched.yielded all_text) in
-    let now = showing_as g.S.Store.tells g.S.Store.seen g.S.Store.shown g.S.Store.may_leave g.S.Store.moment g.S.Store.left_since s contents before after start c.loop-watched.store _ _ (texts_here c.loop-watched.yielded _ _ c.in-Some.watched is) (inv.so_far s contents before after start book logs showing) in
+    let now = showing_as g.S.Store s contents before after start c.loop-watched.store _ _ (texts_here c.loop-watched.yielded _ _ c.in-Some.watched is) (inv.so_far s contents before after start book logs showing) in
     let step = c.show_one.ensures.shows s contents before after start (map all_text c.loop-watched.yielded) _ here book (all_fronts after c.args.feeds.items c.loop-watched.yielded _ _ c.in-Some.watched logs is inv.whole) now in
     (step.0, tt)
 
@@ -56,16 +56,16 @@ loop-watched-preserved g c =
       told = λ told. c.in-Ok-show_one.ensures.told (inv.told told);
       later = omega (arith, inv.later, c.in-Ok-show_one.ensures.cause.later);
       so_far = λ s contents before after start book logs showing.
-          let now = showing_as g.S.Store.tells g.S.Store.seen g.S.Store.shown g.S.Store.may_leave g.S.Store.moment g.S.Store.left_since s contents before after start c.loop-watched.store _ _ (texts_here c.loop-watched.yielded _ _ c.in-Some.watched is) (inv.so_far s contents before after start book logs showing) in
+          let now = showing_as g.S.Store s contents before after start c.loop-watched.store _ _ (texts_here c.loop-watched.yielded _ _ c.in-Some.watched is) (inv.so_far s contents before after start book logs showing) in
           let step = c.in-Ok-show_one.ensures.shows s contents before after start (map all_text c.loop-watched.yielded) _ here book (all_fronts after c.args.feeds.items c.loop-watched.yielded _ _ c.in-Some.watched logs is inv.whole) now in
-          showing_as g.S.Store.tells g.S.Store.seen g.S.Store.shown g.S.Store.may_leave g.S.Store.moment g.S.Store.left_since s contents before after start c.show_one.new.store _ _ (texts_more c.loop-watched.yielded _ c.in-Some.watched) step.1;
+          showing_as g.S.Store s contents before after start c.show_one.new.store _ _ (texts_more c.loop-watched.yielded _ c.in-Some.watched) step.1;
     }
 
 pub returns-clause-shows : goal.returns-clause-shows
 returns-clause-shows g c = λ s contents before after start book logs showing.
     let inv = c.loop-watched.invariant in
     let none = sym c.loop-watched.watched-iterator.rest.ok.0 ∙ c.in-None.ensures.steps.0 in
-    let now = showing_as g.S.Store.tells g.S.Store.seen g.S.Store.shown g.S.Store.may_leave g.S.Store.moment g.S.Store.left_since s contents before after start c.loop-watched.store _ _ (texts_end c.args.feeds.items c.loop-watched.yielded c.loop-watched.watched-iterator.rest.items none inv.whole) (inv.so_far s contents before after start book logs showing) in
+    let now = showing_as g.S.Store s contents before after start c.loop-watched.store _ _ (texts_end c.args.feeds.items c.loop-watched.yielded c.loop-watched.watched-iterator.rest.items none inv.whole) (inv.so_far s contents before after start book logs showing) in
     (now.leaves, now)
 
 pub returns-clause-parts : goal.returns-clause-parts

@@ -17,7 +17,7 @@ invariant-loop-watched g l =
       later : g.S.Store.faults l.fn.store ≤ g.S.Store.faults l.store;
       so_far :
           (s : Setting) (contents : List (List ℕ)) (before after : Book) (start : _) → IsKeptBook s contents before after → after.logs ≡ map all_items l.fn.feeds.items
-          → IsShowing g.S.Store.tells g.S.Store.seen g.S.Store.shown g.S.Store.may_leave g.S.Store.moment g.S.Store.left_since s contents before after start l.fn.store (map old_text l.fn.feeds.items)
-          → IsShowing g.S.Store.tells g.S.Store.seen g.S.Store.shown g.S.Store.may_leave g.S.Store.moment g.S.Store.left_since s contents before after start l.store
+          → IsShowing g.S.Store s contents before after start l.fn.store (map old_text l.fn.feeds.items)
+          → IsShowing g.S.Store s contents before after start l.store
           (map all_text l.yielded ++ map old_text l.watched-iterator.rest.items);
     }

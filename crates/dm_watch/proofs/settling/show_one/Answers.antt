@@ -14,8 +14,8 @@ pub returns-in-Err-clause-shows : goal.returns-in-Err-clause-shows
 returns-in-Err-clause-shows g c = λ s contents before after start first rest here book fronts so_far.
     let text : c.deref-2.result.now ≡ reply_text (new_items c.args.watched) =
     c.deref-2.ensures.value ∙ (c.in-Ok.ensures ∙ ap reply_text (take_rest c.deref.result.now c.args.watched.shown ∙ ap (drop c.args.watched.shown) c.deref.ensures.value)) in
-    let low = within g.S.Store.tells g.S.Store.seen g.S.Store.shown g.S.Store.may_leave g.S.Store.moment g.S.Store.left_since c.args.watched c.args.place c.args.store.now c.show.new.self c.deref-2.result.now text s contents before after start first rest here book fronts so_far in (
-      one_leaves g.S.Store.tells g.S.Store.seen g.S.Store.shown g.S.Store.may_leave g.S.Store.moment g.S.Store.left_since c.args.watched c.args.place c.args.store.now c.show.new.self c.deref-2.result.now text s contents before after start first rest here book fronts so_far
+    let low = within g.S.Store c.args.watched c.args.place c.args.store.now c.show.new.self c.deref-2.result.now text s contents before after start first rest here book fronts so_far in (
+      one_leaves g.S.Store c.args.watched c.args.place c.args.store.now c.show.new.self c.deref-2.result.now text s contents before after start first rest here book fronts so_far
           (λ image left. g.met.S.Store.shows_now c.args.store.now image so_far.told left) (c.show.ensures.goes so_far.told low),
       tt,
     )
@@ -24,9 +24,9 @@ pub returns-in-Ok-show-clause-shows : goal.returns-in-Ok-show-clause-shows
 returns-in-Ok-show-clause-shows g c = λ s contents before after start first rest here book fronts so_far.
     let text : c.deref-2.result.now ≡ reply_text (new_items c.args.watched) =
     c.deref-2.ensures.value ∙ (c.in-Ok.ensures ∙ ap reply_text (take_rest c.deref.result.now c.args.watched.shown ∙ ap (drop c.args.watched.shown) c.deref.ensures.value)) in
-    let low = within g.S.Store.tells g.S.Store.seen g.S.Store.shown g.S.Store.may_leave g.S.Store.moment g.S.Store.left_since c.args.watched c.args.place c.args.store.now c.show.new.self c.deref-2.result.now text s contents before after start first rest here book fronts so_far in (
-      one_leaves g.S.Store.tells g.S.Store.seen g.S.Store.shown g.S.Store.may_leave g.S.Store.moment g.S.Store.left_since c.args.watched c.args.place c.args.store.now c.show.new.self c.deref-2.result.now text s contents before after start first rest here book fronts so_far (λ image left. g.met.S.Store.shows_now c.args.store.now image so_far.told left) (c.show.ensures.goes so_far.told low),
-      one_shown g.S.Store.tells g.S.Store.seen g.S.Store.shown g.S.Store.may_leave g.S.Store.moment g.S.Store.left_since c.args.watched c.args.place c.args.store.now c.show.new.self c.deref-2.result.now text s contents before after start first rest here book fronts so_far (λ image left. g.met.S.Store.shows_now c.args.store.now image so_far.told left) (c.show.ensures.goes so_far.told low)
+    let low = within g.S.Store c.args.watched c.args.place c.args.store.now c.show.new.self c.deref-2.result.now text s contents before after start first rest here book fronts so_far in (
+      one_leaves g.S.Store c.args.watched c.args.place c.args.store.now c.show.new.self c.deref-2.result.now text s contents before after start first rest here book fronts so_far (λ image left. g.met.S.Store.shows_now c.args.store.now image so_far.told left) (c.show.ensures.goes so_far.told low),
+      one_shown g.S.Store c.args.watched c.args.place c.args.store.now c.show.new.self c.deref-2.result.now text s contents before after start first rest here book fronts so_far (λ image left. g.met.S.Store.shows_now c.args.store.now image so_far.told left) (c.show.ensures.goes so_far.told low)
           (c.in-Ok-show.ensures.told so_far.told) (c.in-Ok-show.ensures.shown so_far.told low),
     )
 

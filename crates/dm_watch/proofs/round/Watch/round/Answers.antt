@@ -24,7 +24,7 @@ returns-in_default-clause-rounds g c = λ contents settled.
       grows = book_of_itself before;
       answers = answer_sources g.T.Growing.given g.T.Growing.source g.met.T.Growing.from_source desk c.args.self.feeds.items c.requires.watching.each;
       leaves =
-          untouched g.S.Store.tells g.S.Store.seen g.S.Store.shown g.S.Store.may_leave g.S.Store.moment g.S.Store.left_since desk.setting contents before before c.args.journal.now
+          untouched g.S.Store desk.setting contents before before c.args.journal.now
           (book_of_itself before) settled (true_book g.T.Growing.given desk c.args.self.feeds.items refl c.requires.watching)
           (λ image left. g.met.S.Store.only_now c.args.journal.now.store image settled.rest.told left) (λ image left. g.met.S.Store.shows_now c.args.journal.now.store image settled.rest.told left);
       is_it = tt;
@@ -78,7 +78,7 @@ returns-in-Err-clause-rounds g c = λ contents settled.
     let parts = subst (All (λ w. IsHeldPart (new_items w))) c.deref.ensures.value c.new_are_held.ensures in
     let kept = kept_parts g.T.Growing.given d1 c.in-Ok.feeds.items parts still in
     let may =
-    may_settle g.S.Store.tells g.S.Store.seen g.S.Store.shown g.S.Store.may_leave g.T.Growing.given c.args.self.batch d0 d1 c.args.self.feeds.items c.in-Ok.feeds.items c.args.journal.now contents
+    may_settle g.S.Store g.T.Growing.given c.args.self.batch d0 d1 c.args.self.feeds.items c.in-Ok.feeds.items c.args.journal.now contents
     c.in-Ok.ensures.answers c.requires.watching c.requires.shown refl refl kept settled in
     record {
       after = after;
@@ -133,7 +133,7 @@ returns-clause-rounds g c = λ contents settled.
     let parts = subst (All (λ w. IsHeldPart (new_items w))) c.deref.ensures.value c.new_are_held.ensures in
     let kept = kept_parts g.T.Growing.given d1 c.in-Ok.feeds.items parts still in
     let may =
-    may_settle g.S.Store.tells g.S.Store.seen g.S.Store.shown g.S.Store.may_leave g.T.Growing.given c.args.self.batch d0 d1 c.args.self.feeds.items c.in-Ok.feeds.items c.args.journal.now contents
+    may_settle g.S.Store g.T.Growing.given c.args.self.batch d0 d1 c.args.self.feeds.items c.in-Ok.feeds.items c.args.journal.now contents
     c.in-Ok.ensures.answers c.requires.watching c.requires.shown refl refl kept settled in
     let settles = c.settle_new.ensures.settles d0.setting contents before after may in
     record {

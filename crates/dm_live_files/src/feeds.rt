@@ -26,7 +26,6 @@ const SOLVE: &[u8] = b"solve";
 /// A feed that says on the standard error why it is read no further. Once the server is told to end, it gives what stood in it at the
 /// start and one piece more, if that stands there by then: so the server comes to its end, however quickly others append. Where the
 /// journal is short of room, it gives nothing from a line on that asks for a plan.
-#[derive(Drop)]
 pub struct LiveFeed<'r, R: Files<File = File>> {
     rt: &'r R,
     alloc: Global,
@@ -47,6 +46,26 @@ pub struct LiveFeed<'r, R: Files<File = File>> {
 
     /// Whether it was said that a plan waits.
     waits: bool,
+}
+
+impl<R: Files<File = File>> Drop for LiveFeed<'_, R> {
+    fn drop(self) {
+        let LiveFeed {
+            rt: _,
+            alloc: _,
+            feed: _,
+            name: _,
+            stop: _,
+            gauge: _,
+            stood: _,
+            reads: _,
+            last: _,
+            held: _,
+            given: _,
+            begins_line: _,
+            waits: _,
+        } = self;
+    }
 }
 
 impl<'r, R: Eprint + Files<File = File>> LiveFeed<'r, R> {

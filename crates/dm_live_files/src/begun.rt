@@ -1,5 +1,5 @@
 //! Whether a server may begin a store or go on with one, and over which files of the network a store was begun.
-use dm_words::ServeWords;
+use dm_words::{LiveWords, ServeWords, read_serve_words};
 use sha2::{Digest, Sha256};
 use std::alloc::AllocError;
 use std::fs::File;
@@ -9,6 +9,9 @@ use std::{fs, io};
 
 /// So many bytes of a file are read at once.
 const PIECE: usize = 8_192;
+
+/// A journal of so many bytes takes about a second to take up, on a slow host.
+const LONG: u64 = 8_000_000;
 
 /// The word that a server is refused by over its store, if it is. A store is begun where its journal has a byte. `list` has the files
 /// of the network as they are now, if they can be read: that they cannot is said where the network is read.
@@ -49,6 +52,29 @@ pub fn refusal_of_files<R: AllocGlobal + Files<File = File>>(
         Err(error) if error.kind() == ErrorKind::OutOfMemory => Err(error),
         Err(_) => Ok(Some("files")),
     }
+}
+
+/// Says that a server takes up what its store holds, where the journal is long.
+pub fn say_taking_up<R: Eprint + AllocGlobal + Files<File = File>>(
+    rt: &R,
+    words: &[String],
+) -> io::Result<()> {
+    let Some(LiveWords::Serve(server) | LiveWords::Begin(server)) = read_serve_words(words) else {
+        return Ok(());
+    };
+    let store = server.store;
+    let Ok(journal) = format!(in rt.alloc(); "{store}/journal") else {
+        return Ok(());
+    };
+    let bytes = match fs::metadata(rt, journal.as_str()) {
+        Ok(about) => about.len(),
+        Err(_) => return Ok(()),
+    };
+    if bytes < LONG {
+        return Ok(());
+    }
+    let megabytes = bytes / 1_000_000;
+    eprintln!(rt; "dispatcher: taking up {megabytes} MB of {journal}")
 }
 
 /// Lists the files of the network in a store that is begun, and puts that on the disk.

@@ -1,6 +1,6 @@
 use Rattle.std.proofs.Common.{◌≡◌, ◌+◌, length}
 use Rattle.dm_words.specs.Asked.{names_in}
-use Rattle.dispatcher.proofs.feeds.open_feeds.Given as goal
+use Rattle.dm_live_files.proofs.feeds.open_feeds.Given as goal
 
 -- the feeds so far, and the names that are left
 abbrev pub invariant-loop-name : goal.invariant-loop-name
