@@ -1,9 +1,10 @@
 //! Calls that are made again where memory was refused.
 //!
-//! The cases run on a connection at one station whose first train is a minute late. They make calls that take memory. They keep
-//! entries, enter into a table and a server, carry choices over, and follow a journal. They ask for plans, journeys, trees,
-//! completions and what computes times. Where a call is refused memory, what it changes has to be as before. The same call is then
-//! made again, and has to answer. For each case the program prints `NAME ok`, or after how many steps it came out otherwise.
+//! The cases run on a connection at one station whose first train is a minute late. They make calls that take memory and change
+//! something, and calls that no run makes: they keep entries, enter into a table and a server, carry choices over, follow a journal,
+//! search for a plan at once and from a hole, expand nodes, and ask for the choices of a rule. Where a call is refused memory, what it
+//! changes has to be as before. The same call is then made again, and has to answer. For each case the program prints `NAME ok`, or
+//! after how many steps it came out otherwise.
 //!
 //! With ample memory nothing is refused. `dispatch-tools memory` refuses each call for memory in turn, and the printed text has
 //! to stay the same. The program stands on the crates that it calls and on dm_samples for networks, and promises nothing.
@@ -12,9 +13,8 @@
 mod case;
 mod entries;
 mod followers;
-mod made;
 mod plans;
-mod problems;
+mod searches;
 mod servers;
 mod tables;
 
@@ -26,9 +26,8 @@ use dm_rows::Snapshot;
 use dm_samples::{Sample, report};
 use entries::KeepsEntries;
 use followers::FollowsJournal;
-use made::{MakesBoards, MakesOrder};
-use plans::{ComparesRule, FindsJourneys, MakesPlan, MakesWindowPlan};
-use problems::{Assembles, CarriesOver, CompletesPath, Updates};
+use plans::{ComparesRule, MakesPlan};
+use searches::{ExpandsNodes, FinishesSearch};
 use servers::serves;
 use std::io;
 use std::sync::Wait;
@@ -55,16 +54,10 @@ fn on_day<R: Print + Wait + AllocGlobal>(rt: &R, net: &Network, day: &Snapshot) 
     say::<EntersMessages, _>(rt, "messages", net, day)?;
     say::<RefusesCycle, _>(rt, "cycle", net, day)?;
     say::<FollowsJournal, _>(rt, "journal", net, day)?;
-    say::<MakesOrder, _>(rt, "order", net, day)?;
-    say::<MakesBoards, _>(rt, "boards", net, day)?;
     say::<MakesPlan, _>(rt, "plan", net, day)?;
-    say::<MakesWindowPlan, _>(rt, "window-plan", net, day)?;
+    say::<FinishesSearch, _>(rt, "finished-plan", net, day)?;
+    say::<ExpandsNodes, _>(rt, "nodes", net, day)?;
     say::<ComparesRule, _>(rt, "rule", net, day)?;
-    say::<FindsJourneys, _>(rt, "journeys", net, day)?;
-    say::<CompletesPath, _>(rt, "completion", net, day)?;
-    say::<Assembles, _>(rt, "tree", net, day)?;
-    say::<CarriesOver, _>(rt, "carried-over", net, day)?;
-    say::<Updates, _>(rt, "engine", net, day)?;
     report(rt, "server", serves(rt, net))
 }
 

@@ -1,12 +1,10 @@
-//! Plans, a rule and journeys.
+//! A plan and a rule.
 ghost use Rattle.std.specs.Prelude.{IfOk, OnOk};
 ghost use Rattle.dm_rows.specs.Rows.{IsSized};
 ghost use Rattle.dm_rows.specs.Active.{HasNoCycle};
 ghost use Rattle.dm_rows.specs.Timetable.{IsLeast};
 
 use crate::case::{Case, PENALTY, is_due};
-use dm_base::{Items, StopId};
-use dm_journey::journeys;
 use dm_network::Network;
 use dm_rows::{Rows, Snapshot};
 use dm_samples::Failure;
@@ -14,7 +12,6 @@ use dm_search::plan;
 use dm_settle::{NoTimes, Times};
 use dm_times::least;
 use dm_waitrule::{WaitRule, wait_choices};
-use dm_window::{Window, window_plan};
 use std::alloc::Global;
 
 /// More nodes than the choices of the connection can have.
@@ -44,26 +41,6 @@ impl Case for MakesPlan {
     }
 }
 
-/// The stretch in which both choices are, of which none is held.
-pub fn with_both(alloc: Global) -> Window {
-    Window {
-        from: 200,
-        to: 235,
-        held: Items::from_vec(Vec::new(alloc)),
-    }
-}
-
-/// So does that of the stretch in which both are.
-pub struct MakesWindowPlan;
-
-impl Case for MakesWindowPlan {
-    fn come_out(alloc: Global, net: &Network, day: &Snapshot) -> Result<(), Failure> {
-        let _times = times_of(alloc, net, &day.rows)?;
-        let plan = window_plan(alloc, net, PENALTY, day, &with_both(alloc), NODES)?;
-        is_due(plan.cost == 940_000 && plan.bound == 940_000, 0)
-    }
-}
-
 /// Where no train waits, the change is dropped.
 pub struct ComparesRule;
 
@@ -72,16 +49,5 @@ impl Case for ComparesRule {
         let _times = times_of(alloc, net, &day.rows)?;
         let choices = wait_choices(alloc, net, &day.rows, WaitRule::Never)?;
         is_due(choices.len() == 1, 0)
-    }
-}
-
-/// There is one journey, by the change.
-pub struct FindsJourneys;
-
-impl Case for FindsJourneys {
-    fn come_out(alloc: Global, net: &Network, day: &Snapshot) -> Result<(), Failure> {
-        let times = times_of(alloc, net, &day.rows)?;
-        let found = journeys(alloc, net, &day.rows, &times, StopId(1), StopId(4), 150, 4)?;
-        is_due(found.len() == 1, 0)
     }
 }

@@ -1,6 +1,6 @@
 //! How a case came out.
 
-use std::alloc::{AllocError, Global};
+use std::alloc::AllocError;
 use std::io;
 
 /// Why a case fails.
@@ -32,15 +32,4 @@ pub fn report<R: Print>(rt: &R, name: &str, outcome: Result<(), Failure>) -> io:
         Err(Failure::NoDay) => println!(rt; "{name} has no day"),
         Err(Failure::OutOfMemory) => println!(rt; "{name} has no memory"),
     }
-}
-
-/// Tries a case, and prints how it came out.
-pub fn report_case<R: Print + AllocGlobal, C: FnOnce(Global) -> Result<(), Failure>>(
-    rt: &R,
-    name: &str,
-    case: C,
-) -> io::Result<()>
-    requires { C.IsAlwaysCallable case }
-{
-    report(rt, name, case(rt.alloc()))
 }

@@ -27,12 +27,6 @@ const LATER: [EventCase; 2] = [
     (EventKind::Arrival, 440, 5_000, 4),
 ];
 
-// A train from stop 1 to stop 4.
-const DIRECT: [EventCase; 2] = [
-    (EventKind::Departure, 90, 0, 1),
-    (EventKind::Arrival, 400, 0, 4),
-];
-
 const ACTIVITIES: [ActivityCase; 7] = [
     (ActKind::Drive, 1, 2, 90, 10_000),
     (ActKind::Wait, 2, 3, 10, 10_000),
@@ -45,32 +39,20 @@ const ACTIVITIES: [ActivityCase; 7] = [
 
 const TURNED: ActivityCase = (ActKind::Turnaround, 4, 5, 30, 0);
 
-const DIRECT_DRIVE: ActivityCase = (ActKind::Drive, 7, 8, 200, 0);
-
 /// A small network. Events and activities are numbered from 1.
-#[derive(Clone, Copy, PartialEq, Eq)]
+#[derive(Clone, Copy)]
 pub enum Sample {
-    /// One train over two legs: four events.
-    TwoLegs,
-
     /// Two trains that meet at one station, with a change, activity 5, and a pair of departures, events 3 and 5.
     Connection,
 
     /// The same two trains, of which the second is the first one turned around, after activity 8, and starts later.
     Turnaround,
-
-    /// The connection, and a train from stop 1 to stop 4 as well: events 7 and 8, activity 8.
-    Direct,
 }
 
 impl Sample {
     /// The network.
     pub fn network(self, alloc: Global) -> Result<Network, Failure> {
         let (events, activities) = match self {
-            Sample::TwoLegs => (
-                numbered(alloc, &CONNECTION[..4], &[], event_of)?,
-                numbered(alloc, &ACTIVITIES[..3], &[], activity_of)?,
-            ),
             Sample::Connection => (
                 numbered(alloc, &CONNECTION, &[], event_of)?,
                 numbered(alloc, &ACTIVITIES, &[], activity_of)?,
@@ -78,10 +60,6 @@ impl Sample {
             Sample::Turnaround => (
                 numbered(alloc, &CONNECTION[..4], &LATER, event_of)?,
                 numbered(alloc, &ACTIVITIES, &[TURNED], activity_of)?,
-            ),
-            Sample::Direct => (
-                numbered(alloc, &CONNECTION, &DIRECT, event_of)?,
-                numbered(alloc, &ACTIVITIES, &[DIRECT_DRIVE], activity_of)?,
             ),
         };
         network_of(alloc, events, activities)

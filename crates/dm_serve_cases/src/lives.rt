@@ -1,5 +1,7 @@
 //! A life of the server.
 ghost use Rattle.std.specs.Prelude.{◌≡◌, [], Some, length, IfOk};
+ghost use Rattle.std.specs.Thread.{IsSync};
+ghost use Rattle.dm_desk.specs.Searching.{FindsAsked, MaySearch};
 ghost use Rattle.dm_words.specs.Asked.{names_in};
 ghost use Rattle.dm_words.specs.ServerAsked.{server_of};
 ghost use Rattle.dm_store_text.specs.Asked.{IsAsked};
@@ -9,7 +11,10 @@ ghost use Rattle.dm_serve_cases.specs.Worked.{AreTwo, GoesOnFirst};
 
 use crate::day::{ACTIVITIES, EVENTS, FIRST, SECOND, WORDS};
 use crate::outside::Pauses;
+use dm_desk::PlanRequest;
+use dm_find::find;
 use dm_outside::{Board, MemFile, MemShelf, MemSink, OpenGate};
+use dm_parts::AnyPlan;
 use dm_samples::Failure;
 use dm_serve::{Server, ServerMeans, serve_day};
 use dm_store::{Journal, MemStore};
@@ -92,10 +97,14 @@ fn serve<R: Threads + Wait + Sync + AllocGlobal>(
     let mut journal = Journal::new(store);
     let mut boards: Vec<Box<dyn Board>> = Vec::new(alloc);
     let mut out = MemSink::new(alloc, ROOM, ROOM, Vec::new(alloc))?;
+    let search = |request: &PlanRequest<'_>| -> Result<AnyPlan, AllocError>
+        requires { IsSync R.row × MaySearch request.now }
+        ensures { IfOk result (FindsAsked request.now) }
+    { find(rt, alloc, request, &OpenGate) };
     let means = ServerMeans {
         rt,
         alloc,
-        gate: &OpenGate,
+        search: &search,
     };
     let end = serve_day(
         &means,

@@ -1,62 +1,92 @@
-//! Feeds and workers that threads run at once.
+//! Whole runs whose threads are held up, whose calls fail in turn, and whose boards are files, as data.
 //!
-//! Two feeds of a thousand delays each are run twenty times, and each text is checked. Two feeds wait for each other at the gate,
-//! before their lines and behind them, so that one reads while the other waits. Two workers that search for a plan do the same,
-//! and so do a worker and a feed that is read during the search. The nodes that one worker expands are counted. Each write of the
-//! text of two feeds fails in turn.
+//! It stands on dm_program for what it tries, on dm_boards and dm_outside for what a run is handed, and on dm_samples. It promises
+//! nothing. Runs in which nothing is held up and nothing fails are cases of dm_runs.
 //!
-//! What is due was worked out by hand, and holds however the threads take turns. For each case it prints `NAME ok`, or the number
-//! of runs after which the result differed. It stands on dm_program for what it tries, and promises nothing.
+//! It reads the file `cases`, one case a line: its name, its folder under `runs`, that of its network under `networks`, its kind,
+//! its numbers, and the words of the command line. All files are read first, and are then in memory. For each case it prints
+//! `NAME ok`, or where it came out otherwise. The kinds:
+//!
+//! - `calls` lets each call fail that the file `calls` of the folder lists: an opening, a read of a file, a write, the show of a
+//!   board. It compares the status, the text and what the boards show. `faults` does so too, and lets each write fail in turn. Then
+//!   what is due where nothing fails is the file of the case's name.
+//! - `long` lets each file of the network be too long.
+//! - `meet` lets two threads wait for each other at the point of the gate that the number says; `search` lets a line of the second
+//!   feed be answered while a worker searches for the first.
+//! - `count` counts the nodes that workers expand: each of them starts and ends once. `slow` holds up each worker until all others
+//!   have expanded one: if one never steals, the case fails after so many looks.
+//! - `often` makes a run again and again, and checks each text.
+//! - `boards` compares what boards in files hold.
+//!
+//! What is due was worked out by hand, or is what `dispatch-tools judge` finds good, and holds however the threads take turns.
 #![tactic(auto)]
 
-mod delays;
-mod meeting;
-mod runs;
-mod searching;
-mod writes;
+mod case;
+mod faults;
+mod files;
+mod gates;
+mod task;
+mod threads;
 
-use delays::{both_feeds_are_heard, feed_of_delays};
-use dm_samples::{Failure, report};
-use meeting::{BEFORE_A_LINE, BEHIND_A_LINE, two_meet};
-use runs::TWO_FEEDS;
-use searching::{feed_is_read_meanwhile, three_nodes_are_expanded, workers_meet};
-use std::io;
+use case::Case;
+use dm_outside::Board;
+use dm_samples::{Failure, read_file, report};
+use faults::{each_call_fails, each_file_is_too_long, each_write_fails};
+use files::{FILES, board_in_file, files_hold};
+use gates::Meets;
+use std::fs::{self, File};
+use std::rt::Files;
 use std::sync::Wait;
 use std::thread::Threads;
-use writes::each_write_fails;
-
-/// How often the two feeds of delays are run.
-const RUNS: u32 = 20;
-
-const READ: &[u8] = b"read\n";
+use std::{io, str};
+use task::Task;
+use threads::{each_text_is_good, nodes_are_expanded, two_meet};
 
 fn main(rt: HostRuntime) -> io::Result<()> {
-    report(&rt, "two-thousand-delays", delays_are_heard(&rt))?;
-    feeds_meet(&rt, "feeds-that-meet", BEFORE_A_LINE)?;
-    feeds_meet(&rt, "reading-beside-a-waiting-feed", BEHIND_A_LINE)?;
-    report(&rt, "workers-that-meet", workers_meet(&rt))?;
-    report(&rt, "read-during-a-search", feed_is_read_meanwhile(&rt))?;
-    report(&rt, "three-nodes-expanded", three_nodes_are_expanded(&rt))?;
-    report(&rt, "each-write-fails", each_write_fails(&rt))
-}
-
-/// Runs two feeds of one line each, which meet at a point of the gate.
-fn feeds_meet<R: Print + Threads + Wait + Sync + AllocGlobal>(
-    rt: &R,
-    name: &str,
-    point: u32,
-) -> io::Result<()> {
-    report(rt, name, two_meet(rt, TWO_FEEDS, READ, READ, point))
-}
-
-/// Runs two feeds that delay the first event up and down.
-fn delays_are_heard<R: Threads + Wait + Sync + AllocGlobal>(rt: &R) -> Result<(), Failure> {
-    let up = feed_of_delays(rt.alloc(), true)?;
-    let down = feed_of_delays(rt.alloc(), false)?;
-    for turn in 0..RUNS {
-        if !both_feeds_are_heard(rt, up.as_bytes(), down.as_bytes())? {
-            return Err(Failure::Differs(turn));
+    for name in FILES {
+        fs::write(&rt, name, b"")?;
+    }
+    let Some(listing) = read_file(&rt, "cases") else {
+        return println!(rt; "there is no list of cases");
+    };
+    let Ok(text) = str::from_utf8(&listing) else {
+        return println!(rt; "the list of cases is no text");
+    };
+    for line in text.lines() {
+        let Some(case) = Case::of(rt.alloc(), line)? else {
+            continue;
+        };
+        if case.kind == "boards" {
+            let mut boards: Vec<Box<dyn Board>> = Vec::new(rt.alloc());
+            boards.push(board_in_file(rt, FILES[0], 2)?)?;
+            boards.push(board_in_file(rt, FILES[1], 4)?)?;
+            let task = Task::of(&rt, &case)?;
+            report(&rt, case.name, files_hold(&rt, &case, &task, &mut boards)?)?;
+        } else {
+            report(&rt, case.name, outcome_of(&rt, &case))?;
         }
     }
     Ok(())
+}
+
+/// How a case comes out.
+fn outcome_of<R: Threads + Wait + Sync + AllocGlobal + Files<File = File>>(
+    rt: &R,
+    case: &Case<'_>,
+) -> Result<(), Failure> {
+    let mut task = Task::of(rt, case)?;
+    match case.kind {
+        "calls" => each_call_fails(rt, case, &task),
+        "faults" => {
+            each_call_fails(rt, case, &task)?;
+            each_write_fails(rt, case, &task)
+        }
+        "long" => each_file_is_too_long(rt, case),
+        "meet" => two_meet(rt, case, &task, Meets::At(case.number(0).min(9) as u32)),
+        "search" => two_meet(rt, case, &task, Meets::InSearch),
+        "count" => nodes_are_expanded(rt, case, &task, false),
+        "slow" => nodes_are_expanded(rt, case, &task, true),
+        "often" => each_text_is_good(rt, case, &mut task),
+        _ => Err(Failure::NoDay),
+    }
 }

@@ -1,8 +1,0 @@
-use Rattle.dm_window.proofs.Optimal.{window_plans_decide_once}
-use Rattle.dm_memory_cases.proofs.problems.carries_over.Goals as goal
-
-pub rebase-requires-clause-once : goal.rebase-requires-clause-once
-rebase-requires-clause-once c =
-    rw c.as_slice.ensures
-    (window_plans_decide_once.plans _ _ _ c.with_both.result _ _
-    (record { network = c.reveal.ensures.network; sized = c.requires.sized; is = c.in_ok-plan.ensures.plan }))

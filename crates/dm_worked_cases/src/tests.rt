@@ -1,8 +1,0 @@
-//! The tests.
-
-mod generated;
-mod plan_texts;
-mod relaxed;
-mod searches;
-mod solved_texts;
-mod trees;
