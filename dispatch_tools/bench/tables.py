@@ -2,7 +2,7 @@
 
 Without words it lists the names, with the page and heading of each table, what it needs, and its commands with their limits. With
 a name it says on which machine and with which program it runs, runs the commands, and says how long they took. PROGRAM is the
-built program that the table is of: DISPATCHER, or DM_SPEED or DM_STORE_CASES where the list says so. The commands leave their
+built program that the table is of: DISPATCHER, or DM_ROWS_CASES or DM_STORE_CASES where the list says so. The commands leave their
 days, networks and studies in FOLDER, or in a folder that is removed at the end.
 
 The status is that of the first command that does not end with 0 or 1.
@@ -68,7 +68,7 @@ TABLES = {
     'checks': Table('MEASURED', 'Texts that are checked', [DAY, COUNTRY, ('check', f'{FOLDER}/day', PROGRAM, f'{FOLDER}/country')]),
     'readers': Table('MEASURED', 'Texts that are checked', [('readers', PROGRAM)], 'valgrind'),
     'workers': Table('MEASURED', 'Plans, by several workers', [('workers', PROGRAM, '200', '500', '2000')]),
-    'updates': Table('MEASURED', 'Single changes', [('updates', PROGRAM)], program='DM_SPEED'),
+    'updates': Table('MEASURED', 'Single changes', [('updates', PROGRAM)], program='DM_ROWS_CASES'),
     'journals': Table('MEASURED', 'Journals', [('store', PROGRAM)], 'strace, valgrind', program='DM_STORE_CASES'),
     'live': Table('MEASURED', 'A live server', [('live', PROGRAM, '--sync=2')]),
     'desk': Table('MEASURED', 'The desk', [('control_room', PROGRAM, '--trains=2000', '--only-measured')], 'chromium'),

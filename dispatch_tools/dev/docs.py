@@ -26,7 +26,7 @@ from dispatch_tools.words import command_line
 REPOSITORY = Path(__file__).resolve().parents[2]
 PAGES = ["README.md", "docs/OPERATING.md", "docs/TUTORIAL.md", "docs/GTFS.md", "docs/REALTIME.md", "docs/SCALE.md"]
 STARTS = {"docs/TUTORIAL.md": "crates/dispatcher", "docs/STUDIES.md": "examples/connection"}
-LEFT_OUT = re.compile(r"\brt \w|apt-get |\.ci/run|dispatcher test\b|examples/day/play|\b(FOLDER|FILE|DIR|DM_SPEED|URL)\b")
+LEFT_OUT = re.compile(r"\brt \w|apt-get |\.ci/run|dispatcher test\b|examples/day/play|\b(FOLDER|FILE|DIR|DM_ROWS_CASES|URL)\b")
 TRIES = 5
 
 # No command of a page reads these, and they are many.
