@@ -2,7 +2,7 @@
 //!
 //! The cases run on a connection at one station whose first train is a minute late. They make calls that take memory and change
 //! something, and calls that no run makes: they keep entries, enter into a table and a server, carry choices over, follow a journal,
-//! search for a plan at once and from a hole, expand nodes, and ask for the choices of a rule. Where a call is refused memory, what it
+//! search for a plan, and ask for the choices of a rule. Where a call is refused memory, what it
 //! changes has to be as before. The same call is then made again, and has to answer. For each case the program prints `NAME ok`, or
 //! after how many steps it came out otherwise.
 //!
@@ -14,7 +14,6 @@ mod case;
 mod entries;
 mod followers;
 mod plans;
-mod searches;
 mod servers;
 mod tables;
 
@@ -27,7 +26,6 @@ use dm_samples::{Sample, report};
 use entries::KeepsEntries;
 use followers::FollowsJournal;
 use plans::{ComparesRule, MakesPlan};
-use searches::{ExpandsNodes, FinishesSearch};
 use servers::serves;
 use std::io;
 use std::sync::Wait;
@@ -55,8 +53,6 @@ fn on_day<R: Print + Wait + AllocGlobal>(rt: &R, net: &Network, day: &Snapshot) 
     say::<RefusesCycle, _>(rt, "cycle", net, day)?;
     say::<FollowsJournal, _>(rt, "journal", net, day)?;
     say::<MakesPlan, _>(rt, "plan", net, day)?;
-    say::<FinishesSearch, _>(rt, "finished-plan", net, day)?;
-    say::<ExpandsNodes, _>(rt, "nodes", net, day)?;
     say::<ComparesRule, _>(rt, "rule", net, day)?;
     report(rt, "server", serves(rt, net))
 }

@@ -1,24 +1,20 @@
-//! A server that is opened, whose times are copied, that is entered into, copied, and given choices to carry over.
-ghost use Rattle.std.specs.Prelude.{◌≡◌, false, length};
-ghost use Rattle.std.specs.Option.{ForSome};
+//! A server that is opened, entered into, copied, and given choices to carry over.
+ghost use Rattle.std.specs.Prelude.{◌≡◌, false};
 
 use crate::case::{LATE, PENALTY, is_due};
-use dm_base::{ActId, Secs};
+use dm_base::ActId;
 use dm_network::Network;
 use dm_rows::{At, Decision, Entry, Refusal};
 use dm_samples::{Failure, rows_on_time};
 use dm_server::{Kept, Server};
-use dm_settle::{NoTimes, Times};
+use dm_settle::NoTimes;
 use dm_turn::Pass;
 use std::sync::Wait;
 
 /// The change is not waited for.
 const CHOICES: [Decision; 1] = [Decision::Drop(ActId(5))];
 
-/// The times of a day on time.
-const ON_TIME: [Secs; 6] = [100, 200, 220, 300, 230, 330];
-
-/// The times are copied, a delay is posted, the rows are copied, and a choice is carried over.
+/// A delay is posted, the rows are copied, and a choice is carried over.
 pub fn serves<R: Wait + AllocGlobal>(rt: &R, net: &Network) -> Result<(), Failure> {
     match serves_once(rt, net) {
         Err(Failure::OutOfMemory) => serves_once(rt, net),
@@ -28,31 +24,11 @@ pub fn serves<R: Wait + AllocGlobal>(rt: &R, net: &Network) -> Result<(), Failur
 
 fn serves_once<R: Wait + AllocGlobal>(rt: &R, net: &Network) -> Result<(), Failure> {
     let rows = rows_on_time(rt.alloc(), net)?;
-    let mut times = Times::room(rt.alloc(), net)?;
     match Server::new(rt.alloc(), net, rows, PENALTY, 1) {
-        Ok((server, mut pass)) => {
-            is_due(is_on_time(rt, &server, &mut pass, &mut times), 6)?;
-            is_served(rt, &server, &mut pass)
-        }
+        Ok((server, mut pass)) => is_served(rt, &server, &mut pass),
         Err(NoTimes::OutOfMemory) => Err(Failure::OutOfMemory),
         Err(NoTimes::Cycle(_)) => Err(Failure::NoDay),
     }
-}
-
-/// Whether the times are those of the day.
-fn is_on_time<'n, R: Wait>(
-    rt: &R,
-    server: &Server<'n>,
-    pass: &mut Pass<Kept<'n>>,
-    times: &mut Times,
-) -> bool
-    requires turn { pass.old.turn ≡ server.now.id }
-    requires idle { pass.old.holds ≡ false }
-    requires size { ForSome pass.old.base (λ base. length times.old ≡ length base.network.events) }
-    ensures turn { pass.new.turn ≡ server.now.id }
-    ensures idle { pass.new.holds ≡ false }
-{
-    server.copy_times(rt, pass, times) == 0 && times.as_slice() == ON_TIME.as_slice()
 }
 
 fn is_served<'n, R: Wait>(
